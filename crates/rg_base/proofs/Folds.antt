@@ -1,0 +1,55 @@
+-- Texts with their ASCII letters folded.
+use Rattle.std.proofs.Common.{◌≡◌, ◌<◌, ◌≤◌, ◌+◌, ◌/◌, ◌%◌, ℕ, List, [], ◌∷◌, ◌++◌, map, Bool, true, false, cond, nat_lt, refl, sym, ap, ◌∙◌, arith, ◌⊎◌, inl, inr}
+use Rattle.std.proofs.lemmas.Bool.Decides.{nat_tests}
+use Rattle.std.proofs.lemmas.List.{map-append}
+use Rattle.std.proofs.lemmas.Str.{encode_ascii, encodes-chars, encodes_same}
+use Rattle.std.proofs.Math.Utf8.{encode, encodes}
+use Rattle.std.specs.Char.{to_ascii_lowercase}
+use Rattle.std.specs.Str.{IsUtf8, chars}
+
+high_stays : (b : ℕ) → 91 ≤ b → to_ascii_lowercase b ≡ b
+high_stays b h = grind (arith, nat_tests)
+
+low_fold : (c : ℕ) → c < 128 → to_ascii_lowercase c < 128
+low_fold c h = grind (arith, nat_tests)
+
+abbrev next : ℕ → ℕ
+next n = 128 + n % 64
+
+pieces : (p q r : Bool) (c : ℕ) → 128 ≤ c → (p ≡ true → c < 128)
+    → let e = cond p (c ∷ []) (cond q ((192 + c / 64) ∷ next c ∷ []) (cond r ((224 + c / 4096) ∷ next (c / 64) ∷ next c ∷ []) ((240 + c / 262144) ∷ next (c / 4096) ∷ next (c / 64) ∷ next c ∷ []))) in map to_ascii_lowercase e ≡ e
+pieces true q r c h k = let bad : c < 128 = k refl in absurd (omega arith)
+pieces false true r c h k = λ i. high_stays (192 + c / 64) (omega arith) i ∷ high_stays (next c) (omega arith) i ∷ []
+pieces false false true c h k = λ i. high_stays (224 + c / 4096) (omega arith) i ∷ high_stays (next (c / 64)) (omega arith) i ∷ high_stays (next c) (omega arith) i ∷ []
+pieces false false false c h k = λ i. high_stays (240 + c / 262144) (omega arith) i ∷ high_stays (next (c / 4096)) (omega arith) i ∷ high_stays (next (c / 64)) (omega arith) i ∷ high_stays (next c) (omega arith) i ∷ []
+
+encode_high : (c : ℕ) → 128 ≤ c → map to_ascii_lowercase (encode c) ≡ encode c
+unfolding encode
+encode_high c h = pieces _ _ _ c h (λ e. grind (arith, nat_tests))
+
+low_or_high : (c : ℕ) → (c < 128) ⊎ (128 ≤ c)
+low_or_high c = elim (nat_lt c 128) as (λ b. nat_lt c 128 ≡ b → (c < 128) ⊎ (128 ≤ c)) [
+  | true ↦ λ e. inl (grind (arith, nat_tests))
+  | false ↦ λ e. inr (grind (arith, nat_tests))
+] refl
+
+encode_fold : (c : ℕ) → encode (to_ascii_lowercase c) ≡ map to_ascii_lowercase (encode c)
+encode_fold c = elim (low_or_high c) [
+  | inl h ↦ encode_ascii (to_ascii_lowercase c) (low_fold c h) ∙ ap (map to_ascii_lowercase) (sym (encode_ascii c h))
+  | inr h ↦ ap encode (high_stays c (omega arith)) ∙ sym (encode_high c h)
+]
+
+pub encodes_fold : (cs : List ℕ) → encodes (map to_ascii_lowercase cs) ≡ map to_ascii_lowercase (encodes cs)
+encodes_fold [] = refl
+encodes_fold (c ∷ cs) = ap (λ xs. xs ++ encodes (map to_ascii_lowercase cs)) (encode_fold c) ∙ ap (λ xs. map to_ascii_lowercase (encode c) ++ xs) (encodes_fold cs)
+    ∙ sym (map-append to_ascii_lowercase (encode c) (encodes cs))
+
+pub bytes_from_chars : (a b : List ℕ) → IsUtf8 a → IsUtf8 b → map to_ascii_lowercase (chars a) ≡ map to_ascii_lowercase (chars b) → map to_ascii_lowercase a ≡ map to_ascii_lowercase b
+bytes_from_chars a b ua ub e = sym (folded a ua) ∙ ap encodes e ∙ folded b ub where
+  folded : (t : List ℕ) → IsUtf8 t → encodes (map to_ascii_lowercase (chars t)) ≡ map to_ascii_lowercase t
+  folded t u = encodes_fold (chars t) ∙ ap (map to_ascii_lowercase) (encodes-chars t u)
+
+pub chars_from_bytes : (a b : List ℕ) → IsUtf8 a → IsUtf8 b → map to_ascii_lowercase a ≡ map to_ascii_lowercase b → map to_ascii_lowercase (chars a) ≡ map to_ascii_lowercase (chars b)
+chars_from_bytes a b ua ub e = encodes_same _ _ (folded a ua ∙ e ∙ sym (folded b ub)) where
+  folded : (t : List ℕ) → IsUtf8 t → encodes (map to_ascii_lowercase (chars t)) ≡ map to_ascii_lowercase t
+  folded t u = encodes_fold (chars t) ∙ ap (map to_ascii_lowercase) (encodes-chars t u)

@@ -1,0 +1,3 @@
+mod Bare
+pub mod Chars
+pub mod Folds
