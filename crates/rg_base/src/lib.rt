@@ -13,4 +13,4 @@ pub use numbers::{Failed, Moment, NoMemory, PolicyId, Serial, Version};
 pub use seq::Seq;
 pub use steps::{Counted, Ledger, Silent, StepKind, Steps};
 pub use tally::Tally;
-pub use text::{Text, same_folded, same_text, split_char};
+pub use text::{Text, char_count, same_folded, same_text, split_char};

@@ -1,5 +1,5 @@
 // Text, seen as its list of characters.
-ghost use Rattle.std.specs.Prelude.{◌≡◌, ◌∷◌, ◌++◌, [], IfOk, OnOk, OnErr, MatchOption, map};
+ghost use Rattle.std.specs.Prelude.{◌≡◌, ◌∷◌, ◌++◌, [], IfOk, OnOk, OnErr, MatchOption, map, length};
 ghost use Rattle.std.specs.Char.{to_ascii_lowercase};
 ghost use Rattle.std.specs.Str.{bytes_eq, chars, encode_utf8_all};
 
@@ -94,4 +94,11 @@ pub fn split_char(text: &str) -> Option<(char, &str)>
         Some(first) => Some((first, characters.as_str())),
         None => None,
     }
+}
+
+/// How many characters there are.
+pub fn char_count(text: &str) -> usize
+    ensures { result ≡ length (chars text.now) }
+{
+    text.chars().count()
 }

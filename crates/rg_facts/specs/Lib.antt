@@ -1,0 +1,4 @@
+pub mod Flow
+pub mod Least
+pub mod Sound
+pub mod Texts
