@@ -1,0 +1,6 @@
+pub mod Bytes
+pub mod Calls
+pub mod Clocks
+pub mod Memory
+pub mod Moments
+pub mod Repeated
