@@ -47,7 +47,10 @@ impl Clock for ListClock {
     ghost given = { λ c. Some (first_moments c.moments c.calls) };
 
     #[tactic(auto, using(crate::proofs::Firsts::firsts))]
-    fn now(&mut self) -> Moment {
+    fn now(&mut self) -> Moment
+        ensures moment { result ≡ moment_of self.old.moments self.old.calls }
+        ensures counted { self.new ≡ record self.old { calls = self.old.calls + 1 } }
+    {
         let moments = self.moments.as_slice();
         let last = moments.len() - 1;
         let place = cmp::min(self.calls.seen(), last as u64) as usize;

@@ -1,10 +1,12 @@
 // The outside of the machine. These forms tell no content, and what they do beyond their contracts is trusted.
-ghost use Rattle.std.specs.Prelude.{◌≡◌, ◌≤◌, length, IfOk};
+ghost use Rattle.std.specs.Prelude.{◌≡◌, ◌≤◌, ◌-◌, ◌^◌, length, IfOk, false, min};
+ghost use Rattle.rg_ports.specs.Machine.{ReaderState, WriterState};
 
 use crate::counter::Counter;
 use crate::ports::{Clock, Sink, Source};
 use rg_base::{Failed, Moment};
 use std::io::{ErrorKind, Read, Write};
+use std::marker::Model;
 use std::rt;
 use std::time::{SystemTime, UNIX_EPOCH};
 
@@ -44,14 +46,31 @@ pub struct StdSource<R: Read + Drop> {
     faults: Counter,
 }
 
+impl<R: Read + Drop> Model for StdSource<R> {
+    ghost use Rattle.rg_ports.specs.Machine.{ReaderState};
+
+    ghost Value = { ReaderState };
+
+    ghost view = { λ s. record { ended = s.met_end; faults = s.faults } };
+}
+
 impl<R: Read + Drop> StdSource<R> {
     /// Over this reader.
-    pub fn new(reader: R) -> StdSource<R> {
+    pub fn new(reader: R) -> StdSource<R>
+        ensures { result ≡ record { ended = false; faults = 0 } }
+    {
         StdSource {
             reader,
             met_end: false,
             faults: Counter::zero(),
         }
+    }
+
+    /// How many calls failed; from the last `u64` on the number stands still.
+    pub fn failures(&self) -> u64
+        ensures { result ≡ min self.now.faults (2 ^ 64 - 1) }
+    {
+        self.faults.seen()
     }
 }
 
@@ -60,7 +79,7 @@ impl<R: Read + Drop> Source for StdSource<R> {
 
     ghost left = { λ s. None };
 
-    ghost ended = { λ s. s.met_end };
+    ghost ended = { λ s. s.ended };
 
     ghost faults = { λ s. s.faults };
 
@@ -87,13 +106,30 @@ pub struct StdSink<W: Write + Drop> {
     faults: Counter,
 }
 
+impl<W: Write + Drop> Model for StdSink<W> {
+    ghost use Rattle.rg_ports.specs.Machine.{WriterState};
+
+    ghost Value = { WriterState };
+
+    ghost view = { λ s. record { faults = s.faults } };
+}
+
 impl<W: Write + Drop> StdSink<W> {
     /// Over this writer.
-    pub fn new(writer: W) -> StdSink<W> {
+    pub fn new(writer: W) -> StdSink<W>
+        ensures { result ≡ record { faults = 0 } }
+    {
         StdSink {
             writer,
             faults: Counter::zero(),
         }
+    }
+
+    /// How many calls failed; from the last `u64` on the number stands still.
+    pub fn failures(&self) -> u64
+        ensures { result ≡ min self.now.faults (2 ^ 64 - 1) }
+    {
+        self.faults.seen()
     }
 }
 
@@ -121,25 +157,16 @@ impl<W: Write + Drop> Sink for StdSink<W> {
 
 /// The clock of the machine. It tells no moments: that the machine's clock is right is trusted.
 #[derive(Drop)]
-pub struct WallClock<T: rt::Clock + Drop> {
-    machine: T,
-}
+pub struct WallClock<T: rt::Clock + Send + Drop>(pub T);
 
-impl<T: rt::Clock + Drop> WallClock<T> {
-    /// Over this machine.
-    pub fn new(machine: T) -> WallClock<T> {
-        WallClock { machine }
-    }
-}
-
-impl<T: rt::Clock + Drop> Clock for WallClock<T> {
+impl<T: rt::Clock + Send + Drop> Clock for WallClock<T> {
     ghost use Rattle.std.specs.Prelude.{None};
 
     ghost given = { λ c. None };
 
     /// Whole seconds since 1970 UTC; 0 where the machine's clock stands before 1970 or can't be read.
     fn now(&mut self) -> Moment {
-        let since = match SystemTime::now(&self.machine) {
+        let since = match SystemTime::now(&self.0) {
             Ok(now) => now.duration_since(UNIX_EPOCH).unwrap_or_default(),
             Err(_) => return Moment(0),
         };

@@ -1,8 +1,8 @@
 // A sink in memory.
-ghost use Rattle.std.specs.Prelude.{◌≡◌, ◌<◌, ◌≤◌, ◌++◌, take, length, All};
+ghost use Rattle.std.specs.Prelude.{◌≡◌, ◌<◌, ◌≤◌, ◌++◌, take, length, All, IfOk, IsErr, OnErr};
 ghost use Rattle.rg_base.specs.Listed.{Listed};
-ghost use Rattle.rg_ports.specs.Calls.{untouched};
-ghost use Rattle.rg_ports.specs.Memory.{SinkState};
+ghost use Rattle.rg_ports.specs.Calls.{IsToFail, failed, moves, untouched};
+ghost use Rattle.rg_ports.specs.Memory.{SinkState, after_write};
 
 use crate::calls::Calls;
 use crate::ports::Sink;
@@ -68,7 +68,17 @@ impl Sink for MemSink {
 
     ghost faults = { λ s. s.calls.faults };
 
-    fn write(&mut self, piece: &[u8]) -> Result<usize, Failed> {
+    /// Fails where the call is listed, or where there is no memory for even one byte of a piece that isn't empty. Else it takes
+    /// as many bytes as the call's size allows, or fewer where there is no memory for all of them. How much memory there is no
+    /// contract can tell, so none says that memory was wanting.
+    fn write(&mut self, piece: &[u8]) -> Result<usize, Failed>
+        ensures fails { IsToFail self.old.calls → IsErr result }
+        ensures empty { length piece.now ≡ 0 → IsErr result → IsToFail self.old.calls }
+        ensures failed { OnErr result (self.new ≡ record self.old { calls = failed self.old.calls }) }
+        ensures within { IfOk result (λ n. n ≤ moves self.old.calls (length piece.now)) }
+        ensures some { IfOk result (λ n. 0 < length piece.now → 0 < n) }
+        ensures after { IfOk result (λ n. self.new ≡ after_write piece.now n self.old) }
+    {
         if self.calls.is_to_fail() {
             self.calls.fail();
             return Err(Failed);

@@ -1,8 +1,8 @@
 // A source in memory.
-ghost use Rattle.std.specs.Prelude.{◌≡◌, ◌<◌, ◌≤◌, ◌++◌, false, All, drop, length};
+ghost use Rattle.std.specs.Prelude.{◌≡◌, ◌<◌, ◌≤◌, ◌↔◌, ◌++◌, false, All, drop, length, min, take, [], IfOk, IsErr, OnErr};
 ghost use Rattle.rg_base.specs.Listed.{Listed};
-ghost use Rattle.rg_ports.specs.Calls.{untouched};
-ghost use Rattle.rg_ports.specs.Memory.{SourceState};
+ghost use Rattle.rg_ports.specs.Calls.{IsToFail, failed, moves, untouched};
+ghost use Rattle.rg_ports.specs.Memory.{SourceState, after_read};
 
 use crate::calls::Calls;
 use crate::ports::Source;
@@ -63,7 +63,18 @@ impl Source for MemSource {
 
     ghost faults = { λ s. s.calls.faults };
 
-    fn read(&mut self, room: &mut [u8]) -> Result<usize, Failed> {
+    /// Fails exactly where the call is listed, and else moves as many bytes as the call's size, the room and the bytes to come
+    /// allow. The rest of the room stays as it was, and all of it after `Failed`.
+    fn read(&mut self, room: &mut [u8]) -> Result<usize, Failed>
+        ensures fails { IsErr result ↔ IsToFail self.old.calls }
+        ensures failed { OnErr result (self.new ≡ record self.old { calls = failed self.old.calls }) }
+        ensures untouched { OnErr result (room.new ≡ room.old) }
+        ensures moved { IfOk result (λ n. n ≡ moves self.old.calls (min (length room.old) (length self.old.left))) }
+        ensures gave { IfOk result (λ n. room.new ≡ take n self.old.left ++ drop n room.old) }
+        ensures used_up { IfOk result (λ n. n ≡ 0 → 0 < length room.old → length self.old.left ≡ 0) }
+        ensures steady { self.old.calls.fails ≡ [] → self.new.calls.faults ≡ self.old.calls.faults }
+        ensures after { IfOk result (λ n. self.new ≡ after_read (length room.old) n self.old) }
+    {
         if self.calls.is_to_fail() {
             self.calls.fail();
             return Err(Failed);

@@ -49,7 +49,7 @@ pub trait Sink {
 }
 
 /// The time.
-pub trait Clock {
+pub trait Clock: Send {
     /// The moments given so far, in order, where the object tells them.
     ghost given: { Self → Option (List Moment) };
 
