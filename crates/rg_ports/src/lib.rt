@@ -8,6 +8,8 @@ mod machine;
 mod mem_sink;
 mod mem_source;
 mod ports;
+#[cfg(test)]
+mod tests;
 
 pub use list_clock::ListClock;
 pub use machine::{StdSink, StdSource, WallClock};
