@@ -1,0 +1,175 @@
+// The outside of the machine. These forms tell no content, and what they do beyond their contracts is trusted.
+ghost use Rattle.std.specs.Prelude.{◌≡◌, ◌≤◌, ◌-◌, ◌^◌, length, IfOk, false, min};
+ghost use Rattle.rg_ports.specs.Machine.{ReaderState, WriterState};
+
+use crate::counter::Counter;
+use crate::ports::{Clock, Sink, Source};
+use rg_base::{Failed, Moment};
+use std::io::{ErrorKind, Read, Write};
+use std::marker::Model;
+use std::rt;
+use std::time::{SystemTime, UNIX_EPOCH};
+
+// Reads once, again where a signal interrupts it. A machine that never stops interrupting fails at last.
+fn read_past_interrupts<R: Read>(reader: &mut R, room: &mut [u8]) -> Result<usize, Failed>
+    ensures within { IfOk result (λ n. n ≤ length room.old) }
+{
+    for _ in 0..u64::MAX {
+        match reader.read(room) {
+            Ok(n) => return Ok(n),
+            Err(error) if error.kind() == ErrorKind::Interrupted => {}
+            Err(_) => return Err(Failed),
+        }
+    }
+    Err(Failed)
+}
+
+// Writes once, again where a signal interrupts it. A machine that never stops interrupting fails at last.
+fn write_past_interrupts<W: Write>(writer: &mut W, piece: &[u8]) -> Result<usize, Failed>
+    ensures within { IfOk result (λ n. n ≤ length piece.now) }
+{
+    for _ in 0..u64::MAX {
+        match writer.write(piece) {
+            Ok(n) => return Ok(n),
+            Err(error) if error.kind() == ErrorKind::Interrupted => {}
+            Err(_) => return Err(Failed),
+        }
+    }
+    Err(Failed)
+}
+
+/// A source over a reader. It tells no bytes: that the reader gives those of the outside is trusted.
+#[derive(Drop)]
+pub struct StdSource<R: Read + Drop> {
+    reader: R,
+    met_end: bool,
+    faults: Counter,
+}
+
+impl<R: Read + Drop> Model for StdSource<R> {
+    ghost use Rattle.rg_ports.specs.Machine.{ReaderState};
+
+    ghost Value = { ReaderState };
+
+    ghost view = { λ s. record { ended = s.met_end; faults = s.faults } };
+}
+
+impl<R: Read + Drop> StdSource<R> {
+    /// Over this reader.
+    pub fn new(reader: R) -> StdSource<R>
+        ensures { result ≡ record { ended = false; faults = 0 } }
+    {
+        StdSource {
+            reader,
+            met_end: false,
+            faults: Counter::zero(),
+        }
+    }
+
+    /// How many calls failed; from the last `u64` on the number stands still.
+    pub fn failures(&self) -> u64
+        ensures { result ≡ min self.now.faults (2 ^ 64 - 1) }
+    {
+        self.faults.seen()
+    }
+}
+
+impl<R: Read + Drop> Source for StdSource<R> {
+    ghost use Rattle.std.specs.Prelude.{None};
+
+    ghost left = { λ s. None };
+
+    ghost ended = { λ s. s.ended };
+
+    ghost faults = { λ s. s.faults };
+
+    fn read(&mut self, room: &mut [u8]) -> Result<usize, Failed> {
+        match read_past_interrupts(&mut self.reader, room) {
+            Ok(n) => {
+                if n == 0 && !room.is_empty() {
+                    self.met_end = true;
+                }
+                Ok(n)
+            }
+            Err(failed) => {
+                self.faults.add();
+                Err(failed)
+            }
+        }
+    }
+}
+
+/// A sink over a writer. It tells no bytes: that the writer hands them on is trusted.
+#[derive(Drop)]
+pub struct StdSink<W: Write + Drop> {
+    writer: W,
+    faults: Counter,
+}
+
+impl<W: Write + Drop> Model for StdSink<W> {
+    ghost use Rattle.rg_ports.specs.Machine.{WriterState};
+
+    ghost Value = { WriterState };
+
+    ghost view = { λ s. record { faults = s.faults } };
+}
+
+impl<W: Write + Drop> StdSink<W> {
+    /// Over this writer.
+    pub fn new(writer: W) -> StdSink<W>
+        ensures { result ≡ record { faults = 0 } }
+    {
+        StdSink {
+            writer,
+            faults: Counter::zero(),
+        }
+    }
+
+    /// How many calls failed; from the last `u64` on the number stands still.
+    pub fn failures(&self) -> u64
+        ensures { result ≡ min self.now.faults (2 ^ 64 - 1) }
+    {
+        self.faults.seen()
+    }
+}
+
+impl<W: Write + Drop> Sink for StdSink<W> {
+    ghost use Rattle.std.specs.Prelude.{None};
+
+    ghost held = { λ s. None };
+
+    ghost faults = { λ s. s.faults };
+
+    fn write(&mut self, piece: &[u8]) -> Result<usize, Failed> {
+        match write_past_interrupts(&mut self.writer, piece) {
+            Ok(0) if !piece.is_empty() => {
+                self.faults.add();
+                Err(Failed)
+            }
+            Ok(n) => Ok(n),
+            Err(failed) => {
+                self.faults.add();
+                Err(failed)
+            }
+        }
+    }
+}
+
+/// The clock of the machine. It tells no moments: that the machine's clock is right is trusted.
+#[derive(Drop)]
+pub struct WallClock<T: rt::Clock + Send + Drop>(pub T);
+
+impl<T: rt::Clock + Send + Drop> Clock for WallClock<T> {
+    ghost use Rattle.std.specs.Prelude.{None};
+
+    ghost given = { λ c. None };
+
+    /// Whole seconds since 1970 UTC; 0 where the machine's clock stands before 1970 or can't be read.
+    fn now(&mut self) -> Moment {
+        let since = match SystemTime::now(&self.0) {
+            Ok(now) => now.duration_since(UNIX_EPOCH).unwrap_or_default(),
+            Err(_) => return Moment(0),
+        };
+        Moment(i64::try_from(since.as_secs()).unwrap_or(i64::MAX))
+    }
+}

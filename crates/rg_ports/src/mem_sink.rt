@@ -1,0 +1,95 @@
+// A sink in memory.
+ghost use Rattle.std.specs.Prelude.{◌≡◌, ◌<◌, ◌≤◌, ◌++◌, take, length, All, IfOk, IsErr, OnErr};
+ghost use Rattle.rg_base.specs.Listed.{Listed};
+ghost use Rattle.rg_ports.specs.Calls.{IsToFail, failed, moves, untouched};
+ghost use Rattle.rg_ports.specs.Memory.{SinkState, after_write};
+
+use crate::calls::Calls;
+use crate::ports::Sink;
+use rg_base::{Failed, Seq};
+use std::marker::Model;
+
+/// Bytes that are kept in memory.
+#[derive(Drop)]
+pub struct MemSink {
+    bytes: Seq<u8>,
+    calls: Calls,
+}
+
+impl Model for MemSink {
+    ghost use Rattle.rg_ports.specs.Memory.{SinkState};
+
+    ghost Value = { SinkState };
+
+    ghost view = { λ s. record { held = s.bytes.items; calls = s.calls } };
+}
+
+impl MemSink {
+    /// Takes bytes behind those given, which callers hand in empty; the list's allocator serves for all that come.
+    /// `pieces` lists the most bytes that each call moves, in turn; the last size repeats, and an empty list sets no bound.
+    /// `fails` lists the calls that are to fail, counted from 1.
+    pub fn new(held: Seq<u8>, pieces: Seq<u32>, fails: Seq<u64>) -> MemSink
+        requires { All (λ size. 0 < size) pieces.items }
+        ensures { result ≡ record { held = held.items; calls = untouched pieces.items fails.items } }
+    {
+        MemSink {
+            bytes: held,
+            calls: Calls::new(pieces, fails),
+        }
+    }
+
+    /// The bytes taken.
+    pub fn held(&self) -> &[u8]
+        ensures { result.now ≡ self.now.held }
+    {
+        self.bytes.as_slice()
+    }
+}
+
+// Appends as many of the bytes as there is memory for.
+fn append(held: &mut Seq<u8>, bytes: &[u8]) -> usize
+    ensures within { result ≤ length bytes.now }
+    ensures taken { held.new.items ≡ held.old.items ++ take result bytes.now }
+{
+    let mut n = 0;
+    for byte in bytes {
+        if held.push(*byte).is_err() {
+            return n;
+        }
+        n += 1;
+    }
+    n
+}
+
+impl Sink for MemSink {
+    ghost use Rattle.std.specs.Prelude.{Some};
+
+    ghost held = { λ s. Some s.held };
+
+    ghost faults = { λ s. s.calls.faults };
+
+    /// Fails where the call is listed, or where there is no memory for even one byte of a piece that isn't empty. Else it takes
+    /// as many bytes as the call's size allows, or fewer where there is no memory for all of them. How much memory there is no
+    /// contract can tell, so none says that memory was wanting.
+    fn write(&mut self, piece: &[u8]) -> Result<usize, Failed>
+        ensures fails { IsToFail self.old.calls → IsErr result }
+        ensures empty { length piece.now ≡ 0 → IsErr result → IsToFail self.old.calls }
+        ensures failed { OnErr result (self.new ≡ record self.old { calls = failed self.old.calls }) }
+        ensures within { IfOk result (λ n. n ≤ moves self.old.calls (length piece.now)) }
+        ensures some { IfOk result (λ n. 0 < length piece.now → 0 < n) }
+        ensures after { IfOk result (λ n. self.new ≡ after_write piece.now n self.old) }
+    {
+        if self.calls.is_to_fail() {
+            self.calls.fail();
+            return Err(Failed);
+        }
+        let most = self.calls.moves(piece.len());
+        let n = append(&mut self.bytes, piece.split_at(most).0);
+        if n == 0 && !piece.is_empty() {
+            self.calls.fail();
+            return Err(Failed);
+        }
+        self.calls.succeed();
+        Ok(n)
+    }
+}

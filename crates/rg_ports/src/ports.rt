@@ -1,0 +1,59 @@
+// The outside, as the program sees it: where bytes come from, where they go, and the time.
+ghost use Rattle.std.specs.Prelude.{◌≡◌, ◌≤◌, ◌<◌, ◌==◌, ◌||◌, ◌&&◌, ℕ, List, length, Bool, nat_lt, Option, IfOk, OnOk, OnErr};
+ghost use Rattle.rg_base.specs.declared.numbers.Moment.{Moment};
+ghost use Rattle.rg_ports.specs.Bytes.{Gave, IsUsedUp, Took};
+ghost use Rattle.rg_ports.specs.Moments.{Told};
+
+use rg_base::{Failed, Moment};
+
+/// Bytes that come from outside, in order.
+pub trait Source {
+    /// The bytes to come, where the object tells them.
+    ghost left: { Self → Option (List ℕ) };
+
+    /// Whether a read has met the end.
+    ghost ended: { Self → Bool };
+
+    /// How many calls failed.
+    ghost faults: { Self → ℕ };
+
+    /// Puts the next bytes into the front of the room and says how many they are. It gives 0 for a room that isn't empty
+    /// at the end alone. After `Failed` no byte is lost, and what stands in the room is left open.
+    fn read(&mut self, room: &mut [u8]) -> Result<usize, Failed>
+        ensures within { IfOk result (λ n. n ≤ length room.old) }
+        ensures gave { IfOk result (λ n. Gave (left self.old) (left self.new) n room.new) }
+        ensures ended { IfOk result (λ n. ended self.new ≡ (ended self.old || (n == 0 && nat_lt 0 (length room.old)))) }
+        ensures used_up { IfOk result (λ n. n ≡ 0 → 0 < length room.old → IsUsedUp (left self.old)) }
+        ensures kept { OnOk result (faults self.old ≤ faults self.new) }
+        ensures failed { OnErr result (faults self.old < faults self.new) }
+        ensures unread { OnErr result ((left self.new ≡ left self.old) × (ended self.new ≡ ended self.old)) };
+}
+
+/// Where bytes go, in order.
+pub trait Sink {
+    /// The bytes taken, where the object tells them.
+    ghost held: { Self → Option (List ℕ) };
+
+    /// How many calls failed.
+    ghost faults: { Self → ℕ };
+
+    /// Takes bytes from the front of the piece, at least one of a piece that isn't empty, and says how many it took.
+    /// After `Failed` it has taken none of them.
+    fn write(&mut self, piece: &[u8]) -> Result<usize, Failed>
+        ensures within { IfOk result (λ n. n ≤ length piece.now) }
+        ensures some { IfOk result (λ n. 0 < length piece.now → 0 < n) }
+        ensures took { IfOk result (λ n. Took (held self.old) (held self.new) n piece.now) }
+        ensures kept { OnOk result (faults self.old ≤ faults self.new) }
+        ensures failed { OnErr result (faults self.old < faults self.new) }
+        ensures unwritten { OnErr result (held self.new ≡ held self.old) };
+}
+
+/// The time.
+pub trait Clock: Send {
+    /// The moments given so far, in order, where the object tells them.
+    ghost given: { Self → Option (List Moment) };
+
+    /// The moment of this call.
+    fn now(&mut self) -> Moment
+        ensures { Told (given self.old) (given self.new) result };
+}
