@@ -1,0 +1,12 @@
+use Rattle.std.proofs.Common.{◌≡◌, ◌++◌, map, string_bytes}
+use Rattle.serde_json.specs.View.{view}
+use Rattle.rg_base.specs.Listed.{listed}
+use Rattle.rangerd.proofs.json.lists.read_members.Given as goal
+
+-- what was read, and then the rest, is all
+abbrev pub invariant-loop-key : goal.invariant-loop-key
+invariant-loop-key g l = record {
+  whole : l.read.items ++ map g.X.FromMember.member_reading (map (λ m. (string_bytes m.0, view m.1)) l.key-iterator)
+    ≡ map g.X.FromMember.member_reading (map (λ m. (string_bytes m.0, view m.1)) l.members.entries);
+  spare : l.read ≡ listed l.read.items;
+}

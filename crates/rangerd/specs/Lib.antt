@@ -1,0 +1,10 @@
+pub mod Fields
+pub mod Fits
+pub mod Limits
+pub mod Lines
+pub mod Names
+pub mod Records
+pub mod Shape
+pub mod Shapes
+pub mod Streams
+pub mod Texts

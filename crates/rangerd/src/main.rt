@@ -1,0 +1,6 @@
+// rangerd: decides requests by policies.
+#![tactic(auto)]
+
+mod json;
+
+fn main() {}
