@@ -1,0 +1,45 @@
+// Laws of patterns, each the contract of a function that does nothing.
+ghost use Rattle.std.specs.Prelude.{◌≡◌, ◌↔◌, ℕ, Bool, false, List, ◌++◌, map, IsTrue};
+ghost use Rattle.rg_pattern.specs.declared.atoms.Atom.{Atom};
+ghost use Rattle.rg_pattern.specs.Folding.{folded};
+ghost use Rattle.rg_pattern.specs.Atoms.{are_scalars, has_user, twin, literal_prefix};
+ghost use Rattle.rg_pattern.specs.Standing.{Stands, Overlap, IsBelow};
+ghost use Rattle.rg_pattern.specs.Covering.{Covers};
+ghost use Rattle.rg_pattern.specs.Tests.{stands, covers, overlaps};
+
+/// The test of matching decides standing for.
+pub fn stands_is_decided()
+    ensures { (fold : Bool) (user : List ℕ) (p : List Atom) (t : List ℕ) → IsTrue (stands fold user p t) ↔ Stands fold user p t }
+{}
+
+/// The test of covering decides covering.
+pub fn covers_is_decided()
+    ensures { (fold : Bool) (q p : List Atom) → IsTrue (covers fold q p) ↔ Covers fold q p }
+{}
+
+/// The table decides overlap, for patterns without `{USER}` whose characters are Unicode scalar values.
+pub fn overlap_is_decided()
+    ensures { (fold : Bool) (p q : List Atom) → has_user p ≡ false → has_user q ≡ false → IsTrue (are_scalars p) → IsTrue (are_scalars q)
+        → IsTrue (overlaps fold p q) ↔ Overlap fold p q }
+{}
+
+/// Overlap is symmetric.
+pub fn overlap_is_symmetric()
+    ensures { (fold : Bool) (p q : List Atom) → Overlap fold p q → Overlap fold q p }
+{}
+
+/// A pattern that covers another stands, for every user, for each text that the other stands for.
+pub fn covers_keeps_stands()
+    ensures { (fold : Bool) (user : List ℕ) (q p : List Atom) (t : List ℕ) → Covers fold q p → Stands fold user p t → Stands fold user q t }
+{}
+
+/// A text that a pattern stands for begins with the literal prefix of the pattern, both folded alike.
+pub fn prefix_begins_text()
+    ensures { (fold : Bool) (user : List ℕ) (p : List Atom) (t : List ℕ) → Stands fold user p t
+        → (rest : List ℕ) × (map (folded fold) t ≡ literal_prefix fold p ++ rest) }
+{}
+
+/// The twin of a pattern stands for exactly the texts below those that the pattern stands for.
+pub fn twin_stands_below()
+    ensures { (fold : Bool) (user : List ℕ) (p : List Atom) (t : List ℕ) → Stands fold user (twin p) t ↔ IsBelow fold user p t }
+{}
