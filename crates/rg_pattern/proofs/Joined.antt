@@ -1,12 +1,15 @@
 -- Patterns one after the other: the twin, covering, and the literal prefix.
-use Rattle.std.proofs.Common.{◌≡◌, ℕ, List, [], ◌∷◌, ◌++◌, Bool, true, false, cond, map, refl, subst, sym, ap, ◌∙◌, arith, append_assoc, inl, inr}
+use Rattle.std.proofs.Common.{◌≡◌, ℕ, List, [], ◌∷◌, ◌++◌, Bool, true, false, ◌||◌, cond, map, refl, subst, sym, ap, ◌∙◌, arith, append_assoc, inl, inr}
+use Rattle.std.proofs.lemmas.Bool.{false≢true, and_parts, and_from}
 use Rattle.std.proofs.lemmas.Bool.Decides.{nat_tests}
-use Rattle.std.proofs.lemmas.List.{append-nil}
+use Rattle.std.proofs.lemmas.List.{append-nil, map-append}
 use Rattle.std.specs.Char.{to_ascii_lowercase}
+use Rattle.std.specs.Str.{all_scalars}
+use lib.Utf8.{scalar}
 use Rattle.rg_pattern.specs.declared.atoms.Atom.{Atom}
 use Rattle.rg_pattern.specs.declared.atoms.Atom.TheVariants.{Character, One, Any, User}
 use Rattle.rg_pattern.specs.Folding.{folded}
-use Rattle.rg_pattern.specs.Atoms.{is_slash, ends_in_slash, twin, literal_prefix}
+use Rattle.rg_pattern.specs.Atoms.{is_user, has_user, are_scalars, is_slash, ends_in_slash, twin, literal_prefix}
 use Rattle.rg_pattern.specs.Standing.{Stands, IsBelow}
 use Rattle.rg_pattern.specs.Covering.{Covers, IsSingle}
 
@@ -102,3 +105,40 @@ pub ends_in_slash_push : (p : List Atom) (a : Atom) → ends_in_slash (p ++ a �
 ends_in_slash_push [] a = refl
 ends_in_slash_push (b ∷ []) a = refl
 ends_in_slash_push (b ∷ c ∷ p) a = ends_in_slash_push (c ∷ p) a
+
+pub twin_prefix_begins : (fold : Bool) (user : List ℕ) (p : List Atom) (t : List ℕ) → Stands fold user (twin p) t → (rest : List ℕ) × (map (folded fold) t ≡ literal_prefix fold p ++ rest)
+twin_prefix_begins fold user p t h =
+    let b = twin_below fold user p t h in
+    let o = prefix_begins fold user p b.0 b.2 in
+    let added = cond (ends_in_slash p) b.1 (47 ∷ b.1) in (
+      o.0 ++ map (folded fold) added,
+      ap (map (folded fold)) b.3 ∙ map-append (folded fold) b.0 added ∙ ap (λ z. z ++ map (folded fold) added) o.1 ∙ append_assoc (literal_prefix fold p) o.0 (map (folded fold) added),
+    )
+
+pub same_for_all : (fold : Bool) (user other : List ℕ) (p : List Atom) (t : List ℕ) → has_user p ≡ false → Stands fold user p t → Stands fold other p t
+same_for_all fold user other [] t n h = h
+same_for_all fold user other (Character c ∷ p) t n h = (h.0, h.1, h.2, h.3, same_for_all fold user other p h.1 n h.4)
+same_for_all fold user other (One ∷ p) t n h = (h.0, h.1, h.2, same_for_all fold user other p h.1 n h.3)
+same_for_all fold user other (User ∷ p) t n h = absurd (false≢true (sym n))
+same_for_all fold user other (Any ∷ p) t n h = (h.0, h.1, h.2, same_for_all fold user other p h.1 n h.3)
+
+pub some_text : (fold : Bool) (user : List ℕ) (p : List Atom) → has_user p ≡ false → are_scalars p ≡ true → (t : List ℕ) × (all_scalars t ≡ true) × Stands fold user p t
+some_text fold user [] n s = ([], refl, refl)
+some_text fold user (Character c ∷ p) n s =
+    let k = and_parts (scalar c) (are_scalars p) s in
+    let o = some_text fold user p n k.1 in
+    (c ∷ o.0, and_from _ _ k.0 o.1, (c, o.0, refl, refl, o.2))
+some_text fold user (One ∷ p) n s = let o = some_text fold user p n s in (97 ∷ o.0, o.1, (97, o.0, refl, o.2))
+some_text fold user (User ∷ p) n s = absurd (false≢true (sym n))
+some_text fold user (Any ∷ p) n s = let o = some_text fold user p n s in (o.0, o.1, ([], o.0, refl, o.2))
+
+has_user-append : (p q : List Atom) → has_user q ≡ false → has_user (p ++ q) ≡ has_user p
+has_user-append [] q n = n
+has_user-append (a ∷ p) q n = ap (λ b. is_user a || b) (has_user-append p q n)
+
+tail_user : (b : Bool) → has_user (tail b) ≡ false
+tail_user true = refl
+tail_user false = refl
+
+pub has_user-twin : (p : List Atom) → has_user (twin p) ≡ has_user p
+has_user-twin p = has_user-append p (tail (ends_in_slash p)) (tail_user (ends_in_slash p))

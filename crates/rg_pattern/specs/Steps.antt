@@ -43,6 +43,12 @@ MatchedTo f p t Whole = f p t ≡ true
 MatchedTo f p t Mismatch = f p t ≡ false
 MatchedTo f p t (Star q s) = StopsAt f p t q.now (chars s.now)
 
+-- the comparisons in it, of which there were so many before and are so many now: one for each atom that it passed, the Any included; where it goes no further, at most one for each atom and one for the end
+abbrev pub SegmentWork : List Atom → Segment → ℕ → ℕ → Type 0
+SegmentWork p Whole before now = now ≤ before + length p + 1
+SegmentWork p Mismatch before now = now ≤ before + length p + 1
+SegmentWork p (Star q s) before now = now + length q.now ≤ before + length p
+
 -- where covering up to the next Any ends
 abbrev pub CoveredTo : (List Atom → List Atom → Bool) → List Atom → List Atom → CoverSegment → Type 0
 CoveredTo f p t CoverWhole = f p t ≡ true

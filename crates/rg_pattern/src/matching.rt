@@ -1,11 +1,11 @@
 // Whether a pattern stands for a text, by a walk with one return point.
-ghost use Rattle.std.specs.Prelude.{◌≡◌, option_map};
+ghost use Rattle.std.specs.Prelude.{◌≡◌, ◌≤◌, ◌+◌, ◌*◌, option_map, length};
 ghost use Rattle.std.specs.Str.{chars};
 ghost use Rattle.rg_pattern.specs.Tests.{same_char, strip_prefix, some_suffix, stands};
-ghost use Rattle.rg_pattern.specs.Steps.{strip_atom, MatchedTo};
+ghost use Rattle.rg_pattern.specs.Steps.{strip_atom, MatchedTo, SegmentWork};
 
 use crate::atoms::Atom;
-use rg_base::split_char;
+use rg_base::{Tally, split_char};
 
 /// Whether two characters are the same, up to the case of ASCII letters where `fold` is set.
 pub(crate) fn same_char(a: char, b: char, fold: bool) -> bool
@@ -48,12 +48,8 @@ fn strip_atom<'a>(atom: Atom, text: &'a str, user: &str, fold: bool) -> Option<&
             None => None,
         },
         Atom::Character(c) => match split_char(text) {
-            Some((x, rest)) => if same_char(c, x, fold) {
-                Some(rest)
-            } else {
-                None
-            },
-            None => None,
+            Some((x, rest)) if same_char(c, x, fold) => Some(rest),
+            _ => None,
         },
     }
 }
@@ -69,13 +65,22 @@ enum Segment<'a> {
     Mismatch,
 }
 
-/// Matches the atoms up to the next `Any`.
-fn match_segment<'a>(pattern: &'a [Atom], text: &'a str, user: &str, fold: bool) -> Segment<'a>
-    ensures { MatchedTo (stands fold (chars user.now)) pattern.now (chars text.now) result }
+/// Matches the atoms up to the next `Any`. `work` counts the comparisons of an atom, or of the pattern's end, with
+/// the text.
+fn match_segment<'a>(
+    pattern: &'a [Atom],
+    text: &'a str,
+    user: &str,
+    fold: bool,
+    work: &mut Tally,
+) -> Segment<'a>
+    ensures answer { MatchedTo (stands fold (chars user.now)) pattern.now (chars text.now) result }
+    ensures work { SegmentWork pattern.now result work.old.count work.new.count }
 {
     let mut pattern = pattern;
     let mut text = text;
     while let Some((atom, more)) = pattern.split_first() {
+        work.add();
         if let Atom::Any = atom {
             return Segment::Star(more, text);
         }
@@ -87,6 +92,7 @@ fn match_segment<'a>(pattern: &'a [Atom], text: &'a str, user: &str, fold: bool)
             None => return Segment::Mismatch,
         }
     }
+    work.add();
     match split_char(text) {
         None => Segment::Whole,
         Some(_) => Segment::Mismatch,
@@ -95,8 +101,9 @@ fn match_segment<'a>(pattern: &'a [Atom], text: &'a str, user: &str, fold: bool)
 
 /// Whether the pattern stands for some suffix of the text. A segment that fits is never tried again at a later
 /// place: its length is fixed, so at the earliest place it leaves the most text for what follows.
-fn matches_suffix(pattern: &[Atom], text: &str, user: &str, fold: bool) -> bool
-    ensures { result ≡ some_suffix (stands fold (chars user.now) pattern.now) (chars text.now) }
+fn matches_suffix(pattern: &[Atom], text: &str, user: &str, fold: bool, work: &mut Tally) -> bool
+    ensures answer { result ≡ some_suffix (stands fold (chars user.now) pattern.now) (chars text.now) }
+    ensures work { work.new.count ≤ work.old.count + (length pattern.now + 1) * (length (chars text.now) + 1) }
 {
     let mut pattern = pattern;
     let mut text = text;
@@ -105,7 +112,7 @@ fn matches_suffix(pattern: &[Atom], text: &str, user: &str, fold: bool) -> bool
         if pattern.is_empty() {
             return true;
         }
-        match match_segment(pattern, text, user, fold) {
+        match match_segment(pattern, text, user, fold, work) {
             Segment::Whole => return true,
             Segment::Star(more, rest) => {
                 pattern = more;
@@ -120,12 +127,19 @@ fn matches_suffix(pattern: &[Atom], text: &str, user: &str, fold: bool) -> bool
 }
 
 /// Whether the pattern stands for the whole text.
-pub(crate) fn matches_whole(pattern: &[Atom], text: &str, user: &str, fold: bool) -> bool
-    ensures { result ≡ stands fold (chars user.now) pattern.now (chars text.now) }
+pub(crate) fn matches_whole(
+    pattern: &[Atom],
+    text: &str,
+    user: &str,
+    fold: bool,
+    work: &mut Tally,
+) -> bool
+    ensures answer { result ≡ stands fold (chars user.now) pattern.now (chars text.now) }
+    ensures work { work.new.count ≤ work.old.count + (length pattern.now + 1) * (length (chars text.now) + 1) }
 {
-    match match_segment(pattern, text, user, fold) {
+    match match_segment(pattern, text, user, fold, work) {
         Segment::Whole => true,
-        Segment::Star(more, rest) => matches_suffix(more, rest, user, fold),
+        Segment::Star(more, rest) => matches_suffix(more, rest, user, fold, work),
         Segment::Mismatch => false,
     }
 }

@@ -1,7 +1,7 @@
 // What a pattern is asked.
-ghost use Rattle.std.specs.Prelude.{◌≡◌, ◌↔◌, false, IfOk, IsTrue};
+ghost use Rattle.std.specs.Prelude.{◌≡◌, ◌↔◌, ◌≤◌, ◌+◌, ◌*◌, false, IfOk, IsTrue, length};
 ghost use Rattle.std.specs.Str.{chars};
-ghost use Rattle.rg_pattern.specs.Atoms.{is_user, has_user, is_slash, ends_in_slash, twin, literal_prefix};
+ghost use Rattle.rg_pattern.specs.Atoms.{are_scalars, is_user, has_user, is_slash, ends_in_slash, twin, literal_prefix};
 ghost use Rattle.rg_pattern.specs.Standing.{Stands, Overlap};
 ghost use Rattle.rg_pattern.specs.Covering.{Covers};
 ghost use Rattle.rg_pattern.specs.Tests.{stands, covers, overlaps};
@@ -10,7 +10,7 @@ use crate::atoms::{Atom, Pattern};
 use crate::covering::covers_whole;
 use crate::matching::matches_whole;
 use crate::overlap::overlaps;
-use rg_base::{NoMemory, Text};
+use rg_base::{NoMemory, Tally, Text};
 use std::alloc::Global;
 
 fn is_user(atom: Atom) -> bool
@@ -72,7 +72,18 @@ impl Pattern {
         ensures exact { IsTrue result ↔ Stands fold (chars user.now) self.now (chars value.now) }
         ensures test { result ≡ stands fold (chars user.now) self.now (chars value.now) }
     {
-        let matched = matches_whole(&self.atoms, value, user, fold);
+        let mut work = Tally::zero();
+        self.matches_counted(value, user, fold, &mut work)
+    }
+
+    /// As `matches`, which calls it. `work` counts the comparisons of an atom, or of the pattern's end, with the
+    /// value; a comparison with `{USER}` goes over the user's whole name.
+    pub fn matches_counted(&self, value: &str, user: &str, fold: bool, work: &mut Tally) -> bool
+        ensures exact { IsTrue result ↔ Stands fold (chars user.now) self.now (chars value.now) }
+        ensures test { result ≡ stands fold (chars user.now) self.now (chars value.now) }
+        ensures work { work.new.count ≤ work.old.count + (length self.now + 1) * (length (chars value.now) + 1) }
+    {
+        let matched = matches_whole(&self.atoms, value, user, fold, work);
         matched
     }
 
@@ -122,5 +133,12 @@ impl Pattern {
             rest = more;
         }
         false
+    }
+
+    /// The characters of every pattern are Unicode scalar values. A law, as those of `laws`: it does nothing.
+    pub fn has_scalars(&self)
+        ensures { IsTrue (are_scalars self.now) }
+    {
+        let _atoms = &self.atoms;
     }
 }
