@@ -1,6 +1,6 @@
 -- Reading a written value atom by atom.
-use Rattle.std.proofs.Common.{◌≡◌, ◌<◌, ◌≤◌, ℕ, zero, suc, List, [], ◌∷◌, ◌++◌, Bool, true, false, ◌&&◌, Some, None, cond, length, nat_eq, refl, sym, ap, ◌∙◌, arith}
-use Rattle.std.proofs.lemmas.Bool.{and_parts, and_from}
+use Rattle.std.proofs.Common.{◌≡◌, ◌<◌, ◌≤◌, ℕ, zero, suc, List, [], ◌∷◌, ◌++◌, Bool, true, false, ◌&&◌, Option, Some, None, cond, length, nat_eq, refl, sym, ap, ◌∙◌, arith}
+use Rattle.std.proofs.lemmas.Bool.{and_parts, and_from, eqb-true}
 use Rattle.std.specs.Option.{is_some}
 use Rattle.std.specs.Str.{all_scalars, chars}
 use lib.Utf8.{scalar}
@@ -34,6 +34,32 @@ pub read_other : (wild : Bool) (t : List ℕ) (x : ℕ) (s : List ℕ) → strip
 read_other wild t x s e h =
     ap (atoms_of wild) h
     ∙ ap (λ o. cond (is_some o) (User ∷ atoms_past wild 5 s) (atom_of wild x ∷ atoms_past wild 0 s)) (sym (ap (strip_prefix false user_mark) h) ∙ e)
+
+-- what is stripped without folding is the prefix itself
+stripped_same : (u t r : List ℕ) → strip_prefix false u t ≡ Some r → t ≡ u ++ r
+stripped_same [] t r e = let h : t ≡ r = cc in h
+stripped_same (c ∷ u) [] r e = absurd (cc)
+stripped_same (c ∷ u) (x ∷ t) r e =
+    let k = chosen (same_char false c x) _ r e in
+    ap (λ y. y ∷ t) (sym (eqb-true c x k.0)) ∙ ap (λ z. c ∷ z) (stripped_same u t r k.1)
+
+none_or : (o : Option (List ℕ)) → ((r : List ℕ) → o ≡ Some r → ⊥) → o ≡ None
+none_or None n = refl
+none_or (Some r) n = absurd (n r refl)
+
+pub no_mark : (x : ℕ) (t : List ℕ) → ((rest : List ℕ) → x ∷ t ≡ user_mark ++ rest → ⊥) → strip_prefix false user_mark (x ∷ t) ≡ None
+no_mark x t none = none_or (strip_prefix false user_mark (x ∷ t)) (λ r e. none r (stripped_same user_mark (x ∷ t) r e))
+
+-- each atom comes from a character of its own
+one_more : (mark : Bool) (a b : Atom) (p q : List Atom) (c : ℕ) (t : List ℕ) → length p ≤ length t → length q ≤ length t → length (cond mark (a ∷ p) (b ∷ q)) ≤ length (c ∷ t)
+one_more true a b p q c t h k = omega arith
+one_more false a b p q c t h k = omega arith
+
+pub past_le : (wild : Bool) (skip : ℕ) (t : List ℕ) → length (atoms_past wild skip t) ≤ length t
+past_le wild skip [] = omega arith
+past_le wild (suc skip) (c ∷ t) = let h = past_le wild skip t in omega arith
+past_le wild zero (c ∷ t) =
+    one_more (is_some (strip_prefix false user_mark (c ∷ t))) User (atom_of wild c) (atoms_past wild 5 t) (atoms_past wild 0 t) c t (past_le wild 5 t) (past_le wild 0 t)
 
 -- the characters of a pattern are those of the text that it was read from
 of_atom : (any one : Bool) (c : ℕ) (p : List Atom) → scalar c ≡ true → are_scalars p ≡ true → are_scalars (cond any Any (cond one One (Character c)) ∷ p) ≡ true

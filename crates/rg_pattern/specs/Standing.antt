@@ -6,7 +6,7 @@ use Rattle.rg_pattern.specs.declared.atoms.Atom.TheVariants.{Character, One, Any
 use Rattle.rg_pattern.specs.Folding.{folded}
 use Rattle.rg_pattern.specs.Atoms.{ends_in_slash}
 
--- nothing for nothing; then for each atom what comes first in the text: this character, any one character, the user's name, or any characters
+-- a pattern without atoms stands for the empty text; a character stands for itself, One for any one character, User for the user's name, Any for any characters, each up to folding, and the atoms after it for the rest of the text
 abbrev pub Stands : Bool → List ℕ → List Atom → List ℕ → Type 0
 Stands fold user [] t = t ≡ []
 Stands fold user (Character c ∷ p) t = (x : ℕ) × (rest : List ℕ) × (t ≡ x ∷ rest) × (folded fold c ≡ folded fold x) × Stands fold user p rest

@@ -1,12 +1,24 @@
 // Laws of patterns, each the contract of a function that does nothing.
-ghost use Rattle.std.specs.Prelude.{◌≡◌, ◌↔◌, ℕ, Bool, false, List, ◌++◌, map, IsTrue};
+ghost use Rattle.std.specs.Prelude.{◌≡◌, ◌↔◌, ◌≤◌, ℕ, Bool, false, List, [], ◌∷◌, ◌++◌, length, map, IsTrue};
 ghost use Rattle.std.specs.Str.{all_scalars};
 ghost use Rattle.rg_pattern.specs.declared.atoms.Atom.{Atom};
+ghost use Rattle.rg_pattern.specs.declared.atoms.Atom.TheVariants.{User};
 ghost use Rattle.rg_pattern.specs.Folding.{folded};
+ghost use Rattle.rg_pattern.specs.Reading.{user_mark, atom_of, atoms_of};
 ghost use Rattle.rg_pattern.specs.Atoms.{are_scalars, has_user, twin, literal_prefix};
 ghost use Rattle.rg_pattern.specs.Standing.{Stands, Overlap, IsBelow};
 ghost use Rattle.rg_pattern.specs.Covering.{Covers};
 ghost use Rattle.rg_pattern.specs.Tests.{stands, covers, overlaps};
+
+/// A written value is read from the left: `{USER}` gives the user's name, and a character that begins no
+/// `{USER}` gives its own atom.
+pub fn reads_from_the_left()
+    ensures nothing { (wild : Bool) → atoms_of wild [] ≡ [] }
+    ensures mark { (wild : Bool) (t : List ℕ) → atoms_of wild (user_mark ++ t) ≡ User ∷ atoms_of wild t }
+    ensures other { (wild : Bool) (c : ℕ) (t : List ℕ) → ((rest : List ℕ) → c ∷ t ≡ user_mark ++ rest → ⊥)
+        → atoms_of wild (c ∷ t) ≡ atom_of wild c ∷ atoms_of wild t }
+    ensures no_longer { (wild : Bool) (t : List ℕ) → length (atoms_of wild t) ≤ length t }
+{}
 
 /// The test of matching decides standing for.
 pub fn stands_is_decided()
