@@ -1,5 +1,5 @@
 -- Suffixes that pass a test.
-use Rattle.std.proofs.Common.{◌≡◌, List, [], ◌∷◌, ◌++◌, Bool, true, false, ◌||◌, refl, sym, ap, ◌∙◌, inl, inr}
+use Rattle.std.proofs.Common.{◌≡◌, List, [], ◌∷◌, ◌++◌, Bool, true, false, refl, sym, ap, ◌∙◌, inl, inr}
 use Rattle.std.proofs.lemmas.Bool.{false≢true, or_cases, or_left, or_right}
 use Rattle.rg_pattern.specs.Tests.{some_suffix}
 use Rattle.rg_pattern.specs.Steps.{some_later}
@@ -8,11 +8,6 @@ use Rattle.rg_pattern.specs.Steps.{some_later}
 pub some_suffix_whole : {X : Type 0} (f : List X → Bool) (t : List X) → f t ≡ true → some_suffix f t ≡ true
 some_suffix_whole f [] e = e
 some_suffix_whole f (x ∷ t) e = or_left _ _ e
-
--- the whole, or a shorter suffix
-pub some_suffix-or : {X : Type 0} (f : List X → Bool) (t : List X) → some_suffix f t ≡ (f t || some_later f t)
-some_suffix-or f [] = elim (f []) as (λ b. b ≡ (b || false)) [ true ↦ refl | false ↦ refl ]
-some_suffix-or f (x ∷ t) = refl
 
 pub some_suffix_later : {X : Type 0} (f : List X → Bool) (t : List X) → some_later f t ≡ true → some_suffix f t ≡ true
 some_suffix_later f [] e = absurd (false≢true e)

@@ -1,5 +1,5 @@
 -- The table over the pairs of rests decides whether two patterns overlap.
-use Rattle.std.proofs.Common.{◌≡◌, ℕ, List, [], ◌∷◌, Bool, true, false, IsTrue, ◌↔◌, ◌&&◌, ◌||◌, cond, refl, subst, sym, ◌∙◌, ◌⊎◌, inl, inr}
+use Rattle.std.proofs.Common.{◌≡◌, ℕ, List, [], ◌∷◌, Bool, true, false, IsTrue, ◌↔◌, ◌&&◌, ◌||◌, cond, refl, subst, sym, ◌∙◌, ◌⊎◌, inl, inr, Result, Ok, Err, IfOk}
 use Rattle.std.proofs.lemmas.Bool.{false≢true, or_cases, or_left, or_right, or_parts, and_parts, and_from, eqb-true, eq-eqb}
 use Rattle.std.specs.Str.{all_scalars}
 use lib.Utf8.{scalar}
@@ -255,5 +255,9 @@ overlap_holds fold p q m n e = let o = overlaps_sound fold p q m n e in (o.0, o.
 pub overlap_from : (fold : Bool) (p q : List Atom) → has_user p ≡ false → has_user q ≡ false → Overlap fold p q → overlaps fold p q ≡ true
 overlap_from fold p q m n o = overlaps_complete fold p q m n o.0 (stands_from fold [] p o.0 o.2) (stands_from fold [] q o.0 o.3)
 
-pub overlap_exact : (fold : Bool) (p q : List Atom) (b : Bool) → IsPlain p → IsPlain q → b ≡ overlaps fold p q → IsTrue b ↔ Overlap fold p q
+overlap_exact : (fold : Bool) (p q : List Atom) (b : Bool) → IsPlain p → IsPlain q → b ≡ overlaps fold p q → IsTrue b ↔ Overlap fold p q
 overlap_exact fold p q b m n e = (λ yes. overlap_holds fold p q m n (sym e ∙ yes), λ o. e ∙ overlap_from fold p q m.0 n.0 o)
+
+pub overlap_answered : {E : Type 0} (fold : Bool) (p q : List Atom) (r : Result Bool E) → IsPlain p → IsPlain q → IfOk r (λ b. b ≡ overlaps fold p q) → IfOk r (λ b. IsTrue b ↔ Overlap fold p q)
+overlap_answered fold p q (Ok b) m n e = overlap_exact fold p q b m n e
+overlap_answered fold p q (Err none) m n e = e

@@ -57,8 +57,8 @@ fn twin_atoms(alloc: Global, atoms: &[Atom]) -> Result<Vec<Atom>, NoMemory>
 }
 
 impl Pattern {
-    /// The twin of the pattern, which a recursive resource value stands for beside the pattern itself: the
-    /// pattern followed by `/*`, or by `*` alone where it ends in `/`, whether or not wildcards are on.
+    /// The twin of the pattern, which stands for what lies below: the pattern followed by `/*`, or by `*` alone
+    /// where it ends in `/`, whether or not wildcards are on. A recursive value has both the pattern and the twin.
     pub fn recursive(&self, alloc: Global) -> Result<Pattern, NoMemory>
         ensures { IfOk result (λ p. p ≡ twin self.now) }
     {
@@ -83,8 +83,7 @@ impl Pattern {
         ensures test { result ≡ stands fold (chars user.now) self.now (chars value.now) }
         ensures work { work.new.count ≤ work.old.count + (length self.now + 1) * (length (chars value.now) + 1) }
     {
-        let matched = matches_whole(&self.atoms, value, user, fold, work);
-        matched
+        matches_whole(&self.atoms, value, user, fold, work)
     }
 
     /// Whether some text is stood for by both patterns. The memory taken is a byte for each atom of `other`,
@@ -95,8 +94,7 @@ impl Pattern {
         ensures exact { IfOk result (λ b. IsTrue b ↔ Overlap fold self.now other.now) }
         ensures test { IfOk result (λ b. b ≡ overlaps fold self.now other.now) }
     {
-        let both = overlaps(alloc, &self.atoms, &other.atoms, fold)?;
-        Ok(both)
+        overlaps(alloc, &self.atoms, &other.atoms, fold)
     }
 
     /// Whether the pattern covers the other, atom by atom. It takes no memory.
@@ -104,8 +102,7 @@ impl Pattern {
         ensures exact { IsTrue result ↔ Covers fold self.now other.now }
         ensures test { result ≡ covers fold self.now other.now }
     {
-        let covered = covers_whole(&self.atoms, &other.atoms, fold);
-        covered
+        covers_whole(&self.atoms, &other.atoms, fold)
     }
 
     /// The characters before the first atom that is no character, in lower case where `fold` is set.

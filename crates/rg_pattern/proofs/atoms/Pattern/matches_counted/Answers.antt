@@ -8,5 +8,5 @@ pub returns-clause-exact : goal.returns-clause-exact
 returns-clause-exact c =
     let user = chars c.args.user.now in
     let value = chars c.args.value.now in
-    let test : c.matches_whole-matched.result ≡ stands c.args.fold user c.args.self.now value = cc (c.matches_whole-matched.ensures.answer, c.deref.ensures.value, c.self.view_is) in
-    stands_exact c.args.fold user c.args.self.now value c.matches_whole-matched.result test
+    let test : c.matches_whole.result ≡ stands c.args.fold user c.args.self.now value = cc (c.matches_whole.ensures.answer, c.deref.ensures.value, c.self.view_is) in
+    stands_exact c.args.fold user c.args.self.now value c.matches_whole.result test
