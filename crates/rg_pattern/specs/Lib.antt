@@ -1,0 +1,7 @@
+pub mod Folding
+pub mod Atoms
+pub mod Reading
+pub mod Standing
+pub mod Covering
+pub mod Tests
+pub mod Steps
