@@ -4,7 +4,7 @@ ghost use Rattle.std.specs.List.{All, AllPairs};
 ghost use Rattle.std.specs.Str.{chars};
 ghost use Rattle.rg_base.specs.Counts.{one_edit};
 ghost use Rattle.rg_trie.specs.Blocks.{IsRising, IsSized, block_limit, pairs_of};
-ghost use Rattle.rg_trie.specs.Edited.{with_pair, without_pair};
+ghost use Rattle.rg_trie.specs.Edited.{Adds, Takes, with_pair, without_pair};
 ghost use Rattle.rg_trie.specs.Pairs.{Below, folded};
 ghost use Rattle.rg_trie.specs.Sought.{IsCut};
 ghost use Rattle.rg_trie.specs.Walked.{ShorterFirst, entries_under, pairs_under};
@@ -60,6 +60,7 @@ impl Trie {
         steps: &mut Steps<L>,
     ) -> Result<Trie, NoMemory>
         ensures made { IfOk result (λ t. t ≡ with_pair (record { key = chars key.now; entry = entry }) self.now) }
+        ensures holds { IfOk result (λ t. Adds (record { key = chars key.now; entry = entry }) self.now t) }
         ensures counted { steps.new ≡ one_edit steps.old }
     {
         steps.edit();
@@ -76,6 +77,7 @@ impl Trie {
         steps: &mut Steps<L>,
     ) -> Result<Trie, NoMemory>
         ensures made { IfOk result (λ t. t ≡ without_pair (record { key = chars key.now; entry = entry }) self.now) }
+        ensures holds { IfOk result (λ t. Takes (record { key = chars key.now; entry = entry }) self.now t) }
         ensures counted { steps.new ≡ one_edit steps.old }
     {
         steps.edit();
@@ -89,6 +91,13 @@ impl Trie {
         ensures ordered { AllPairs ShorterFirst (pairs_under (folded fold (chars value.now)) self.now) }
     {
         Walk::over(self.blocks.as_slice(), value, fold)
+    }
+
+    /// The law of the order: the pairs stand in the order of key, id and place, each once. It does nothing.
+    pub fn in_order(&self)
+        ensures { AllPairs Below self.now }
+    {
+        let _blocks = &self.blocks;
     }
 
     fn with(&self, alloc: Global, key: &str, entry: Filed) -> Result<Trie, NoMemory>
