@@ -93,8 +93,8 @@ impl Trie {
         Walk::over(self.blocks.as_slice(), value, fold)
     }
 
-    /// The law of the order: the pairs stand in the order of key, id and place, each once. It does nothing.
-    pub fn in_order(&self)
+    /// The law of the order: the pairs stand in the order of key, id and place, each once. The call does nothing.
+    pub fn law_of_order(&self)
         ensures { AllPairs Below self.now }
     {
         let _blocks = &self.blocks;
