@@ -1,0 +1,28 @@
+#!/usr/bin/env bash
+# What an edit of a trie and a walk over it cost, at three sizes. Prints microseconds; the lowest of three runs counts.
+set -eu
+cd "$(dirname "$0")/../crates/bench_trie"
+rt run > /dev/null 2>&1 || { echo "bench_trie is not built: see rt run in crates/bench_trie" >&2; exit 1; }
+
+ROUNDS=10000
+WALKS=100000
+
+# The lowest time of three runs with these arguments, in microseconds.
+lowest() {
+    local best=0 start took
+    for _ in 1 2 3; do
+        start=$(date +%s%N)
+        out/bench_trie "$@" > /dev/null
+        took=$((($(date +%s%N) - start) / 1000))
+        if [ "$best" -eq 0 ] || [ "$took" -lt "$best" ]; then best=$took; fi
+    done
+    echo "$best"
+}
+
+for pairs in 1000 10000 100000; do
+    filled=$(lowest "$pairs" 0 0)
+    edited=$(lowest "$pairs" "$ROUNDS" 0)
+    walked=$(lowest "$pairs" 0 "$WALKS")
+    awk -v pairs="$pairs" -v filled="$filled" -v edited="$edited" -v walked="$walked" -v rounds="$ROUNDS" -v walks="$WALKS" \
+        'BEGIN { printf "pairs=%d insertion while filling=%.1f edit=%.1f walk=%.2f\n", pairs, filled / pairs, (edited - filled) / (2 * rounds), (walked - filled) / walks }'
+done

@@ -1,0 +1,5 @@
+pub mod Pairs
+pub mod Edited
+pub mod Walked
+pub mod Blocks
+pub mod Sought

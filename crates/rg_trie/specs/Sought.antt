@@ -1,0 +1,48 @@
+-- Places among the pairs, for the proofs of the searches.
+use Rattle.std.specs.Prelude.{◌≡◌, ℕ, ◌≤◌, ◌+◌, ◌-◌, Bool, true, false, List, [], ◌∷◌, ◌++◌, length, take, slice_get, Option, Some, None}
+use Rattle.std.specs.Cmp.Lexicographic.{slice_cmp}
+use Rattle.std.specs.List.{All}
+use Rattle.std.specs.Option.{option_map_or}
+use Rattle.std.specs.Ordering.{nat_cmp, is_lt, is_eq}
+use Rattle.std.specs.declared.sync.Arc.{Arc}
+use Rattle.rg_trie.specs.declared.pair.Block.{Block}
+use Rattle.rg_trie.specs.declared.pair.Filed.{Filed}
+use Rattle.rg_trie.specs.declared.pair.Pair.{Pair}
+use Rattle.rg_trie.specs.Pairs.{Below, folded, pair_order}
+use Rattle.rg_trie.specs.Blocks.{IsRising, IsSized, block_limit, pairs_of}
+
+-- the pair comes before each with this key, or before the one with this key and entry
+abbrev pub before : List ℕ → Option Filed → Pair → Bool
+before text None p = is_lt (slice_cmp nat_cmp p.key text)
+before text (Some e) p = is_lt (pair_order p (record { key = text; entry = e }))
+
+-- the last element passes, where there is one
+abbrev pub ends_passing : {X : Type 0} → (X → Bool) → List X → Bool
+ends_passing test xs = option_map_or test (slice_get xs (length xs - 1)) true
+
+-- the first pair is p
+abbrev pub first_is : Pair → List Pair → Bool
+first_is p [] = false
+first_is p (q ∷ qs) = is_eq (pair_order q p)
+
+-- the first characters of the text are these
+pub record IsFront (prefix text : List ℕ) : Type 0 where
+  pub within : length prefix ≤ length text
+  pub front : prefix ≡ take (length prefix) text
+
+-- all pairs, cut where p stands or would stand: whole blocks, both parts of one block, and whole blocks
+pub record IsCut {Z : Type 0} (p : Pair) (all : List Pair) (first : List (Arc Block Z)) (front back : List Pair) (last : List (Arc Block Z)) : Type 0 where
+  pub whole : all ≡ (pairs_of first ++ front) ++ (back ++ pairs_of last)
+  pub rising : IsRising Below all
+  pub passed : All (λ q. is_lt (pair_order q p) ≡ true) (pairs_of first ++ front)
+  pub left : All (λ q. is_lt (pair_order q p) ≡ false) (back ++ pairs_of last)
+  pub sized : All IsSized first × All IsSized last
+  pub limited : length front + length back ≤ block_limit
+  pub end : length back ≡ 0 → last ≡ []
+
+-- what is left of a walk: pairs in order, none of which comes before the prefix that is looked up
+pub record IsWalking {Z : Type 0} (fold : Bool) (value prefix : List ℕ) (back : List Pair) (after : List (Arc Block Z)) : Type 0 where
+  pub begun : IsFront prefix value
+  pub rising : IsRising Below (back ++ pairs_of after)
+  pub sized : All IsSized after
+  pub reached : All (λ p. before (folded fold prefix) None p ≡ false) (back ++ pairs_of after)

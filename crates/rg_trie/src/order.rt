@@ -1,0 +1,87 @@
+// The order of pairs.
+ghost use Rattle.std.specs.Prelude.{◌≡◌, false};
+ghost use Rattle.std.specs.Cmp.Lexicographic.{slice_cmp};
+ghost use Rattle.std.specs.Ordering.{nat_cmp, is_eq};
+ghost use Rattle.std.specs.Str.{chars};
+ghost use Rattle.rg_trie.specs.Pairs.{entry_order, folded, pair_order};
+ghost use Rattle.rg_trie.specs.Sought.{before, first_is};
+
+use crate::pair::{Filed, Pair};
+use rg_base::split_char;
+use std::cmp::Ordering;
+
+/// How a key stands to a text, of which the ASCII letters are folded where `fold` is set.
+fn key_order(key: &str, text: &str, fold: bool) -> Ordering
+    ensures { result ≡ slice_cmp nat_cmp (chars key.now) (folded fold (chars text.now)) }
+{
+    let mut left = key;
+    let mut right = text;
+    'characters: loop {
+        match (split_char(left), split_char(right)) {
+            (None, None) => return Ordering::Equal,
+            (None, Some(_)) => return Ordering::Less,
+            (Some(_), None) => return Ordering::Greater,
+            (Some((first, more)), Some((character, rest))) => {
+                let character = if fold {
+                    character.to_ascii_lowercase()
+                } else {
+                    character
+                };
+                let by = first.cmp(&character);
+                if by != Ordering::Equal {
+                    return by;
+                }
+                left = more;
+                right = rest;
+            }
+        }
+    }
+}
+
+/// How two entries stand to each other: by id, then by place.
+fn compare_entries(a: Filed, b: Filed) -> Ordering
+    ensures { result ≡ entry_order a b }
+{
+    match a.id.cmp(&b.id) {
+        Ordering::Equal => a.place.cmp(&b.place),
+        other => other,
+    }
+}
+
+/// Whether a pair comes before the text with that entry, or before the text with any entry.
+pub(crate) fn is_before(pair: &Pair, text: &str, fold: bool, entry: Option<Filed>) -> bool
+    ensures { result ≡ before (folded fold (chars text.now)) entry pair.now }
+{
+    match key_order(pair.key.as_str(), text, fold) {
+        Ordering::Less => true,
+        Ordering::Greater => false,
+        Ordering::Equal => match entry {
+            None => false,
+            Some(entry) => compare_entries(pair.entry, entry) == Ordering::Less,
+        },
+    }
+}
+
+/// Whether the pair has the text as its key.
+pub(crate) fn has_key(pair: &Pair, text: &str, fold: bool) -> bool
+    ensures { result ≡ is_eq (slice_cmp nat_cmp pair.now.key (folded fold (chars text.now))) }
+{
+    key_order(pair.key.as_str(), text, fold) == Ordering::Equal
+}
+
+/// Whether the pair has that key and entry.
+fn is_pair(pair: &Pair, key: &str, entry: Filed) -> bool
+    ensures { result ≡ is_eq (pair_order pair.now (record { key = chars key.now; entry = entry })) }
+{
+    has_key(pair, key, false) && compare_entries(pair.entry, entry) == Ordering::Equal
+}
+
+/// Whether the first of the pairs has that key and entry.
+pub(crate) fn is_first(pairs: &[Pair], key: &str, entry: Filed) -> bool
+    ensures { result ≡ first_is (record { key = chars key.now; entry = entry }) pairs.now }
+{
+    match pairs.first() {
+        None => false,
+        Some(pair) => is_pair(pair, key, entry),
+    }
+}
