@@ -1,5 +1,5 @@
+mod Calls
 pub mod Histories
-pub mod Moves
-pub mod Calls
-pub mod Sharing
-pub mod Joining
+mod Joining
+mod Moves
+mod Sharing

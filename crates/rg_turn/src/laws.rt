@@ -1,4 +1,4 @@
-//! What holds of every history of a machine. These functions do nothing when they run.
+// What holds of every history of a machine. These functions do nothing when they run.
 ghost use Rattle.std.specs.Prelude.{◌≡◌, ℕ, ◌≤◌, List, [], ◌∷◌, ◌++◌, length};
 ghost use Rattle.rg_turn.specs.declared.rule.Entry.{Entry};
 ghost use Rattle.rg_turn.specs.History.{state_after, state_at, IsLegal};

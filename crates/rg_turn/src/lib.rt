@@ -2,6 +2,7 @@
 #![tactic(auto)]
 
 mod exchange;
+pub mod laws;
 mod machine;
 mod rule;
 mod seats;
@@ -13,3 +14,5 @@ pub use rule::{Entry, SeatView};
 pub use seats::{Past, Seat};
 pub use turn::Turn;
 
+#[cfg(test)]
+mod tests;

@@ -13,8 +13,10 @@ use std::snapshot::Snapshot;
 use std::sync::Wait;
 use std::thread;
 
-pub(crate) type TableSeat<M> =
-    Seat<Slot<M>, SeatView<<M as Machine>::Ask, <M as Machine>::Reply, <M as Machine>::State>>;
+pub(crate) type TableSeat<M> = Seat<
+    Slot<M>,
+    SeatView<<M as Machine>::Ask, <M as Machine>::Reply, <M as Machine>::State>,
+>;
 
 pub(crate) type SharedTable<M> = Shared<
     Slot<M>,
