@@ -15,7 +15,7 @@ use Rattle.rg_turn.specs.View.{entry, with_ticket, passed_with, passed_without}
 use Rattle.rg_turn.specs.Steps.{IsServed}
 use Rattle.rg_turn.specs.Values.{EachOnce}
 use Rattle.rg_turn.specs.Seats.{seat_value, IsAlone, IsCounted}
-use Rattle.rg_turn.proofs.Histories.{prefix_more, prefix_length, length_snoc, legal_snoc, times_snoc, once_below_suc, once_below_grows}
+use Rattle.rg_turn.proofs.Histories.{begins_more, begins_length, length_snoc, legal_snoc, times_snoc, once_below_suc, once_below_grows}
 
 module _ {M A R X : Type 0} (state : M → X) (transition : X → A → X × R) where
   abbrev V : Type 0
@@ -43,7 +43,7 @@ module _ {M A R X : Type 0} (state : M → X) (transition : X → A → X × R) 
   stays_legal a v m (Err _) e replied l = subst (λ (z : Mine). Legal z.0) (sym e) l
 
   pub goes_on : (h : List (Entry A R)) (a : A) (v : V) (m : Mine) (result : Result R NoMemory) → Passed a v m result → IsPrefix h v.history → IsPrefix h m.0.history
-  goes_on h a v m (Ok r) e p = subst (λ (z : Mine). IsPrefix h z.0.history) (sym e) (prefix_more h v.history (entry a r ∷ []) p)
+  goes_on h a v m (Ok r) e p = subst (λ (z : Mine). IsPrefix h z.0.history) (sym e) (begins_more h v.history (entry a r ∷ []) p)
   goes_on h a v m (Err _) e p = subst (λ (z : Mine). IsPrefix h z.0.history) (sym e) p
 
   pub served_legal : (m m' : Mine) → IsServed state transition m m' → Legal m'.0
@@ -66,7 +66,7 @@ module _ {M A R X : Type 0} (state : M → X) (transition : X → A → X × R) 
 
   served_room : (m m' : Mine) → IsServed state transition m m' → IsCounted m.0 → HasRoom m'.0
   served_room m m' t c = subst (λ (z : Mine). HasRoom z.0) (sym t.4)
-      (let l = prefix_length m.0.history t.1 t.7 in let few = c.1 in ((λ p. let o = c.0 p in let g = once_below_grows p (length m.0.history) (length t.1) l in omega arith), omega arith, t.8))
+      (let l = begins_length m.0.history t.1 t.7 in let few = c.1 in ((λ p. let o = c.0 p in let g = once_below_grows p (length m.0.history) (length t.1) l in omega arith), omega arith, t.8))
 
   once_more : (v : V) (e : Entry A R) → EachOnce v.calls v.history → EachOnce (v.calls ++ length v.history ∷ []) (v.history ++ e ∷ [])
   once_more v e c p = subst (λ n. times p (v.calls ++ length v.history ∷ []) ≤ once_below p n) (sym (length_snoc v.history e))

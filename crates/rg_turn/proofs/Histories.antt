@@ -1,5 +1,5 @@
 -- Beginnings of lists, histories that grow by one entry, and sums over views.
-use Rattle.std.proofs.Common.{◌≡◌, ℕ, zero, suc, ◌+◌, ◌<◌, ◌≤◌, ◌==◌, Bool, true, false, nat_lt, eq-eqb, ne_eqb, subst, List, [], ◌∷◌, ◌++◌, take, length, set, Some, None, slice_get, if◌then◌else◌, refl, ap, sym, ◌∙◌, arith, append_assoc, length-append}
+use Rattle.std.proofs.Common.{◌≡◌, ℕ, zero, suc, ◌+◌, ◌<◌, ◌≤◌, ◌==◌, Bool, true, false, nat_lt, eq-eqb, ne_eqb, subst, List, [], ◌∷◌, ◌++◌, take, length, set, Some, None, slice_get, if◌then◌else◌, refl, ap, sym, ◌∙◌, arith, append_assoc, append-nil, length-append}
 use mathlib.Core.Option.{some, some-injective, some-ne-none}
 use mathlib.Core.List.{IsPrefix}
 use mathlib.Core.Logic.{dite}
@@ -14,24 +14,27 @@ use Rattle.rg_turn.specs.Counting.{times, once_below, total}
 use Rattle.rg_turn.specs.History.{state_after, state_at, IsLegal}
 use Rattle.rg_turn.specs.View.{longer}
 
-pub prefix_self : {A : Type 0} (xs : List A) → IsPrefix xs xs
-prefix_self [] = ([], refl)
-prefix_self (x ∷ xs) = (let r = prefix_self xs in r.0, ap (λ ys. x ∷ ys) (prefix_self xs).1)
+pub begins_self : {A : Type 0} (h : List A) → IsPrefix h h
+begins_self h = ([], append-nil h)
 
-pub prefix_trans : {A : Type 0} (xs ys zs : List A) → IsPrefix xs ys → IsPrefix ys zs → IsPrefix xs zs
-prefix_trans xs ys zs p q = (p.0 ++ q.0, sym (append_assoc xs p.0 q.0) ∙ (ap (λ w. w ++ q.0) p.1 ∙ q.1))
+pub begins_trans : {A : Type 0} (h m k : List A) → IsPrefix h m → IsPrefix m k → IsPrefix h k
+begins_trans h m k a b = (a.0 ++ b.0, sym (append_assoc h a.0 b.0) ∙ ap (λ l. l ++ b.0) a.1 ∙ b.1)
 
-pub prefix_more : {A : Type 0} (xs ys zs : List A) → IsPrefix xs ys → IsPrefix xs (ys ++ zs)
-prefix_more xs ys zs p = (p.0 ++ zs, sym (append_assoc xs p.0 zs) ∙ ap (λ l. l ++ zs) p.1)
+pub begins_more : {A : Type 0} (h m k : List A) → IsPrefix h m → IsPrefix h (m ++ k)
+begins_more h m k a = begins_trans h m (m ++ k) a (k, refl)
 
-pub prefix_whole : {A : Type 0} (xs ys : List A) → IsPrefix xs ys → length ys ≤ length xs → xs ≡ ys
-prefix_whole [] [] p le = refl
-prefix_whole [] (y ∷ ys) p le = absurd (omega arith)
-prefix_whole (x ∷ xs) [] p le = absurd (cc (p.1))
-prefix_whole (x ∷ xs) (y ∷ ys) p le = let rest = prefix_whole xs ys (p.0, cc (p.1)) (omega arith) in cc (p.1, rest)
+pub begins_length : {A : Type 0} (h m : List A) → IsPrefix h m → length h ≤ length m
+begins_length h m a = let sum : length h + length a.0 ≡ length m = sym (length-append h a.0) ∙ ap length a.1 in omega arith
 
-pub prefix_length : {A : Type 0} (xs ys : List A) → IsPrefix xs ys → length xs ≤ length ys
-prefix_length xs ys p = omega (arith, sym (ap length p.1) ∙ length-append xs p.0)
+-- a beginning that is as long as the whole is the whole
+pub begins_whole : {A : Type 0} (h m : List A) → IsPrefix h m → length m ≤ length h → h ≡ m
+begins_whole {A} h m a long =
+    let sum : length h + length a.0 ≡ length m = sym (length-append h a.0) ∙ ap length a.1 in
+    sym (append-nil h) ∙ ap (λ l. h ++ l) (sym (nothing_left a.0 (omega arith))) ∙ a.1
+  where
+    nothing_left : (l : List A) → length l ≡ 0 → l ≡ []
+    nothing_left [] none = refl
+    nothing_left (x ∷ l) none = absurd (omega arith)
 
 pub length_snoc : {A : Type 0} (xs : List A) (x : A) → length (xs ++ x ∷ []) ≡ suc (length xs)
 length_snoc [] x = refl

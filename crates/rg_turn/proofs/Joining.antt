@@ -15,7 +15,7 @@ use Rattle.rg_turn.specs.View.{joined}
 use Rattle.rg_turn.specs.Rule.{AllBegin}
 use Rattle.rg_turn.specs.Values.{SeatValue, calls_at}
 use Rattle.rg_turn.specs.Seats.{seat_value, IsKnown, HasJoined}
-use Rattle.rg_turn.proofs.Histories.{times_append, total_snoc, prefix_self}
+use Rattle.rg_turn.proofs.Histories.{times_append, total_snoc, begins_self}
 
 -- what holds of all holds of one
 pub all_at : {T : Type 0} (P : T → Type 0) (xs ys : List T) (x : T) → All P ((xs ++ x ∷ []) ++ ys) → P x
@@ -60,7 +60,7 @@ module _ (M A R X : Type 0) where
       each v w h same (suc k) d l = known_on v w (get_or done k d).history (h k d (omega arith))
 
   known_begins : (v : V) (h : List (Entry A R)) → AllBegin v.olds v.history → IsKnown v h → IsPrefix h v.history
-  known_begins v h olds = ⊎_elim (λ (e : h ≡ v.history). subst (λ x. IsPrefix x v.history) (sym e) (prefix_self v.history)) (λ (x : (k : ℕ) × (get_elem? v.olds k ≡ some h)). olds x.0 h x.1)
+  known_begins v h olds = ⊎_elim (λ (e : h ≡ v.history). subst (λ x. IsPrefix x v.history) (sym e) (begins_self v.history)) (λ (x : (k : ℕ) × (get_elem? v.olds k ≡ some h)). olds x.0 h x.1)
 
   pub all_begin : (p q : S) (rest : List Seen) (s : Seen) → HasJoined p rest q → seat_value p ≡ s → AllBegin q.me.0.olds q.me.0.history → All (λ (x : Seen). IsPrefix x.history q.me.0.history) (rest ++ s ∷ [])
   all_begin p q rest s g is olds = All-append (λ (x : Seen). IsPrefix x.history q.me.0.history) rest (s ∷ []) (λ k d l. known_begins q.me.0 (get_or rest k d).history olds (g.6 k d l)) one

@@ -17,7 +17,7 @@ use Rattle.rg_turn.specs.History.{state_after, IsLegal}
 use Rattle.rg_turn.specs.View.{entry, with_ticket, served, passed}
 use Rattle.rg_turn.specs.Rule.{TicketStands, SomeServed, NoneServed, ViewHolds, IsAfter, RuleHolds}
 use Rattle.rg_turn.specs.Steps.{IsAnswered, IsReturned, Drawn, Looked, PassedOn}
-use Rattle.rg_turn.proofs.Histories.{prefix_self, prefix_trans, prefix_whole, prefix_length, length_snoc, total_set, state_after_snoc, legal_snoc, set_at, total_only, once_below_some, own_snoc, count_snoc}
+use Rattle.rg_turn.proofs.Histories.{begins_self, begins_trans, begins_whole, begins_length, length_snoc, total_set, state_after_snoc, legal_snoc, set_at, total_only, once_below_some, own_snoc, count_snoc}
 
 pub not_both : {b : Bool} → b ≡ true → b ≡ false → ⊥
 not_both t f = true≢false (sym t ∙ f)
@@ -159,7 +159,7 @@ module _ {M A R X : Type 0} (state : M → X) (transition : X → A → X × R) 
       let f = r.each_view id v at in
       let only = λ (p : ℕ). total_only (λ (u : V). u.weight) (λ (u : V). times p u.calls) s.views id v at (r.weights_sum ∙ sym all) (λ j u e none_left. ap (times p) ((r.each_view j u e).spent none_left).1) in
       let long : length r.history ≤ length v.history = dite (dec_le (length r.history) (length v.history)) (λ h. h) (λ over. let short : length v.history < length r.history = lt_of_not-le over in let p : ℕ = length v.history in let one = once_below_some p (length r.history) short in let t = only p in let m = r.entry_once p in let mine = f.calls_within p (omega arith) in absurd (omega arith)) in
-      sym (prefix_whole v.history r.history f.history_begins long)
+      sym (begins_whole v.history r.history f.history_begins long)
 
   pub looks : (slots id : ℕ) (me : Me D V) → me.1 ≡ [] → me.0.has_ticket ≡ true → me.0.is_served ≡ false → 0 < me.0.weight
       → Allows Rule slots id me 1 (λ n. n) (Looked state transition (step slots 1 0 0 none) me)
@@ -183,7 +183,7 @@ module _ {M A R X : Type 0} (state : M → X) (transition : X → A → X × R) 
         ap (λ l. get_elem? l 0) (r.slots_are) ∙ ap some x.1,
         carried s (r.ticket ∷ r.serving ∷ []) (set s.words 1 (get_or s.words 1 0)) (maybe.none ∷ []) (set s.homes 0 maybe.none) (set s.views id w) (words_back1 s r ∙ r.words_are) (ap (λ l. set l 0 maybe.none) r.slots_are)
             (moved s r id v w at r.ticket r.serving r.history maybe.none r.serving_at_most_ticket r.ticket_at_most_bound r.entries_at_most_serving r.legal
-            record { names_opening = f.names_opening; spent = λ z. absurd (omega arith); history_begins = prefix_self r.history; olds_begin = f.olds_begin; calls_within = λ p there. let a = f.calls_within p there in let b = prefix_length v.history r.history f.history_begins in omega arith; ticket_within = f.ticket_within; served = λ _. (held, here, refl) }
+            record { names_opening = f.names_opening; spent = λ z. absurd (omega arith); history_begins = begins_self r.history; olds_begin = f.olds_begin; calls_within = λ p there. let a = f.calls_within p there in let b = begins_length v.history r.history f.history_begins in omega arith; ticket_within = f.ticket_within; served = λ _. (held, here, refl) }
             (λ j u _ e. r.each_view j u e)
             (λ n low high. stands_still s id v w at n (λ h is. (h, is)) (r.ticket_stands n low high))
             (λ _. alone)
@@ -221,8 +221,8 @@ module _ {M A R X : Type 0} (state : M → X) (transition : X → A → X × R) 
       record {
         names_opening = λ l. let n = f.names_opening live in (same.3 ∙ n.0, same.4 ∙ n.1);
         spent = λ z. let e : w.weight ≡ v.weight = same.2 in absurd (omega arith);
-        history_begins = subst (λ h. IsPrefix h history) (sym same.6) (prefix_self history);
-        olds_begin = λ k old e. prefix_trans old r.history history (f.olds_begin k old (ap (λ l. get_elem? l k) (sym same.5) ∙ e)) longer;
+        history_begins = subst (λ h. IsPrefix h history) (sym same.6) (begins_self history);
+        olds_begin = λ k old e. begins_trans old r.history history (f.olds_begin k old (ap (λ l. get_elem? l k) (sym same.5) ∙ e)) longer;
         calls_within = λ p there. let o = own p there in subst (λ h. p < length h) (sym same.6) o;
         ticket_within = λ h. absurd (not_both h free);
         served = λ h. absurd (not_both h idle);
@@ -230,8 +230,8 @@ module _ {M A R X : Type 0} (state : M → X) (transition : X → A → X × R) 
       (λ j u other e. let g = r.each_view j u e in record {
         names_opening = g.names_opening;
         spent = g.spent;
-        history_begins = prefix_trans u.history r.history history g.history_begins longer;
-        olds_begin = λ k old e'. prefix_trans old r.history history (g.olds_begin k old e') longer;
+        history_begins = begins_trans u.history r.history history g.history_begins longer;
+        olds_begin = λ k old e'. begins_trans old r.history history (g.olds_begin k old e') longer;
         calls_within = g.calls_within;
         ticket_within = λ h. let k = g.ticket_within h in let c : r.serving ≤ u.ticket = k.0 in
             let not_served : u.ticket ≢ v.ticket = λ same_ticket. other (r.ticket_once j id u v e at h mine.0 same_ticket) in ((omega arith), k.1);
@@ -251,7 +251,7 @@ module _ {M A R X : Type 0} (state : M → X) (transition : X → A → X × R) 
       let f = r.each_view id v at in
       let mine = f.served turn in
       let from : x ≡ start = cc (begun, (f.names_opening live).0) in
-      served_next s r id v (passed None v) d r.history at turn live (refl, refl, refl, refl, refl, refl, mine.2) (prefix_self r.history) (omega arith) r.legal
+      served_next s r id v (passed None v) d r.history at turn live (refl, refl, refl, refl, refl, refl, mine.2) (begins_self r.history) (omega arith) r.legal
       (m, holds, answers.0 ∙ (λ i. state_after transition (from i) (mine.2 i)), answers.1 ∙ ap length mine.2)
       (λ p there. let o = f.calls_within p there in subst (λ h. p < length h) mine.2 o)
       (λ p. refl)

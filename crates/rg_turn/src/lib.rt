@@ -10,7 +10,7 @@ mod steps;
 mod turn;
 
 pub use machine::Machine;
-pub use rule::{Entry, SeatView};
+pub use rule::Entry;
 pub use seats::{Past, Seat};
 pub use turn::Turn;
 
