@@ -1,5 +1,5 @@
 -- What a seat knows after its call.
-use Rattle.std.proofs.Common.{◌≡◌, ℕ, suc, false, List, [], ◌∷◌, ◌++◌, ◌+◌, ◌==◌, ◌<◌, ◌≤◌, ◌^◌, if◌then◌else◌, length, replicate, arith, Some, Result, Ok, Err, refl, sym, ap, ◌∙◌, subst}
+use Rattle.std.proofs.Common.{◌≡◌, ℕ, false, List, [], ◌∷◌, ◌++◌, ◌+◌, ◌<◌, ◌≤◌, ◌^◌, length, replicate, arith, Some, Result, Ok, Err, refl, sym, ap, ◌∙◌, subst}
 use Rattle.std.specs.Prelude.{IfOk, MatchResult}
 use mathlib.Core.List.{IsPrefix}
 use Rattle.atomic_table.specs.Table.{Me}
@@ -41,6 +41,13 @@ module _ {M A R X : Type 0} (state : M → X) (transition : X → A → X × R) 
       let reply : (transition (state_after transition l.0 v.history) a).1 ≡ r = subst (λ x. (transition (state_after transition x v.history) a).1 ≡ r) same replied.2 in
       subst (λ (z : Mine). Legal z.0) (sym e) (l.0, l.1, legal_snoc transition l.0 v.history (entry a r) l.2 reply)
   stays_legal a v m (Err _) e replied l = subst (λ (z : Mine). Legal z.0) (sym e) l
+
+  pub legal_from : (v : V) (x : X) → Legal v → v.start ≡ Some x → IsLegal transition x v.history
+  legal_from v x l is = let same : l.0 ≡ x = cc (l.1, is) in subst (λ y. IsLegal transition y v.history) same l.2
+
+  pub start_stays : (a : A) (v : V) (m : Mine) (result : Result R NoMemory) → Passed a v m result → m.0.start ≡ v.start
+  start_stays a v m (Ok r) e = ap {A = Mine} (λ z. z.0.start) e
+  start_stays a v m (Err _) e = ap {A = Mine} (λ z. z.0.start) e
 
   pub goes_on : (h : List (Entry A R)) (a : A) (v : V) (m : Mine) (result : Result R NoMemory) → Passed a v m result → IsPrefix h v.history → IsPrefix h m.0.history
   goes_on h a v m (Ok r) e p = subst (λ (z : Mine). IsPrefix h z.0.history) (sym e) (begins_more h v.history (entry a r ∷ []) p)

@@ -161,9 +161,9 @@ module _ {M A R X : Type 0} (state : M → X) (transition : X → A → X × R) 
       let long : length r.history ≤ length v.history = dite (dec_le (length r.history) (length v.history)) (λ h. h) (λ over. let short : length v.history < length r.history = lt_of_not-le over in let p : ℕ = length v.history in let one = once_below_some p (length r.history) short in let t = only p in let m = r.entry_once p in let mine = f.calls_within p (omega arith) in absurd (omega arith)) in
       sym (begins_whole v.history r.history f.history_begins long)
 
-  pub looks : (slots id : ℕ) (me : Me D V) → me.1 ≡ [] → me.0.has_ticket ≡ true → me.0.is_served ≡ false → 0 < me.0.weight
-      → Allows Rule slots id me 1 (λ n. n) (Looked state transition (step slots 1 0 0 none) me)
-  looks slots id me empty held idle live s r _ at _ =
+  pub looks : (slots id : ℕ) (me : Me D V) (opening : Option X) → opening ≡ Some start → me.1 ≡ [] → me.0.has_ticket ≡ true → me.0.is_served ≡ false → 0 < me.0.weight
+      → Allows Rule slots id me 1 (λ n. n) (Looked state transition opening (step slots 1 0 0 none) me)
+  looks slots id me opening is empty held idle live s r _ at _ =
       let v : V = me.0 in
       let f = r.each_view id v at in
       let now : get_or s.words 1 0 ≡ r.serving = ap (λ l. get_or l 1 0) r.words_are in
@@ -190,7 +190,7 @@ module _ {M A R X : Type 0} (state : M → X) (transition : X → A → X × R) 
             (inr (refl, (id, w, set_at s.views id v w at, refl)))
             refl
             (λ p. refl)),
-        ((λ not. absurd (not hit)), λ _. (start, r.history, x.0, named.0, ap (λ (c : List (ℕ × D)). (w, (0, x.0) ∷ c)) empty, x.2, r.legal, f.history_begins, omega arith, (λ all. whole s r id v at (all ∙ named.1)), f.olds_begin)),
+        ((λ not. absurd (not hit)), λ _. ((start, r.history, x.0, named.0, ap (λ (c : List (ℕ × D)). (w, (0, x.0) ∷ c)) empty, x.2, r.legal, f.history_begins, omega arith, (λ all. whole s r id v at (all ∙ named.1)), f.olds_begin), named.0 ∙ sym is)),
       ))
       (λ (x : (r.slot ≡ none) × SomeServed s.views). let y = x.1 in let g = (r.each_view y.0 y.1 y.2).served y.3 in
       let same : y.0 ≡ id = r.ticket_once y.0 id y.1 v y.2 at g.0 held (g.1 ∙ sym here) in

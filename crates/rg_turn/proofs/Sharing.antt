@@ -11,9 +11,9 @@ use Rattle.rg_turn.specs.declared.rule.Slot.{Slot}
 use Rattle.rg_turn.specs.Counting.{times, once_below, total}
 use Rattle.rg_turn.specs.History.{IsLegal}
 use Rattle.rg_turn.specs.View.{opening_view, lightened, split_off, history_only, joined, spent_view}
-use Rattle.rg_turn.specs.Rule.{AllBegin, TicketStands, SomeServed, NoneServed, ViewHolds, IsAfter, RuleHolds}
+use Rattle.rg_turn.specs.Rule.{AllBegin, SomeServed, NoneServed, ViewHolds, IsAfter, RuleHolds}
 use Rattle.rg_turn.proofs.Histories.{legal_none, once_below_none, total_only, total_least, total_set, total_snoc, times_append, longer_prefix, longer_first, longer_second}
-use Rattle.rg_turn.proofs.Moves.{not_both, not_true, MachineStands, whole}
+use Rattle.rg_turn.proofs.Moves.{not_both, not_true, whole}
 
 module _ {M A R X : Type 0} (state : M → X) (transition : X → A → X × R) (start : X) (seats : ℕ) where
   abbrev V : Type 0

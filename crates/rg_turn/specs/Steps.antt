@@ -31,8 +31,9 @@ module _ {M A R X : Type 0} (state : M → X) (transition : X → A → X × R) 
   IsServed me me' = (x : X) × (history : List (Entry A R)) × (d : Slot M) × (me.0.start ≡ Some x) × (me' ≡ (served history me.0, (0, d) ∷ [])) × IsAfter state transition x history d
       × IsLegal transition x history × IsPrefix me.0.history history × (length history < 2 ^ 62) × (me.0.weight ≡ me.0.seats → history ≡ me.0.history) × AllBegin me.0.olds history
 
-  abbrev pub Looked : Step (Slot M) → Me (Slot M) (SeatView A R X) → ℕ → Me (Slot M) (SeatView A R X) → Type 0
-  Looked st me found me' = (found ≢ me.0.ticket → me' ≡ me) × (found ≡ me.0.ticket → IsServed me me')
+  -- the seat that is served also learns the state in which the machine opened
+  abbrev pub Looked : Option X → Step (Slot M) → Me (Slot M) (SeatView A R X) → ℕ → Me (Slot M) (SeatView A R X) → Type 0
+  Looked opening st me found me' = (found ≢ me.0.ticket → me' ≡ me) × (found ≡ me.0.ticket → IsServed me me' × (me.0.start ≡ opening))
 
 module _ {M A R X : Type 0} where
   abbrev pub Drawn : Step (Slot M) → Me (Slot M) (SeatView A R X) → ℕ → Me (Slot M) (SeatView A R X) → Type 0

@@ -1,18 +1,10 @@
 -- How contracts see a turn, a seat and a past.
-use Rattle.std.specs.Prelude.{◌≡◌, ◌⊎◌, ℕ, All, ◌+◌, ◌<◌, ◌≤◌, ◌^◌, false, List, [], ◌∷◌, ◌++◌, length, Option, Some}
+use Rattle.std.specs.Prelude.{◌≡◌, ℕ, ◌≤◌, List, [], ◌∷◌, ◌++◌, length, Option, Some}
 use mathlib.Core.List.{IsPrefix}
-use mathlib.Core.Option.{some}
-use lib.ListN.{get_elem?}
-use Rattle.atomic_table.specs.Table.{Me}
 use Rattle.atomic_table.specs.Seated.{TableId}
-use Rattle.atomic_table.specs.declared.shared.Seat.{Seat}
 use Rattle.rg_turn.specs.declared.rule.Entry.{Entry}
-use Rattle.rg_turn.specs.declared.rule.SeatView.{SeatView}
-use Rattle.rg_turn.specs.declared.rule.Slot.{Slot}
-use Rattle.rg_turn.specs.Counting.{times, once_below, positions, total}
-use Rattle.rg_turn.specs.History.{IsLegal}
+use Rattle.rg_turn.specs.Counting.{times, once_below, total}
 use Rattle.rg_turn.specs.View.{entry}
-use Rattle.rg_turn.specs.Rule.{AllBegin, IsAfter}
 
 -- which turn it is, the number of its seats, and the state in which its machine opened
 pub record TurnValue (X : Type 0) : Type 0 where

@@ -65,15 +65,29 @@ impl<M, A, R, X> Play<Slot<M>, SeatView<A, R, X>> for Draw {
     ghost then = { Drawn };
 }
 
-/// A step that looks which ticket is served.
-pub struct Look<M> {
-    of: PhantomData<M>,
+/// The state in which a table's machine opened. A step has no argument for it, and what it tells can't name the table.
+pub trait NamesOpening<X> {
+    ghost use Rattle.std.specs.Prelude.{Option};
+
+    ghost opening: { Option X };
 }
 
-impl<M: Machine> Play<Slot<M>, SeatView<M::Ask, M::Reply, M::State>> for Look<M> {
+impl<X> NamesOpening<X> for Brand {
+    ghost use Rattle.std.specs.Prelude.{None};
+
+    ghost opening = { None };
+}
+
+/// A step that looks which ticket is served.
+pub struct Look<M, T> {
+    of: PhantomData<(M, T)>,
+}
+
+impl<M: Machine, T: NamesOpening<M::State>> Play<Slot<M>, SeatView<M::Ask, M::Reply, M::State>>
+    for Look<M, T> {
     ghost use Rattle.rg_turn.specs.Steps.{Looked};
 
-    ghost then = { Looked M.state M.transition };
+    ghost then = { Looked M.state M.transition T.opening };
 }
 
 /// The entry that a step adds to the history, if any. A step on a word has no argument for it.

@@ -7,8 +7,9 @@ ghost use Rattle.rg_turn.specs.View.{with_ticket, passed};
 ghost use Rattle.rg_turn.specs.Steps.{call_of, IsReturned, IsServed, Looked};
 
 use crate::machine::Machine;
-use crate::rule::{AddsEntry, Draw, Look, Opening, PassOn, SeatView, Slot, TurnRule};
+use crate::rule::{AddsEntry, Draw, Look, NamesOpening, Opening, PassOn, SeatView, Slot, TurnRule};
 use atomic_table::{Seat, Shared};
+use std::marker::Brand;
 use std::snapshot::Snapshot;
 use std::sync::Wait;
 use std::thread;
@@ -48,14 +49,18 @@ fn draw<M: Machine>(table: &SharedTable<M>, seat: &mut TableSeat<M>, ticket: u64
 }
 
 // The ticket that is served. Where it is the seat's, the seat knows the history so far and holds the machine.
-fn look<M: Machine>(table: &SharedTable<M>, seat: &mut TableSeat<M>) -> u64
+fn look<M: Machine, T: NamesOpening<M::State>>(
+    table: &SharedTable<M>,
+    seat: &mut TableSeat<M>,
+) -> u64
     requires table { (seat.old.table_id ≡ table.now.table_id) × (table.now.table_id.words ≡ 2) }
     requires waits { (seat.old.me.1 ≡ []) × (seat.old.me.0.has_ticket ≡ true) }
     requires live { (0 < seat.old.me.0.weight) × (seat.old.me.0.is_served ≡ false) }
+    requires opening { T.opening ≡ Some (M.state table.now.key.start.value) }
     ensures table { (seat.new.table_id ≡ seat.old.table_id) × (seat.new.id ≡ seat.old.id) }
-    ensures looked { Looked M.state M.transition (step table.now.table_id.slots 1 0 0 none) seat.old.me result seat.new.me }
+    ensures looked { Looked M.state M.transition T.opening (step table.now.table_id.slots 1 0 0 none) seat.old.me result seat.new.me }
 {
-    table.load::<Look<M>>(seat, SERVING)
+    table.load::<Look<M, T>>(seat, SERVING)
 }
 
 // Gives the machine back and serves the next ticket. Where a call was made, the history gets its entry in this very step.
@@ -109,9 +114,10 @@ pub(crate) fn await_turn<M: Machine, R: Wait>(
     requires live { (0 < seat.old.me.0.weight) × (seat.old.me.0.is_served ≡ false) }
     ensures table { (seat.new.table_id ≡ seat.old.table_id) × (seat.new.id ≡ seat.old.id) }
     ensures served { IsServed M.state M.transition seat.old.me seat.new.me }
+    ensures opening { seat.old.me.0.start ≡ Some (M.state table.now.key.start.value) }
 {
     for _ in rt.forever() {
-        let serving = look(table, seat);
+        let serving = look::<M, Brand>(table, seat);
         if serving == ticket {
             return;
         }

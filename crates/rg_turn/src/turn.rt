@@ -105,7 +105,7 @@ impl<M: Machine> Turn<M> {
         Ok((Turn { table }, all))
     }
 
-    /// Waits until it is the seat's turn, and calls the machine. `NoMemory` is the machine's own, and makes no entry.
+    /// Waits until it is the seat's turn, and calls the machine. `NoMemory` is the machine's own answer, and makes no entry.
     /// Once 2^62 calls were begun it waits for ever.
     pub fn call<R: Wait>(
         &self,
@@ -115,7 +115,8 @@ impl<M: Machine> Turn<M> {
     ) -> Result<M::Reply, NoMemory>
         requires { seat.old.turn ≡ self.now.turn }
         ensures same { (seat.new.turn ≡ seat.old.turn) × (seat.new.seats ≡ seat.old.seats) × (seat.new.start ≡ seat.old.start) }
-        ensures legal { (x : M.State) × (seat.new.start ≡ Some x) × IsLegal M.transition x seat.new.history }
+        ensures start { seat.new.start ≡ Some self.now.start }
+        ensures legal { IsLegal M.transition self.now.start seat.new.history }
         ensures begins { IsPrefix seat.old.history seat.new.history }
         ensures bounded { length seat.new.history ≤ 2 ^ 62 }
         ensures each_once { EachOnce seat.new.calls seat.new.history }

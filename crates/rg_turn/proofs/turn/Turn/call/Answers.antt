@@ -1,9 +1,9 @@
-use Rattle.std.proofs.Common.{sym, ap, ◌∙◌, subst}
+use Rattle.std.proofs.Common.{Some, ap, ◌∙◌, subst}
 use mathlib.Core.List.{IsPrefix}
 use Rattle.atomic_table.specs.Table.{Me}
 use Rattle.rg_turn.specs.declared.rule.Slot.{Slot}
 use Rattle.rg_turn.specs.declared.rule.SeatView.{SeatView}
-use Rattle.rg_turn.proofs.Calls.{stays_sound, counts_call, counts_none, stays_legal, goes_on, served_legal, served_begins}
+use Rattle.rg_turn.proofs.Calls.{stays_sound, counts_call, counts_none, stays_legal, legal_from, start_stays, goes_on, served_legal, served_begins}
 use Rattle.rg_turn.proofs.turn.Turn.call.Goals as goal
 
 pub invariant_of-seat : goal.invariant_of-seat
@@ -28,9 +28,13 @@ invariant_of-seat-2 g c =
 
 pub returns-clause-legal : goal.returns-clause-legal
 returns-clause-legal g c =
+    let Mine : Type 0 = Me (Slot g.row.M.Denot) (SeatView g.row.M-Ask.Denot g.row.M-Reply.Denot g.row.M-State.Denot) in
     let state = g.M.Machine.state in
     let transition = g.M.Machine.transition in
-    stays_legal state transition c.args.ask c.await_turn.new.seat.me.0 c.answer.new.seat.me c.answer.result c.answer.ensures.passed c.answer.ensures.reply (served_legal state transition c.take_ticket-ticket.new.seat.me c.await_turn.new.seat.me c.await_turn.ensures.served)
+    let passed = c.answer.ensures.passed in
+    let legal = stays_legal state transition c.args.ask c.await_turn.new.seat.me.0 c.answer.new.seat.me c.answer.result passed c.answer.ensures.reply (served_legal state transition c.take_ticket-ticket.new.seat.me c.await_turn.new.seat.me c.await_turn.ensures.served) in
+    let start = start_stays state transition c.args.ask c.await_turn.new.seat.me.0 c.answer.new.seat.me c.answer.result passed ∙ ap {A = Mine} (λ m. m.0.start) c.await_turn.ensures.served.4 ∙ c.await_turn.ensures.opening in
+    legal_from state transition c.answer.new.seat.me.0 c.args.self.now.start legal (start ∙ ap (λ t. Some t.start) c.self.view_is)
 
 pub returns-clause-begins : goal.returns-clause-begins
 returns-clause-begins g c =
