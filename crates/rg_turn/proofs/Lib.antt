@@ -1,0 +1,5 @@
+mod Calls
+pub mod Histories
+mod Joining
+mod Moves
+mod Sharing
