@@ -68,7 +68,7 @@ impl Source for MemSource {
     fn read(&mut self, room: &mut [u8]) -> Result<usize, Failed>
         ensures fails { IsErr result ↔ IsToFail self.old.calls }
         ensures failed { OnErr result (self.new ≡ record self.old { calls = failed self.old.calls }) }
-        ensures untouched { OnErr result (room.new ≡ room.old) }
+        ensures room { OnErr result (room.new ≡ room.old) }
         ensures moved { IfOk result (λ n. n ≡ moves self.old.calls (min (length room.old) (length self.old.left))) }
         ensures gave { IfOk result (λ n. room.new ≡ take n self.old.left ++ drop n room.old) }
         ensures used_up { IfOk result (λ n. n ≡ 0 → 0 < length room.old → length self.old.left ≡ 0) }
