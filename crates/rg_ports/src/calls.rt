@@ -8,7 +8,7 @@ use rg_base::Seq;
 use std::cmp;
 use std::marker::Model;
 
-/// The calls so far and what is laid down for those to come.
+/// The calls so far, and what is set for those to come.
 #[derive(Drop)]
 pub struct Calls {
     made: Counter,

@@ -28,7 +28,7 @@ impl Model for ListClock {
 }
 
 impl ListClock {
-    /// A clock of these moments.
+    /// A clock of these moments, at least one. The first call gives the first of them.
     pub fn new(moments: Seq<Moment>) -> ListClock
         requires { 0 < length moments.items }
         ensures { result ≡ record { moments = moments.items; calls = 0 } }

@@ -1,4 +1,4 @@
-// The outside of the machine. These forms tell no content, and what they do beyond their contracts is trusted.
+// The outside of the machine. These forms tell no content: which bytes and moments pass through them is trusted.
 ghost use Rattle.std.specs.Prelude.{◌≡◌, ◌≤◌, ◌-◌, ◌^◌, length, IfOk, false, min};
 ghost use Rattle.rg_ports.specs.Machine.{ReaderState, WriterState};
 
@@ -10,7 +10,7 @@ use std::marker::Model;
 use std::rt;
 use std::time::{SystemTime, UNIX_EPOCH};
 
-// Reads once, again where a signal interrupts it. A machine that never stops interrupting fails at last.
+// Reads, and reads again where a signal interrupts it. Interrupts without end are a failure.
 fn read_past_interrupts<R: Read>(reader: &mut R, room: &mut [u8]) -> Result<usize, Failed>
     ensures within { IfOk result (λ n. n ≤ length room.old) }
 {
@@ -24,7 +24,7 @@ fn read_past_interrupts<R: Read>(reader: &mut R, room: &mut [u8]) -> Result<usiz
     Err(Failed)
 }
 
-// Writes once, again where a signal interrupts it. A machine that never stops interrupting fails at last.
+// Writes, and writes again where a signal interrupts it. Interrupts without end are a failure.
 fn write_past_interrupts<W: Write>(writer: &mut W, piece: &[u8]) -> Result<usize, Failed>
     ensures within { IfOk result (λ n. n ≤ length piece.now) }
 {
@@ -38,7 +38,8 @@ fn write_past_interrupts<W: Write>(writer: &mut W, piece: &[u8]) -> Result<usize
     Err(Failed)
 }
 
-/// A source over a reader. It tells no bytes: that the reader gives those of the outside is trusted.
+/// A source over a reader. It tells no bytes: that the reader gives those of the outside, and 0 for a room that isn't empty at
+/// their end alone, is trusted.
 #[derive(Drop)]
 pub struct StdSource<R: Read + Drop> {
     reader: R,
@@ -99,7 +100,7 @@ impl<R: Read + Drop> Source for StdSource<R> {
     }
 }
 
-/// A sink over a writer. It tells no bytes: that the writer hands them on is trusted.
+/// A sink over a writer. It tells no bytes: that the writer hands on those that it takes is trusted. It flushes nothing.
 #[derive(Drop)]
 pub struct StdSink<W: Write + Drop> {
     writer: W,

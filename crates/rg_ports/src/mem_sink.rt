@@ -25,9 +25,9 @@ impl Model for MemSink {
 }
 
 impl MemSink {
-    /// Takes bytes behind those given, which callers hand in empty; the list's allocator serves for all that come.
-    /// `pieces` lists the most bytes that each call moves, in turn; the last size repeats, and an empty list sets no bound.
-    /// `fails` lists the calls that are to fail, counted from 1.
+    /// Keeps bytes behind those of `held`, which is handed in empty, and takes memory from the allocator of that list.
+    /// `pieces` lists the most bytes that each call moves, in turn, a call that fails included; the last size repeats, and an
+    /// empty list sets no bound. No size is 0. `fails` lists the calls that are to fail, all calls being counted from 1.
     pub fn new(held: Seq<u8>, pieces: Seq<u32>, fails: Seq<u64>) -> MemSink
         requires { All (λ size. 0 < size) pieces.items }
         ensures { result ≡ record { held = held.items; calls = untouched pieces.items fails.items } }
@@ -69,8 +69,8 @@ impl Sink for MemSink {
     ghost faults = { λ s. s.calls.faults };
 
     /// Fails where the call is listed, or where there is no memory for even one byte of a piece that isn't empty. Else it takes
-    /// as many bytes as the call's size allows, or fewer where there is no memory for all of them. How much memory there is no
-    /// contract can tell, so none says that memory was wanting.
+    /// as many bytes as the call's size allows, or fewer where there is no memory for all of them. No contract can say
+    /// how much memory there is, so none says that it takes all that the size allows.
     fn write(&mut self, piece: &[u8]) -> Result<usize, Failed>
         ensures fails { IsToFail self.old.calls → IsErr result }
         ensures empty { length piece.now ≡ 0 → IsErr result → IsToFail self.old.calls }

@@ -31,8 +31,9 @@ impl Model for MemSource {
 }
 
 impl MemSource {
-    /// Gives these bytes. `pieces` lists the most bytes that each call moves, in turn; the last size repeats, and an empty
-    /// list sets no bound. `fails` lists the calls that are to fail, counted from 1. With no such call, none fails.
+    /// Gives these bytes. `pieces` lists the most bytes that each call moves, in turn, a call that fails included; the last
+    /// size repeats, and an empty list sets no bound. No size is 0. `fails` lists the calls that are to fail, all calls being
+    /// counted from 1.
     pub fn new(bytes: Seq<u8>, pieces: Seq<u32>, fails: Seq<u64>) -> MemSource
         requires { All (λ size. 0 < size) pieces.items }
         ensures { result ≡ record { left = bytes.items; ended = false; calls = untouched pieces.items fails.items } }
@@ -68,7 +69,7 @@ impl Source for MemSource {
     fn read(&mut self, room: &mut [u8]) -> Result<usize, Failed>
         ensures fails { IsErr result ↔ IsToFail self.old.calls }
         ensures failed { OnErr result (self.new ≡ record self.old { calls = failed self.old.calls }) }
-        ensures untouched { OnErr result (room.new ≡ room.old) }
+        ensures room { OnErr result (room.new ≡ room.old) }
         ensures moved { IfOk result (λ n. n ≡ moves self.old.calls (min (length room.old) (length self.old.left))) }
         ensures gave { IfOk result (λ n. room.new ≡ take n self.old.left ++ drop n room.old) }
         ensures used_up { IfOk result (λ n. n ≡ 0 → 0 < length room.old → length self.old.left ≡ 0) }

@@ -6,7 +6,7 @@ ghost use Rattle.rg_ports.specs.Moments.{Told};
 
 use rg_base::{Failed, Moment};
 
-/// Bytes that come from outside, in order.
+/// Bytes that come from outside, in order. A call fails only where the count of its faults rises, which never falls.
 pub trait Source {
     /// The bytes to come, where the object tells them.
     ghost left: { Self → Option (List ℕ) };
@@ -29,7 +29,7 @@ pub trait Source {
         ensures unread { OnErr result ((left self.new ≡ left self.old) × (ended self.new ≡ ended self.old)) };
 }
 
-/// Where bytes go, in order.
+/// Where bytes go, in order. A call fails only where the count of its faults rises, which never falls.
 pub trait Sink {
     /// The bytes taken, where the object tells them.
     ghost held: { Self → Option (List ℕ) };
@@ -48,12 +48,12 @@ pub trait Sink {
         ensures unwritten { OnErr result (held self.new ≡ held self.old) };
 }
 
-/// The time.
+/// The time. It can't fail.
 pub trait Clock: Send {
     /// The moments given so far, in order, where the object tells them.
     ghost given: { Self → Option (List Moment) };
 
-    /// The moment of this call.
+    /// The moment of this call. Moments may repeat, and may go back.
     fn now(&mut self) -> Moment
         ensures { Told (given self.old) (given self.new) result };
 }

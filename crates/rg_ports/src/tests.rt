@@ -51,7 +51,7 @@ fn each_read_moves_at_most_its_size(rt: HostRuntime) -> Result<(), Fail> {
 }
 
 #[test]
-fn a_listed_read_fails_and_takes_its_size_along(rt: HostRuntime) -> Result<(), Fail> {
+fn a_failed_read_uses_up_its_size(rt: HostRuntime) -> Result<(), Fail> {
     check_reads(
         &rt,
         source(rt.alloc(), &[3, 1, 2], &[2])?,
