@@ -1,9 +1,10 @@
 -- Whether JSON reads as a record of a shape.
-use Rattle.std.specs.Prelude.{ℕ, ◌&&◌, nat_lt, nat_le, Bool, true, false, List, [], ◌∷◌, length, Option, Some, None, is_some, option_map, option_and_then, unwrap_or}
+use Rattle.std.specs.Prelude.{ℕ, ◌&&◌, nat_le, Bool, true, false, List, [], ◌∷◌, length, Option, Some, None, is_some, option_map, option_and_then, unwrap_or}
 use Rattle.std.specs.List.{list_all}
 use Rattle.std.specs.Str.{chars}
 use Rattle.serde_json.specs.Data.{Data, Items, Members}
 use Rattle.serde_json.specs.Find.{as_bool, as_str, as_array, as_object, as_number, as_i64, as_u64}
+use Rattle.rg_facts.specs.Texts.{is_name as is_name_text}
 use Rattle.rangerd.specs.declared.json.key.Key.{Key}
 use Rattle.rangerd.specs.declared.json.shape.Need.{Need}
 use Rattle.rangerd.specs.declared.json.shape.Need.TheVariants.{Must, May}
@@ -12,7 +13,7 @@ use Rattle.rangerd.specs.Shape.{Shape, text, name, value, truth, truth_word, int
 
 -- a name has 1 to 256 characters
 abbrev pub is_name : List ℕ → Bool
-is_name bytes = nat_lt 0 (length (chars bytes)) && nat_le (length (chars bytes)) 256
+is_name bytes = is_name_text (chars bytes)
 
 -- a value has at most 4,096
 abbrev pub is_value : List ℕ → Bool

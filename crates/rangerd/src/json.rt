@@ -3,6 +3,7 @@ pub(crate) mod fields;
 pub(crate) mod fits;
 pub(crate) mod key;
 pub(crate) mod lists;
+pub(crate) mod printing;
 pub(crate) mod records;
 pub(crate) mod shape;
 pub(crate) mod texts;

@@ -29,8 +29,8 @@ fn alike(fold: bool, a: &str, b: &str) -> bool
     }
 }
 
-/// The definition's level of this name.
-pub(crate) fn level_of<'a>(def: &'a ServiceDef, name: &str) -> Option<&'a Level>
+/// The definition's level of this name, None where it has none.
+pub fn level_of<'a>(def: &'a ServiceDef, name: &str) -> Option<&'a Level>
     ensures { option_map (λ l. l.now) result ≡ level_of def.now (chars name.now) }
 {
     for level in def.levels.as_slice() {

@@ -1,5 +1,5 @@
 // Whether facts are sound.
-ghost use Rattle.std.specs.Prelude.{◌≡◌, IfOk, is_some};
+ghost use Rattle.std.specs.Prelude.{◌≡◌, IfOk, option_map};
 ghost use Rattle.std.specs.List.{list_all, list_any};
 ghost use Rattle.std.specs.Str.{bytes_eq, chars};
 ghost use Rattle.rg_facts.specs.Sound.{access_type_of, def_sound, entry_sound, item_sound, policy_sound, resource_sound, same_id, sound, versions_fit};
@@ -17,8 +17,8 @@ use std::collections::BTreeSet;
 /// The greatest version that facts may have.
 const LAST_VERSION: u64 = 1 << 62;
 
-/// Whether the text has 1 to 256 characters.
-fn is_name(text: &str) -> bool
+/// Whether the text has 1 to 256 characters, as names of users, levels and access types do.
+pub fn is_name(text: &str) -> bool
     ensures { result ≡ is_name (chars text.now) }
 {
     let count = char_count(text);
@@ -31,15 +31,16 @@ fn versions_fit(facts: &Facts) -> bool
     facts.policy_version.0 <= LAST_VERSION && facts.tag_version.0 <= LAST_VERSION
 }
 
-fn has_access(def: &ServiceDef, name: &str) -> bool
-    ensures { result ≡ is_some (access_type_of def.now (chars name.now)) }
+/// The definition's access type of this name, None where it has none.
+pub fn access_type_of<'a>(def: &'a ServiceDef, name: &str) -> Option<&'a AccessType>
+    ensures { option_map (λ t. t.now) result ≡ access_type_of def.now (chars name.now) }
 {
     for kind in def.access_types.as_slice() {
         if same_text(kind.name.as_str(), name) {
-            return true;
+            return Some(kind);
         }
     }
-    false
+    None
 }
 
 fn any_level_named(levels: &[Level], name: &str) -> bool
@@ -116,7 +117,7 @@ fn entries_sound(def: &ServiceDef, entries: &[AccessEntry]) -> bool
 {
     entries
         .iter()
-        .all(|entry| has_access(def, entry.access.as_str()))
+        .all(|entry| access_type_of(def, entry.access.as_str()).is_some())
 }
 
 fn item_sound(def: &ServiceDef, item: &Item) -> bool

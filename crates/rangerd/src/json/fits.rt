@@ -11,15 +11,8 @@ ghost use Rattle.rangerd.specs.Shapes.{fields_from, shape_of};
 use crate::json::fields::{find, truth_word};
 use crate::json::shape::{Field, Form, Kind, Need};
 use rg_base::char_count;
+use rg_facts::is_name;
 use serde_json::{Map, Value};
-
-/// Whether the text has 1 to 256 characters.
-fn is_name(text: &str) -> bool
-    ensures { result ≡ is_name text.now }
-{
-    let count = char_count(text);
-    0 < count && count <= 256
-}
 
 /// Whether the text has at most 4,096 characters.
 fn is_value(text: &str) -> bool

@@ -3,7 +3,7 @@ use Rattle.std.specs.List.{find}
 use Rattle.std.specs.Str.{bytes_eq, chars}
 use Rattle.rg_policy.specs.declared.service_def.AccessType.{AccessType}
 use Rattle.rg_facts.specs.Sound.{access_type_of}
-use Rattle.rg_facts.proofs.sound.has_access.Given as goal
+use Rattle.rg_facts.proofs.sound.access_type_of.Given as goal
 
 -- what is found is found in the rest
 abbrev pub invariant-loop-kind : goal.invariant-loop-kind
