@@ -9,6 +9,7 @@ pub mod Moments
 pub mod Names
 pub mod Printing
 pub mod Records
+pub mod Run
 pub mod Script
 pub mod Shape
 pub mod Shapes

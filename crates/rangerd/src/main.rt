@@ -1,12 +1,27 @@
-// rangerd: decides requests by policies.
+// rangerd: Apache Ranger's policy administration and its enforcing plugin in one program.
 #![tactic(auto)]
 
 mod built;
 mod json;
 mod line;
 mod lines;
+mod program;
 mod reading;
 mod script;
 mod writing;
 
-fn main() {}
+use program::run;
+use rg_ports::{StdSink, StdSource, WallClock};
+use std::env;
+use std::io;
+use std::process::ExitCode;
+
+fn main(rt: HostRuntime) -> io::Result<ExitCode> {
+    let alloc = rt.alloc();
+    let words: Vec<String> = env::args(&rt)?.skip(1).collect(alloc)?;
+    let mut source = StdSource::new(rt.stdin());
+    let mut sink = StdSink::new(rt.stdout());
+    let mut clock = WallClock(rt.clone()?);
+    let status = run(&rt, alloc, words.as_slice(), &mut source, &mut sink, &mut clock);
+    Ok(ExitCode::from(status))
+}

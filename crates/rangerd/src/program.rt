@@ -37,7 +37,7 @@ fn replay<S: Source, K: Sink, C: Clock>(alloc: Global, source: &mut S, sink: &mu
     ensures ended { (result ≡ 0) ⊎ (result ≡ 2) → S.ended source.new ≡ true }
     ensures in_limits { (result ≡ 0) ⊎ (result ≡ 2) → (bytes : List ℕ) → S.left source.old ≡ Some bytes → is_too_long bytes ≡ false }
     ensures read_fault { result ≡ 3 → S.faults source.old < S.faults source.new }
-    ensures unwritten { result ≡ 3 → K.held sink.new ≡ K.held sink.old }
+    ensures unwritten { (result ≡ 3) ⊎ (result ≡ 9) → K.held sink.new ≡ K.held sink.old }
     ensures write_fault { result ≡ 4 → K.faults sink.old < K.faults sink.new }
     ensures too_long { result ≡ 6 → (bytes : List ℕ) → S.left source.old ≡ Some bytes → is_too_long bytes ≡ true }
     ensures told_too_long { result ≡ 6 → Wrote (K.held sink.old) (K.held sink.new) too_long_text }
@@ -95,7 +95,7 @@ pub fn run<R, S: Source, K: Sink, C: Clock>(
 
     // Faults are answered only where the object failed in this call.
     ensures read_fault { result ≡ 3 → S.faults source.old < S.faults source.new }
-    ensures unwritten { result ≡ 3 → K.held sink.new ≡ K.held sink.old }
+    ensures unwritten { (result ≡ 3) ⊎ (result ≡ 9) → K.held sink.new ≡ K.held sink.old }
     ensures write_fault { result ≡ 4 → K.faults sink.old < K.faults sink.new }
     ensures faults_kept { (S.faults source.old ≤ S.faults source.new) × (K.faults sink.old ≤ K.faults sink.new) }
 

@@ -1,17 +1,10 @@
-use Rattle.std.proofs.Common.{◌≡◌, ◌+◌, ◌≤◌, ◌++◌, List, None, length, option_map, string_bytes}
-use Rattle.rg_base.specs.declared.numbers.Moment.{Moment}
-use Rattle.rangerd.specs.Lines.{lines_of}
-use Rattle.rangerd.specs.Moments.{Gave}
-use Rattle.rangerd.specs.Script.{before, script}
+use Rattle.std.proofs.Common.{◌+◌, ◌≤◌, length, string_bytes}
+use Rattle.rangerd.proofs.Scripts.{IsWorked}
 use Rattle.rangerd.proofs.script.work.Given as goal
 
--- with the moments given so far, and whichever follow, the script prints the text so far and then that of the rest
 abbrev pub invariant-lines : goal.invariant-lines
 invariant-lines g l = record {
-  told : (moments : List Moment) × record {
-    given : Gave (g.C.Clock.given l.fn.clock) (g.C.Clock.given l.clock) moments;
-    so_far : (later : List Moment) → script None 1 (lines_of l.bytes) (moments ++ later) ≡ option_map (before (string_bytes l.text)) (script l.published.current l.number (lines_of l.rest) later);
-  };
+  told : IsWorked (g.C.Clock.given l.fn.clock) (g.C.Clock.given l.clock) l.bytes (string_bytes l.text) l.published.current l.number l.rest;
   bound : l.number + length l.rest ≤ length l.bytes + 1;
 }
 
