@@ -63,33 +63,37 @@ stepped old now new bytes text text' p p' n rest line more m w first told on pub
   moments = w.moments ++ m ∷ [];
   given = gave_one old now new w.moments m w.given told;
   so_far = λ later.
-    ap (script None 1 (lines_of bytes)) (append_assoc w.moments (m ∷ []) later)
-    ∙ w.so_far (m ∷ later)
-    ∙ ap (λ lines. option_map (before text) (script p n lines (m ∷ later))) first
-    ∙ goes_on p n line (lines_of more) m later text on
-    ∙ ap (λ q. option_map (before (text ++ (outcome_of p n line m).text)) (script q (n + 1) (lines_of more) later)) (sym published)
-    ∙ ap (λ t. option_map (before t) (script p' (n + 1) (lines_of more) later)) (sym printed);
+      ap (script None 1 (lines_of bytes)) (append_assoc w.moments (m ∷ []) later)
+      ∙ w.so_far (m ∷ later)
+      ∙ ap (λ lines. option_map (before text) (script p n lines (m ∷ later))) first
+      ∙ goes_on p n line (lines_of more) m later text on
+      ∙ ap (λ q. option_map (before (text ++ (outcome_of p n line m).text)) (script q (n + 1) (lines_of more) later)) (sym published)
+      ∙ ap (λ t. option_map (before t) (script p' (n + 1) (lines_of more) later)) (sym printed);
 }
 
 pub stopped : (old now new : Option (List Moment)) (bytes text text' : List ℕ) (p : Option Publication) (n : ℕ) (rest line more : List ℕ) (m : Moment)
     → IsWorked old now bytes text p n rest → lines_of rest ≡ line ∷ lines_of more → Told now new m
     → (outcome_of p n line m).goes_on ≡ false → text' ≡ text ++ (outcome_of p n line m).text
     → IsDone old new bytes text' 2
-stopped old now new bytes text text' p n rest line more m w first told off printed =
-    (w.moments ++ m ∷ [], gave_one old now new w.moments m w.given told,
-    w.so_far (m ∷ [])
-    ∙ ap (λ lines. option_map (before text) (script p n lines (m ∷ []))) first
-    ∙ ends p n line (lines_of more) m text off
-    ∙ ap (λ t. Some (let o : Output = record { text = t; status = 2 } in o)) (sym printed))
+stopped old now new bytes text text' p n rest line more m w first told off printed = (
+  w.moments ++ m ∷ [],
+  gave_one old now new w.moments m w.given told,
+  w.so_far (m ∷ [])
+      ∙ ap (λ lines. option_map (before text) (script p n lines (m ∷ []))) first
+      ∙ ends p n line (lines_of more) m text off
+      ∙ ap (λ t. Some (let o : Output = record { text = t; status = 2 } in o)) (sym printed),
+)
 
 pub finished : (old now : Option (List Moment)) (bytes text : List ℕ) (p : Option Publication) (n : ℕ) (rest : List ℕ)
     → IsWorked old now bytes text p n rest → rest ≡ [] → IsDone old now bytes text 0
-finished old now bytes text p n rest w none =
-    (w.moments, w.given,
-    ap (script None 1 (lines_of bytes)) (sym (append-nil w.moments))
-    ∙ w.so_far []
-    ∙ ap (λ bs. option_map (before text) (script p n (lines_of bs) [])) none
-    ∙ ap (λ t. Some (let o : Output = record { text = t; status = 0 } in o)) (append-nil text))
+finished old now bytes text p n rest w none = (
+  w.moments,
+  w.given,
+  ap (script None 1 (lines_of bytes)) (sym (append-nil w.moments))
+      ∙ w.so_far []
+      ∙ ap (λ bs. option_map (before text) (script p n (lines_of bs) [])) none
+      ∙ ap (λ t. Some (let o : Output = record { text = t; status = 0 } in o)) (append-nil text),
+)
 
 -- sound facts where none are published
 pub published_once : (p : Option Publication) (n : ℕ) (facts : Facts) (q : Publication) (text : List ℕ) → is_some p ≡ false → publication_of facts ≡ Some q

@@ -30,14 +30,16 @@ item_of d = record {
   conditions = listed [];
   delegate = false;
   mask = None;
-  filter = None }
+  filter = None;
+}
 
 unfoldable pub policy_resource_of : List ℕ × Data → PolicyResource
 policy_resource_of p = record {
   level = chars p.0;
   values = list_at text_of key.Values p.1;
   excludes = false;
-  recursive = false }
+  recursive = false;
+}
 
 unfoldable pub policy_of : Data → Policy
 policy_of d = record {
@@ -60,7 +62,8 @@ policy_of d = record {
   zone = [];
   deny_all_else = false;
   enabled = bool_at true key.IsEnabled d;
-  audited = bool_at true key.IsAuditEnabled d }
+  audited = bool_at true key.IsAuditEnabled d;
+}
 
 unfoldable pub level_of : Data → Level
 level_of d = record {
@@ -71,7 +74,8 @@ level_of d = record {
   recursive = false;
   excludes = false;
   wild = truth_word_at true key.WildCard (within key.MatcherOptions d);
-  fold = truth_word_at true key.IgnoreCase (within key.MatcherOptions d) }
+  fold = truth_word_at true key.IgnoreCase (within key.MatcherOptions d);
+}
 
 unfoldable pub access_type_of : Data → AccessType
 access_type_of d = record { name = text_at key.Name d; implied = list_at text_of key.ImpliedGrants d }
@@ -86,7 +90,8 @@ service_def_of d = record {
   mask_access = listed [];
   mask_levels = listed [];
   filter_access = listed [];
-  filter_levels = listed [] }
+  filter_levels = listed [];
+}
 
 unfoldable pub facts_of : Data → Facts
 facts_of d = record {
@@ -101,7 +106,8 @@ facts_of d = record {
   tag_rows = listed [];
   time_zones = listed [];
   policy_version = record { 0 = u64_at 1 key.PolicyVersion d };
-  tag_version = record { 0 = u64_at 1 key.TagVersion d } }
+  tag_version = record { 0 = u64_at 1 key.TagVersion d };
+}
 
 unfoldable pub element_of : List ℕ × Data → Element
 element_of p = record { level = chars p.0; value = text_of p.1 }
@@ -118,4 +124,5 @@ request_of now d = record {
   access = text_at key.AccessType d;
   moment = record { 0 = i64_at now.0 key.AccessTime d };
   address = [];
-  context = listed [] }
+  context = listed [];
+}

@@ -58,7 +58,9 @@ fn resource_built(def: &ServiceDef, resource: &PolicyResource) -> bool
 fn resources_built(def: &ServiceDef, resources: &[PolicyResource]) -> bool
     ensures { result ≡ list_all (resource_built def.now) resources.now }
 {
-    resources.iter().all(|resource| resource_built(def, resource))
+    resources
+        .iter()
+        .all(|resource| resource_built(def, resource))
 }
 
 fn is_plain(def: &ServiceDef, name: &str) -> bool
@@ -73,7 +75,9 @@ fn is_plain(def: &ServiceDef, name: &str) -> bool
 fn entries_built(def: &ServiceDef, entries: &[AccessEntry]) -> bool
     ensures { result ≡ list_all (entry_built def.now) entries.now }
 {
-    entries.iter().all(|entry| is_plain(def, entry.access.as_str()))
+    entries
+        .iter()
+        .all(|entry| is_plain(def, entry.access.as_str()))
 }
 
 #[tactic(auto, using(crate::proofs::Macros::macros))]
@@ -106,7 +110,8 @@ fn policy_built(def: &ServiceDef, policy: &Policy) -> bool
     ensures { result ≡ policy_built def.now policy.now }
 {
     policy.resources.len() == 1
-        && (resources_built(def, policy.resources.as_slice()) && items_built(def, policy.items.as_slice()))
+        && (resources_built(def, policy.resources.as_slice())
+            && items_built(def, policy.items.as_slice()))
 }
 
 fn policies_built(def: &ServiceDef, policies: &[Policy]) -> bool

@@ -8,13 +8,14 @@ mod lines;
 mod program;
 mod reading;
 mod script;
+#[cfg(test)]
+mod tests;
 mod writing;
 
 use program::run;
 use rg_ports::{StdSink, StdSource, WallClock};
-use std::env;
-use std::io;
 use std::process::ExitCode;
+use std::{env, io};
 
 fn main(rt: HostRuntime) -> io::Result<ExitCode> {
     let alloc = rt.alloc();
@@ -22,6 +23,13 @@ fn main(rt: HostRuntime) -> io::Result<ExitCode> {
     let mut source = StdSource::new(rt.stdin());
     let mut sink = StdSink::new(rt.stdout());
     let mut clock = WallClock(rt.clone()?);
-    let status = run(&rt, alloc, words.as_slice(), &mut source, &mut sink, &mut clock);
+    let status = run(
+        &rt,
+        alloc,
+        words.as_slice(),
+        &mut source,
+        &mut sink,
+        &mut clock,
+    );
     Ok(ExitCode::from(status))
 }

@@ -24,13 +24,22 @@ fn command_of(words: &[String]) -> Option<Command>
     ensures { result ≡ command_of (map string_bytes words.now) }
 {
     match words {
-        [word] => if word.as_str() == "replay" { Some(Command::Replay) } else { None },
+        [word] => if word.as_str() == "replay" {
+            Some(Command::Replay)
+        } else {
+            None
+        },
         _ => None,
     }
 }
 
 /// Works the script that the source gives.
-fn replay<S: Source, K: Sink, C: Clock>(alloc: Global, source: &mut S, sink: &mut K, clock: &mut C) -> u8
+fn replay<S: Source, K: Sink, C: Clock>(
+    alloc: Global,
+    source: &mut S,
+    sink: &mut K,
+    clock: &mut C,
+) -> u8
     ensures statuses { (result ≡ 0) ⊎ ((result ≡ 2) ⊎ ((result ≡ 3) ⊎ ((result ≡ 4) ⊎ ((result ≡ 6) ⊎ (result ≡ 9))))) }
     ensures replays { (result ≡ 0) ⊎ (result ≡ 2) → (bytes : List ℕ) → S.left source.old ≡ Some bytes →
         Replays bytes (C.given clock.old) (C.given clock.new) (K.held sink.old) (K.held sink.new) result }
@@ -110,7 +119,10 @@ pub fn run<R, S: Source, K: Sink, C: Clock>(
 {
     match command_of(words) {
         Some(Command::Replay) => replay(alloc, source, sink, clock),
-        None => match write_all(sink, b"usage: rangerd replay | serve ADDRESS LINKS | drill SEED POLICIES REQUESTS\n") {
+        None => match write_all(
+            sink,
+            b"usage: rangerd replay | serve ADDRESS LINKS | drill SEED POLICIES REQUESTS\n",
+        ) {
             Ok(()) => 1,
             Err(_) => 4,
         },

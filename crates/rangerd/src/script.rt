@@ -70,7 +70,13 @@ fn publication_of(alloc: Global, facts: Facts) -> Result<Option<Publication>, No
 
 /// Publishes the facts, where none are published and they are sound.
 #[tactic(auto, unfolding(crate::specs::Script::facts_outcome))]
-fn publish(alloc: Global, text: &mut String, published: &mut Published, number: u64, facts: Facts) -> Result<bool, NoMemory>
+fn publish(
+    alloc: Global,
+    text: &mut String,
+    published: &mut Published,
+    number: u64,
+    facts: Facts,
+) -> Result<bool, NoMemory>
     ensures { IfOk result (λ goes_on. let o = facts_outcome published.old.current number facts in
         (goes_on ≡ o.goes_on) × (published.new.current ≡ o.published) × (string_bytes text.new ≡ string_bytes text.old ++ o.text)) }
 {
@@ -101,7 +107,13 @@ fn answer(publication: &Publication, request: &AccessRequest) -> Answer
 
 /// Prints the decision, where facts are published.
 #[tactic(auto, unfolding(crate::specs::Script::decide_outcome))]
-fn decide(alloc: Global, text: &mut String, published: &Published, number: u64, request: &AccessRequest) -> Result<bool, NoMemory>
+fn decide(
+    alloc: Global,
+    text: &mut String,
+    published: &Published,
+    number: u64,
+    request: &AccessRequest,
+) -> Result<bool, NoMemory>
     ensures { IfOk result (λ goes_on. let o = decide_outcome published.now.current number request.now in
         (goes_on ≡ o.goes_on) × (published.now.current ≡ o.published) × (string_bytes text.new ≡ string_bytes text.old ++ o.text)) }
 {
@@ -156,5 +168,8 @@ pub(crate) fn work<C: Clock>(alloc: Global, bytes: &[u8], clock: &mut C) -> Resu
         rest = more;
         number += 1;
     }
-    Ok(Worked { text, is_bad: false })
+    Ok(Worked {
+        text,
+        is_bad: false,
+    })
 }

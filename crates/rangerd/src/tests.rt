@@ -8,16 +8,21 @@ use std::alloc::Global;
 use std::process::Abort;
 use std::test::Fail;
 
-/// Facts over a small definition: level `database` without and `url` with the case of letters, `drop` implied by `all`.
-const FACTS: &str = r#"facts {"service":"s","serviceDef":{"name":"d","resources":[{"name":"database"},{"name":"url","matcherOptions":{"ignoreCase":"false"}},{"name":"fixed","matcherOptions":{"wildCard":false}}],"accessTypes":[{"name":"select"},{"name":"drop"},{"name":"all","impliedGrants":["drop"]}]},"policies":[POLICIES]}"#;
+/// A definition with a level `database`, a level `url` where the case of letters counts, a level `fixed` without
+/// wildcards, and an access type `all` that implies `drop`.
+const HEAD: &str =
+    r#"facts {"service":"s","serviceDef":{"name":"d","resources":[{"name":"database"},{"name":"url","matcherOptions":{"ignoreCase":"false"}},{"name":"fixed","matcherOptions":{"wildCard":false}}],"accessTypes":[{"name":"select"},{"name":"drop"},{"name":"all","impliedGrants":["drop"]}]},"policies":["#;
 
-/// A decide line by a user, on a level with a value, for an access.
-const DECIDE: &str = r#"decide {"user":"USER","resource":{"elements":{"LEVEL":"VALUE"}},"accessType":"ACCESS"}"#;
+const USAGE: &str = "usage: rangerd replay | serve ADDRESS LINKS | drill SEED POLICIES REQUESTS\n";
 
-fn source(alloc: Global, script: &str, pieces: &[u32], fails: &[u64]) -> Result<MemSource, Fail>
+/// Policy 1, by which ann may select from database sales.
+const ANN: &str =
+    r#"{"id":1,"resources":{"database":{"values":["sales"]}},"policyItems":[{"users":["ann"],"accesses":[{"type":"select"}]}]}"#;
+
+fn source(alloc: Global, script: &[u8], pieces: &[u32], fails: &[u64]) -> Result<MemSource, Fail>
     requires { All (λ size. 0 < size) pieces.now }
 {
-    let bytes = Seq::from_vec(Vec::from_slice(alloc, script.as_bytes())?);
+    let bytes = Seq::from_vec(Vec::from_slice(alloc, script)?);
     let pieces = Seq::from_vec(Vec::from_slice(alloc, pieces)?);
     let fails = Seq::from_vec(Vec::from_slice(alloc, fails)?);
     Ok(MemSource::new(bytes, pieces, fails))
@@ -40,27 +45,434 @@ fn words_of(alloc: Global, line: &str) -> Result<Vec<String>, Fail> {
 }
 
 /// Runs over this source and sink, and compares the status and what the sink holds.
-fn check_over(rt: &impl Abort, alloc: Global, line: &str, mut source: MemSource, mut sink: MemSink, status: u8, printed: &str) -> Result<(), Fail> {
+fn check_over(
+    rt: &impl Abort,
+    alloc: Global,
+    line: &str,
+    source: MemSource,
+    sink: MemSink,
+    status: u8,
+    printed: &str,
+) -> Result<(), Fail> {
+    let mut source = source;
+    let mut sink = sink;
     let words = words_of(alloc, line)?;
     let mut clock = ListClock::new(Seq::from_vec(Vec::from_slice(alloc, &[Moment(0)])?));
-    let answer = run(rt, alloc, words.as_slice(), &mut source, &mut sink, &mut clock);
+    let answer = run(
+        rt,
+        alloc,
+        words.as_slice(),
+        &mut source,
+        &mut sink,
+        &mut clock,
+    );
     assert_eq!(rt; answer, status);
     assert_eq!(rt; sink.held(), printed.as_bytes());
     Ok(())
 }
 
-fn check(rt: &impl Abort, alloc: Global, script: &str, status: u8, printed: &str) -> Result<(), Fail> {
+fn check(
+    rt: &impl Abort,
+    alloc: Global,
+    script: &[u8],
+    status: u8,
+    printed: &str,
+) -> Result<(), Fail> {
     let source = source(alloc, script, &[], &[])?;
     let sink = sink(alloc, &[], &[])?;
     check_over(rt, alloc, "replay", source, sink, status, printed)
 }
 
-fn check_words(rt: &impl Abort, alloc: Global, line: &str, status: u8, printed: &str) -> Result<(), Fail> {
-    let source = source(alloc, "", &[], &[])?;
-    let sink = sink(alloc, &[], &[])?;
-    check_over(rt, alloc, line, source, sink, status, printed)
+/// A script of one facts line with these policies, and one request of four words: user, level, value, access.
+fn script(alloc: Global, policies: &str, request: &str) -> Result<String, Fail> {
+    let mut text = String::from_str(alloc, HEAD)?;
+    text.push_str(policies)?;
+    text.push_str("]}\n")?;
+    let mut words = request.split_whitespace();
+    text.push_str(r#"decide {"user":""#)?;
+    text.push_str(words.next().unwrap_or(""))?;
+    text.push_str(r#"","resource":{"elements":{""#)?;
+    text.push_str(words.next().unwrap_or(""))?;
+    text.push_str(r#"":""#)?;
+    text.push_str(words.next().unwrap_or(""))?;
+    text.push_str(r#""}},"accessType":""#)?;
+    text.push_str(words.next().unwrap_or(""))?;
+    text.push_str("\"}\n")?;
+    Ok(text)
 }
 
-const USAGE: &str = "usage: rangerd replay | serve ADDRESS LINKS | drill SEED POLICIES REQUESTS\n";
+/// The decision line with this access, policy and truth value of audited.
+fn line(alloc: Global, access: &str, audited: &str, policy: &str) -> Result<String, Fail> {
+    let mut text = String::from_str(alloc, r#"{"access":""#)?;
+    text.push_str(access)?;
+    text.push_str(r#"","audited":"#)?;
+    text.push_str(audited)?;
+    text.push_str(r#","mask":null,"policyId":"#)?;
+    text.push_str(policy)?;
+    text.push_str(",\"policyVersion\":1,\"rowFilter\":null,\"serial\":1,\"tagVersion\":1}\n")?;
+    Ok(text)
+}
 
-const FIRST: &str = include_str!("../stdin");
+fn allows(
+    rt: &impl Abort,
+    alloc: Global,
+    policies: &str,
+    request: &str,
+    policy: &str,
+) -> Result<(), Fail> {
+    let script = script(alloc, policies, request)?;
+    let wanted = line(alloc, "ALLOWED", "true", policy)?;
+    check(rt, alloc, script.as_bytes(), 0, wanted.as_str())
+}
+
+fn denies(rt: &impl Abort, alloc: Global, policies: &str, request: &str) -> Result<(), Fail> {
+    let script = script(alloc, policies, request)?;
+    let wanted = line(alloc, "DENIED", "true", "-1")?;
+    check(rt, alloc, script.as_bytes(), 0, wanted.as_str())
+}
+
+/// Facts with these policies are a bad line.
+fn refuses(rt: &impl Abort, alloc: Global, policies: &str) -> Result<(), Fail> {
+    let script = script(alloc, policies, "ann database sales select")?;
+    check(rt, alloc, script.as_bytes(), 2, "bad line 1\n")
+}
+
+/// The request is a bad line.
+fn refuses_request(rt: &impl Abort, alloc: Global, request: &str) -> Result<(), Fail> {
+    let mut script = String::from_str(alloc, HEAD)?;
+    script.push_str("]}\ndecide ")?;
+    script.push_str(request)?;
+    check(rt, alloc, script.as_bytes(), 2, "bad line 2\n")
+}
+
+#[test]
+fn an_empty_source_prints_nothing(rt: HostRuntime) -> Result<(), Fail> {
+    check(&rt, rt.alloc(), b"", 0, "")?;
+    check(&rt, rt.alloc(), b"\n\r\n# a comment\n#", 0, "")
+}
+
+#[test]
+fn words_that_are_no_command(rt: HostRuntime) -> Result<(), Fail> {
+    for words in "|decide|help|--help|replay now|Replay".split('|') {
+        let source = source(rt.alloc(), b"", &[], &[])?;
+        let sink = sink(rt.alloc(), &[], &[])?;
+        check_over(&rt, rt.alloc(), words, source, sink, 1, USAGE)?;
+    }
+    Ok(())
+}
+
+#[test]
+fn the_first_decision(rt: HostRuntime) -> Result<(), Fail> {
+    allows(&rt, rt.alloc(), ANN, "ann database sales select", "1")?;
+    denies(&rt, rt.alloc(), ANN, "bob database sales select")?;
+    denies(&rt, rt.alloc(), ANN, "ann database hr select")?;
+    denies(&rt, rt.alloc(), ANN, "ann database sales drop")?;
+    denies(&rt, rt.alloc(), ANN, "ann url sales select")?;
+    denies(&rt, rt.alloc(), "", "ann database sales select")
+}
+
+#[test]
+fn the_least_id_is_named(rt: HostRuntime) -> Result<(), Fail> {
+    let both =
+        r#"{"id":9,"resources":{"database":{"values":["hr","sales"]}},"policyItems":[{"users":["ann"],"accesses":[{"type":"select"}]}]},{"id":4,"resources":{"database":{"values":["sales"]}},"policyItems":[{"users":["bob"],"accesses":[{"type":"drop"}]},{"users":["bob","ann"],"accesses":[{"type":"drop"},{"type":"select"}]}]}"#;
+    allows(&rt, rt.alloc(), both, "ann database sales select", "4")?;
+    allows(&rt, rt.alloc(), both, "ann database hr select", "9")
+}
+
+#[test]
+fn what_is_off_grants_nothing(rt: HostRuntime) -> Result<(), Fail> {
+    let disabled =
+        r#"{"id":1,"isEnabled":false,"resources":{"database":{"values":["sales"]}},"policyItems":[{"users":["ann"],"accesses":[{"type":"select"}]}]}"#;
+    denies(&rt, rt.alloc(), disabled, "ann database sales select")?;
+    let not_allowed =
+        r#"{"id":1,"resources":{"database":{"values":["sales"]}},"policyItems":[{"users":["ann"],"accesses":[{"type":"select","isAllowed":false}]}]}"#;
+    denies(&rt, rt.alloc(), not_allowed, "ann database sales select")
+}
+
+#[test]
+fn letters_fold_where_the_level_says_so(rt: HostRuntime) -> Result<(), Fail> {
+    allows(&rt, rt.alloc(), ANN, "ann database SALES select", "1")?;
+    denies(&rt, rt.alloc(), ANN, "ann DATABASE sales select")?;
+    denies(&rt, rt.alloc(), ANN, "Ann database sales select")?;
+    let url =
+        r#"{"id":1,"resources":{"url":{"values":["/a"]}},"policyItems":[{"users":["ann"],"accesses":[{"type":"select"}]}]}"#;
+    allows(&rt, rt.alloc(), url, "ann url /a select", "1")?;
+    denies(&rt, rt.alloc(), url, "ann url /A select")
+}
+
+#[test]
+fn audit_is_the_naming_policys(rt: HostRuntime) -> Result<(), Fail> {
+    let quiet =
+        r#"{"id":1,"isAuditEnabled":false,"resources":{"database":{"values":["sales"]}},"policyItems":[{"users":["ann"],"accesses":[{"type":"select"}]}]}"#;
+    let script = script(rt.alloc(), quiet, "ann database sales select")?;
+    let wanted = line(rt.alloc(), "ALLOWED", "false", "1")?;
+    check(&rt, rt.alloc(), script.as_bytes(), 0, wanted.as_str())
+}
+
+#[test]
+fn facts_that_are_not_sound(rt: HostRuntime) -> Result<(), Fail> {
+    let alloc = rt.alloc();
+    refuses(
+        &rt,
+        alloc,
+        r#"{"id":0,"resources":{"database":{"values":["a"]}}}"#,
+    )?;
+    refuses(
+        &rt,
+        alloc,
+        r#"{"id":1,"resources":{"schema":{"values":["a"]}}}"#,
+    )?;
+    refuses(
+        &rt,
+        alloc,
+        r#"{"id":1,"resources":{"database":{"values":[]}}}"#,
+    )?;
+    refuses(
+        &rt,
+        alloc,
+        r#"{"id":1,"resources":{"database":{"values":["a",""]}}}"#,
+    )?;
+    refuses(
+        &rt,
+        alloc,
+        r#"{"id":1,"resources":{"database":{"values":["a"]}},"policyItems":[{"users":["u"]}]}"#,
+    )?;
+    refuses(
+        &rt,
+        alloc,
+        r#"{"id":1,"resources":{"database":{"values":["a"]}},"policyItems":[{"accesses":[{"type":"select"}]}]}"#,
+    )?;
+    refuses(
+        &rt,
+        alloc,
+        r#"{"id":1,"resources":{"database":{"values":["a"]}},"policyItems":[{"users":["u"],"accesses":[{"type":"fly"}]}]}"#,
+    )?;
+    refuses(
+        &rt,
+        alloc,
+        r#"{"id":1,"resources":{"database":{"values":["a"]}}},{"id":1,"resources":{"database":{"values":["b"]}}}"#,
+    )
+}
+
+#[test]
+fn facts_that_are_not_built(rt: HostRuntime) -> Result<(), Fail> {
+    let alloc = rt.alloc();
+    refuses(&rt, alloc, r#"{"id":1}"#)?;
+    refuses(
+        &rt,
+        alloc,
+        r#"{"id":1,"resources":{"database":{"values":["a"]},"url":{"values":["a"]}}}"#,
+    )?;
+    refuses(
+        &rt,
+        alloc,
+        r#"{"id":1,"resources":{"fixed":{"values":["a"]}}}"#,
+    )?;
+    for value in "a*|?|{a".split('|') {
+        let mut policy = String::from_str(
+            alloc,
+            r#"{"id":1,"resources":{"database":{"values":["b",""#,
+        )?;
+        policy.push_str(value)?;
+        policy.push_str("\"]}}}")?;
+        refuses(&rt, alloc, policy.as_str())?;
+    }
+    for user in "{USER}|{OWNER}".split('|') {
+        let mut policy = String::from_str(
+            alloc,
+            r#"{"id":1,"resources":{"database":{"values":["b"]}},"policyItems":[{"users":["u",""#,
+        )?;
+        policy.push_str(user)?;
+        policy.push_str(r#""],"accesses":[{"type":"select"}]}]}"#)?;
+        refuses(&rt, alloc, policy.as_str())?;
+    }
+    refuses(
+        &rt,
+        alloc,
+        r#"{"id":1,"resources":{"database":{"values":["a"]}},"policyItems":[{"users":["u"],"accesses":[{"type":"all"}]}]}"#,
+    )
+}
+
+#[test]
+fn keys_that_are_not_built(rt: HostRuntime) -> Result<(), Fail> {
+    let alloc = rt.alloc();
+    for key in r#""policyType":0|"policyPriority":0|"conditions":[]|"denyPolicyItems":[]|"zoneName":""|"isDenyAllElse":false"#.split(
+        '|',
+    ) {
+        let mut policy = String::from_str(
+            alloc,
+            r#"{"id":1,"resources":{"database":{"values":["a"]}},"#,
+        )?;
+        policy.push_str(key)?;
+        policy.push_str("}")?;
+        refuses(&rt, alloc, policy.as_str())?;
+    }
+    for key in r#""groups":[]|"roles":[]|"delegateAdmin":false|"dataMaskInfo":{}|"rowFilterInfo":{"filterExpr":"x"}|"rowFilterInfo":1"#.split(
+        '|',
+    ) {
+        let mut policy = String::from_str(
+            alloc,
+            r#"{"id":1,"resources":{"database":{"values":["a"]}},"policyItems":[{"users":["u"],"accesses":[{"type":"select"}],"#,
+        )?;
+        policy.push_str(key)?;
+        policy.push_str("}]}")?;
+        refuses(&rt, alloc, policy.as_str())?;
+    }
+    Ok(())
+}
+
+#[test]
+fn nulls_and_unknown_keys_count_as_missing(rt: HostRuntime) -> Result<(), Fail> {
+    let policy =
+        r#"{"id":1,"other":{"id":5},"policyType":null,"isEnabled":null,"resources":{"database":{"values":["sales"],"isExcludes":null}},"policyItems":[{"users":["ann"],"groups":null,"rowFilterInfo":{},"accesses":[{"type":"select","isAllowed":null}]}]}"#;
+    allows(&rt, rt.alloc(), policy, "ann database sales select", "1")
+}
+
+#[test]
+fn policies_that_do_not_read(rt: HostRuntime) -> Result<(), Fail> {
+    let alloc = rt.alloc();
+    for policy in r#"1|null|{"id":1.5}|{"id":"1"}|{"version":-1}|{"name":7}|{"resources":[]}|{"resources":{"database":null}}|{"policyItems":[{"accesses":[{}]}]}|{"isEnabled":"true"}"#.split(
+        '|',
+    ) {
+        refuses(&rt, alloc, policy)?;
+    }
+    Ok(())
+}
+
+#[test]
+fn requests_that_do_not_read(rt: HostRuntime) -> Result<(), Fail> {
+    let alloc = rt.alloc();
+    refuses_request(&rt, alloc, "{}")?;
+    refuses_request(&rt, alloc, "[]")?;
+    refuses_request(&rt, alloc, "{")?;
+    refuses_request(
+        &rt,
+        alloc,
+        r#"{"user":"","resource":{"elements":{"database":"a"}},"accessType":"select"}"#,
+    )?;
+    refuses_request(
+        &rt,
+        alloc,
+        r#"{"user":"u","resource":{"elements":{}},"accessType":"select"}"#,
+    )?;
+    refuses_request(
+        &rt,
+        alloc,
+        r#"{"user":"u","resource":{"elements":{"database":"a","url":"b"}},"accessType":"select"}"#,
+    )?;
+    refuses_request(
+        &rt,
+        alloc,
+        r#"{"user":"u","resource":{"elements":{"":"a"}},"accessType":"select"}"#,
+    )?;
+    refuses_request(
+        &rt,
+        alloc,
+        r#"{"user":"u","resource":{"elements":{"database":1}},"accessType":"select"}"#,
+    )?;
+    refuses_request(
+        &rt,
+        alloc,
+        r#"{"user":"u","resource":{"elements":{"database":"a"}}}"#,
+    )?;
+    refuses_request(
+        &rt,
+        alloc,
+        r#"{"user":"u","resource":{"elements":{"database":"a"}},"accessType":"select","accessTime":"now"}"#,
+    )?;
+    refuses_request(
+        &rt,
+        alloc,
+        r#"{"user":"u","resource":{"elements":{"database":"a"}},"accessType":"select","userGroups":[]}"#,
+    )?;
+    refuses_request(
+        &rt,
+        alloc,
+        r#"{"user":"u","resource":{"elements":{"database":"a"},"ownerUser":"o"},"accessType":"select"}"#,
+    )
+}
+
+#[test]
+fn lines_out_of_place(rt: HostRuntime) -> Result<(), Fail> {
+    let alloc = rt.alloc();
+    check(&rt, alloc, b"decide {}", 2, "bad line 1\n")?;
+    check(&rt, alloc, b"\n#\nhello\n", 2, "bad line 3\n")?;
+    check(&rt, alloc, b"config {}", 2, "bad line 1\n")?;
+    check(&rt, alloc, b" facts {}", 2, "bad line 1\n")?;
+    check(&rt, alloc, b"facts\t{}", 2, "bad line 1\n")?;
+    check(&rt, alloc, b"facts \xff", 2, "bad line 1\n")?;
+    let first = script(alloc, ANN, "ann database sales select")?;
+    let mut twice = String::from_str(alloc, first.as_str())?;
+    twice.push_str(first.as_str())?;
+    let mut wanted = line(alloc, "ALLOWED", "true", "1")?;
+    wanted.push_str("bad line 3\n")?;
+    check(&rt, alloc, twice.as_bytes(), 2, wanted.as_str())
+}
+
+#[test]
+fn a_bad_line_keeps_the_output_before_it(rt: HostRuntime) -> Result<(), Fail> {
+    let mut script = script(rt.alloc(), ANN, "ann database sales select")?;
+    script.push_str("hello")?;
+    let mut wanted = line(rt.alloc(), "ALLOWED", "true", "1")?;
+    wanted.push_str("bad line 3\n")?;
+    check(&rt, rt.alloc(), script.as_bytes(), 2, wanted.as_str())
+}
+
+#[test]
+fn returns_before_feeds_are_dropped(rt: HostRuntime) -> Result<(), Fail> {
+    let alloc = rt.alloc();
+    let script = script(alloc, ANN, "ann database sales select")?;
+    let mut text = String::new(alloc);
+    for part in script.as_str().split('\n') {
+        text.push_str(part)?;
+        text.push_str("\r\n")?;
+    }
+    let wanted = line(alloc, "ALLOWED", "true", "1")?;
+    check(&rt, alloc, text.as_bytes(), 0, wanted.as_str())
+}
+
+#[test]
+fn short_reads_and_writes_change_nothing(rt: HostRuntime) -> Result<(), Fail> {
+    let alloc = rt.alloc();
+    let script = script(alloc, ANN, "ann database sales select")?;
+    let wanted = line(alloc, "ALLOWED", "true", "1")?;
+    let source = source(alloc, script.as_bytes(), &[7, 1, 3], &[])?;
+    let sink = sink(alloc, &[1], &[])?;
+    check_over(&rt, alloc, "replay", source, sink, 0, wanted.as_str())
+}
+
+#[test]
+fn a_source_that_fails_at_its_second_read(rt: HostRuntime) -> Result<(), Fail> {
+    let alloc = rt.alloc();
+    let script = script(alloc, ANN, "ann database sales select")?;
+    let source = source(alloc, script.as_bytes(), &[], &[2])?;
+    let sink = sink(alloc, &[], &[])?;
+    check_over(&rt, alloc, "replay", source, sink, 3, "")
+}
+
+#[test]
+fn a_sink_that_fails(rt: HostRuntime) -> Result<(), Fail> {
+    let alloc = rt.alloc();
+    let script = script(alloc, ANN, "ann database sales select")?;
+    let first = source(alloc, script.as_bytes(), &[], &[])?;
+    check_over(&rt, alloc, "replay", first, sink(alloc, &[], &[1])?, 4, "")?;
+    let second = source(alloc, script.as_bytes(), &[], &[])?;
+    check_over(
+        &rt,
+        alloc,
+        "replay",
+        second,
+        sink(alloc, &[1], &[2])?,
+        4,
+        "{",
+    )
+}
+
+#[test]
+fn the_longest_line(rt: HostRuntime) -> Result<(), Fail> {
+    let alloc = rt.alloc();
+    let mut bytes = vec![in alloc; b'#'; 1_048_576]?;
+    check(&rt, alloc, bytes.as_slice(), 0, "")?;
+    bytes.push(b'#')?;
+    check(&rt, alloc, bytes.as_slice(), 6, "too long\n")
+}

@@ -47,7 +47,11 @@ impl FromJson for Text {
 
 /// The record of a field; that of null, where it is missing.
 #[tactic(auto, unfolding(crate::specs::Fields::within))]
-pub(crate) fn record_at<X: FromJson + Drop>(alloc: Global, value: &Value, key: Key) -> Result<X, NoMemory>
+pub(crate) fn record_at<X: FromJson + Drop>(
+    alloc: Global,
+    value: &Value,
+    key: Key,
+) -> Result<X, NoMemory>
     ensures { IfOk result (λ x. x ≡ X.reading (within key (view value.now))) }
 {
     match find(value, key) {
@@ -74,7 +78,10 @@ fn read_each<X: FromJson + Drop>(alloc: Global, values: &[Value]) -> Result<Seq<
 }
 
 /// Each member in turn.
-fn read_members<X: FromMember + Drop>(alloc: Global, members: &Map<String, Value>) -> Result<Seq<X>, NoMemory>
+fn read_members<X: FromMember + Drop>(
+    alloc: Global,
+    members: &Map<String, Value>,
+) -> Result<Seq<X>, NoMemory>
     ensures { IfOk result (λ xs. xs ≡ listed (map X.member_reading (map (λ m. (string_bytes m.0, view m.1)) members.now.entries))) }
 {
     let mut read = Seq::new(alloc);
@@ -89,7 +96,11 @@ fn read_members<X: FromMember + Drop>(alloc: Global, members: &Map<String, Value
 
 /// The items of a field.
 #[tactic(auto, unfolding(crate::specs::Fields::list_at))]
-pub(crate) fn list_at<X: FromJson + Drop>(alloc: Global, value: &Value, key: Key) -> Result<Seq<X>, NoMemory>
+pub(crate) fn list_at<X: FromJson + Drop>(
+    alloc: Global,
+    value: &Value,
+    key: Key,
+) -> Result<Seq<X>, NoMemory>
     ensures { IfOk result (λ xs. xs ≡ list_at X.reading key (view value.now)) }
 {
     read_each(alloc, items_at(value, key))
@@ -97,7 +108,11 @@ pub(crate) fn list_at<X: FromJson + Drop>(alloc: Global, value: &Value, key: Key
 
 /// The members of a field, in byte order of their keys.
 #[tactic(auto, unfolding(crate::specs::Fields::map_at))]
-pub(crate) fn map_at<X: FromMember + Drop>(alloc: Global, value: &Value, key: Key) -> Result<Seq<X>, NoMemory>
+pub(crate) fn map_at<X: FromMember + Drop>(
+    alloc: Global,
+    value: &Value,
+    key: Key,
+) -> Result<Seq<X>, NoMemory>
     ensures { IfOk result (λ xs. xs ≡ map_at X.member_reading key (view value.now)) }
 {
     match members_at(value, key) {

@@ -49,7 +49,11 @@ fn decision_text(alloc: Global, answer: &Answer) -> Result<String, AllocError>
 }
 
 /// Prints the decision line.
-pub(crate) fn print_decision(alloc: Global, text: &mut String, answer: &Answer) -> Result<(), NoMemory>
+pub(crate) fn print_decision(
+    alloc: Global,
+    text: &mut String,
+    answer: &Answer,
+) -> Result<(), NoMemory>
     ensures { OnOk result (string_bytes text.new ≡ string_bytes text.old ++ decision_line answer.now) }
 {
     let Ok(decision) = decision_text(alloc, answer) else {

@@ -3,12 +3,15 @@ ghost use Rattle.std.specs.Prelude.{◌≡◌, IfOk};
 ghost use Rattle.serde_json.specs.View.{view};
 ghost use Rattle.rangerd.specs.Records.{request_of};
 
-use crate::json::fields::{bool_at, i64_at, text_at, text_in, inner_truth_word_at, u64_at};
+use crate::json::fields::{bool_at, i64_at, inner_truth_word_at, text_at, text_in, u64_at};
 use crate::json::key::Key;
 use crate::json::lists::{FromJson, FromMember, list_at, map_at, record_at};
 use rg_base::{Moment, NoMemory, PolicyId, Seq, Text, Version};
 use rg_facts::Facts;
-use rg_policy::{AccessEntry, AccessRequest, AccessType, Element, Item, Level, Policy, PolicyResource, Resource, ServiceDef};
+use rg_policy::{
+    AccessEntry, AccessRequest, AccessType, Element, Item, Level, Policy, PolicyResource, Resource,
+    ServiceDef,
+};
 use serde_json::Value;
 use std::alloc::Global;
 
@@ -207,7 +210,11 @@ impl FromJson for Resource {
 
 /// A request; one without a time is made now.
 #[tactic(auto, unfolding(crate::specs::Records::request_of))]
-pub(crate) fn read_request(alloc: Global, value: &Value, now: Moment) -> Result<AccessRequest, NoMemory>
+pub(crate) fn read_request(
+    alloc: Global,
+    value: &Value,
+    now: Moment,
+) -> Result<AccessRequest, NoMemory>
     ensures { IfOk result (λ request. request ≡ request_of now (view value.now)) }
 {
     let seconds = i64_at(value, Key::AccessTime, now.0);

@@ -111,9 +111,7 @@ impl Kind {
                 Field(Key::DataMaskInfo, Need::May, Kind::Unbuilt),
                 Field(Key::RowFilterInfo, Need::May, Kind::FilterInfo),
             ]),
-            Kind::FilterInfo => Form::Record(&[
-                Field(Key::FilterExpr, Need::May, Kind::Unbuilt),
-            ]),
+            Kind::FilterInfo => Form::Record(&[Field(Key::FilterExpr, Need::May, Kind::Unbuilt)]),
             Kind::PolicyResource => Form::Record(&[
                 Field(Key::Values, Need::May, Kind::Texts),
                 Field(Key::IsExcludes, Need::May, Kind::Unbuilt),

@@ -10,7 +10,7 @@ lines-init g c = record { told = rw c.new-text.ensures.bytes (begun _ c.args.byt
 pub lines-preserved : goal.lines-preserved
 lines-preserved g c = record {
   told = stepped _ _ _ _ _ _ _ _ _ _ _ _ _ c.lines.invariant.told c.split_line.ensures.lines c.now-now.ensures
-    (sym c.in_ok-work_line.ensures.0 ∙ c.if-not-branch.false) c.in_ok-work_line.ensures.1 c.in_ok-work_line.ensures.2;
+      (sym c.in_ok-work_line.ensures.0 ∙ c.if-not-branch.false) c.in_ok-work_line.ensures.1 c.in_ok-work_line.ensures.2;
   bound = omega (arith, c.lines.invariant.bound, c.split_line.ensures.shorter);
 }
 

@@ -7,6 +7,6 @@ use Rattle.rangerd.proofs.json.lists.read_members.Given as goal
 abbrev pub invariant-loop-key : goal.invariant-loop-key
 invariant-loop-key g l = record {
   whole : l.read.items ++ map g.X.FromMember.member_reading (map (λ m. (string_bytes m.0, view m.1)) l.key-iterator)
-    ≡ map g.X.FromMember.member_reading (map (λ m. (string_bytes m.0, view m.1)) l.members.entries);
+      ≡ map g.X.FromMember.member_reading (map (λ m. (string_bytes m.0, view m.1)) l.members.entries);
   spare : l.read ≡ listed l.read.items;
 }
