@@ -14,3 +14,6 @@ pub use seq::Seq;
 pub use steps::{Counted, Ledger, Silent, StepKind, Steps};
 pub use tally::Tally;
 pub use text::{Text, char_count, same_folded, same_text, split_char};
+
+#[cfg(test)]
+mod tests;

@@ -115,9 +115,7 @@ fn resources_sound(def: &ServiceDef, resources: &[PolicyResource]) -> bool
 fn entries_sound(def: &ServiceDef, entries: &[AccessEntry]) -> bool
     ensures { result ≡ list_all (entry_sound def.now) entries.now }
 {
-    entries
-        .iter()
-        .all(|entry| access_type_of(def, entry.access.as_str()).is_some())
+    entries.iter().all(|entry| access_type_of(def, entry.access.as_str()).is_some())
 }
 
 fn item_sound(def: &ServiceDef, item: &Item) -> bool

@@ -16,3 +16,6 @@ pub use roles::RoleRow;
 pub use service_def::{AccessType, ConditionDef, Level, MaskType, ServiceDef};
 pub use tags::{Tag, TagRow};
 pub use zones::{Subjects, ZoneLevel, ZoneRow, ZoneService};
+
+#[cfg(test)]
+mod tests;

@@ -1,0 +1,86 @@
+// That calls succeed with ample memory, and what they then give.
+use crate::{
+    NoMemory, Seq, Silent, Steps, Text, TryCopy, char_count, same_folded, same_text, split_char,
+};
+
+#[test]
+fn text_grows_by_characters(rt: HostRuntime) {
+    let mut text = Text::copy_of(rt.alloc(), "a\u{1f600}").expect(&rt, "ample memory");
+    text.push('\u{1f601}').expect(&rt, "ample memory");
+    let again = text.try_copy(rt.alloc()).expect(&rt, "ample memory");
+    assert_eq!(rt; again.as_str(), "a\u{1f600}\u{1f601}");
+    assert_eq!(rt; char_count(again.as_str()), 3);
+    assert_eq!(rt; Text::empty(rt.alloc()).as_str(), "");
+}
+
+#[test]
+fn only_ascii_letters_are_folded(rt: HostRuntime) {
+    for (a, b, same, folded) in [
+        ("sales", "sales", true, true),
+        ("sales", "SaLeS", false, true),
+        ("sales", "sale", false, false),
+        ("[", "{", false, false),
+        ("\u{e9}", "\u{c9}", false, false),
+        ("k", "\u{212a}", false, false),
+    ] {
+        assert_eq!(rt; same_text(a, b), same, "{a} {b}");
+        assert_eq!(rt; same_folded(a, b), folded, "{a} {b}");
+    }
+}
+
+#[test]
+fn the_first_character_is_split_off(rt: HostRuntime) {
+    assert_eq!(rt; split_char("\u{1f600}ab"), Some(('\u{1f600}', "ab")));
+    assert_eq!(rt; split_char("a"), Some(('a', "")));
+    assert_eq!(rt; split_char(""), None);
+}
+
+/// Copied as itself.
+#[derive(Clone, Copy, Debug, PartialEq, Eq)]
+struct Mark(u8);
+
+impl TryCopy for Mark {
+    fn try_copy(&self, _alloc: std::alloc::Global) -> Result<Mark, NoMemory> {
+        Ok(*self)
+    }
+}
+
+#[test]
+fn lists_grow_at_the_end(rt: HostRuntime) {
+    let items = vec![in rt.alloc(); Mark(1), Mark(2)].expect(&rt, "ample memory");
+    let mut list = Seq::from_vec(items);
+    list.reserve().expect(&rt, "ample memory");
+    list.push(Mark(3)).expect(&rt, "a spare place");
+    list.push(Mark(4)).expect(&rt, "ample memory");
+    assert_eq!(rt; list.len(), 4);
+    assert!(rt; !list.is_empty());
+    let copy = list.try_copy(rt.alloc()).expect(&rt, "ample memory");
+    assert_eq!(rt; copy.as_slice(), list.as_slice());
+    let items = copy.into_vec();
+    assert_eq!(rt;
+        items.as_slice(),
+        [Mark(1), Mark(2), Mark(3), Mark(4)].as_slice()
+    );
+    let none: Seq<Mark> = Seq::new(rt.alloc());
+    assert!(rt; none.is_empty());
+}
+
+#[test]
+fn steps_are_kept_by_kind(rt: HostRuntime) {
+    let mut steps = Steps::counted();
+    for _ in 0..2 {
+        steps.compile();
+    }
+    steps.edit();
+    for _ in 0..3 {
+        steps.attempt();
+    }
+    assert_eq!(rt; steps.ledger().compiles, 2);
+    assert_eq!(rt; steps.ledger().edits, 1);
+    assert_eq!(rt; steps.ledger().tries, 3);
+    let mut silent = Steps::silent();
+    silent.compile();
+    silent.edit();
+    silent.attempt();
+    assert_eq!(rt; *silent.ledger(), Silent);
+}

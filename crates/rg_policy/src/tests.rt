@@ -1,0 +1,223 @@
+// That copies succeed with ample memory. What they are is proved.
+use crate::{
+    AccessEntry, AccessRequest, AccessType, Element, Item, Level, Policy, PolicyResource, Resource,
+    RoleRow, ServiceDef, Subjects, Tag, TagRow, ZoneLevel, ZoneRow, ZoneService,
+};
+use rg_base::{Moment, NoMemory, PolicyId, Seq, Text, TryCopy, Version};
+use std::alloc::Global;
+
+fn text(alloc: Global, written: &str) -> Result<Text, NoMemory> {
+    Text::copy_of(alloc, written)
+}
+
+fn one<T: Drop>(alloc: Global, item: T) -> Result<Seq<T>, NoMemory> {
+    let mut list = Seq::new(alloc);
+    match list.push(item) {
+        Ok(()) => Ok(list),
+        Err(_) => Err(NoMemory),
+    }
+}
+
+fn texts(alloc: Global, written: &str) -> Result<Seq<Text>, NoMemory> {
+    one(alloc, text(alloc, written)?)
+}
+
+fn entry(alloc: Global) -> Result<AccessEntry, NoMemory> {
+    Ok(AccessEntry {
+        access: text(alloc, "select")?,
+        allowed: true,
+    })
+}
+
+fn item(alloc: Global) -> Result<Item, NoMemory> {
+    Ok(Item {
+        accesses: one(alloc, entry(alloc)?)?,
+        users: texts(alloc, "ann")?,
+        groups: texts(alloc, "staff")?,
+        roles: Seq::new(alloc),
+        conditions: Seq::new(alloc),
+        delegate: true,
+        mask: None,
+        filter: None,
+    })
+}
+
+fn resource(alloc: Global) -> Result<PolicyResource, NoMemory> {
+    Ok(PolicyResource {
+        level: text(alloc, "db")?,
+        values: texts(alloc, "sales")?,
+        excludes: false,
+        recursive: true,
+    })
+}
+
+fn policy(alloc: Global) -> Result<Policy, NoMemory> {
+    Ok(Policy {
+        id: PolicyId(7),
+        guid: Text::empty(alloc),
+        version: Version(3),
+        service: Text::empty(alloc),
+        name: Text::empty(alloc),
+        policy_type: 0,
+        priority: 1,
+        resources: one(alloc, resource(alloc)?)?,
+        conditions: Seq::new(alloc),
+        items: one(alloc, item(alloc)?)?,
+        deny_items: Seq::new(alloc),
+        allow_exceptions: Seq::new(alloc),
+        deny_exceptions: Seq::new(alloc),
+        mask_items: Seq::new(alloc),
+        filter_items: Seq::new(alloc),
+        schedules: Seq::new(alloc),
+        zone: Text::empty(alloc),
+        deny_all_else: false,
+        enabled: true,
+        audited: true,
+    })
+}
+
+fn element(alloc: Global) -> Result<Element, NoMemory> {
+    Ok(Element {
+        level: text(alloc, "db")?,
+        value: text(alloc, "sales")?,
+    })
+}
+
+fn request(alloc: Global) -> Result<AccessRequest, NoMemory> {
+    Ok(AccessRequest {
+        user: text(alloc, "ann")?,
+        groups: texts(alloc, "staff")?,
+        resource: Resource {
+            elements: one(alloc, element(alloc)?)?,
+            owner: Text::empty(alloc),
+        },
+        access: Text::empty(alloc),
+        moment: Moment(-1),
+        address: Text::empty(alloc),
+        context: Seq::new(alloc),
+    })
+}
+
+fn level(alloc: Global) -> Result<Level, NoMemory> {
+    Ok(Level {
+        name: text(alloc, "db")?,
+        level: 10,
+        parent: Text::empty(alloc),
+        mandatory: true,
+        recursive: false,
+        excludes: true,
+        wild: false,
+        fold: true,
+    })
+}
+
+fn access_type(alloc: Global) -> Result<AccessType, NoMemory> {
+    Ok(AccessType {
+        name: text(alloc, "all")?,
+        implied: texts(alloc, "select")?,
+    })
+}
+
+fn definition(alloc: Global) -> Result<ServiceDef, NoMemory> {
+    Ok(ServiceDef {
+        name: Text::empty(alloc),
+        levels: one(alloc, level(alloc)?)?,
+        access_types: one(alloc, access_type(alloc)?)?,
+        conditions: Seq::new(alloc),
+        masks: Seq::new(alloc),
+        mask_access: Seq::new(alloc),
+        mask_levels: Seq::new(alloc),
+        filter_access: Seq::new(alloc),
+        filter_levels: Seq::new(alloc),
+    })
+}
+
+fn role(alloc: Global) -> Result<RoleRow, NoMemory> {
+    Ok(RoleRow {
+        name: text(alloc, "analyst")?,
+        users: texts(alloc, "ann")?,
+        groups: Seq::new(alloc),
+        roles: Seq::new(alloc),
+    })
+}
+
+fn subjects(alloc: Global) -> Subjects {
+    Subjects {
+        users: Seq::new(alloc),
+        groups: Seq::new(alloc),
+        roles: Seq::new(alloc),
+    }
+}
+
+fn zone_level(alloc: Global) -> Result<ZoneLevel, NoMemory> {
+    Ok(ZoneLevel {
+        level: text(alloc, "db")?,
+        values: texts(alloc, "sales")?,
+    })
+}
+
+fn zone_service(alloc: Global) -> Result<ZoneService, NoMemory> {
+    Ok(ZoneService {
+        service: text(alloc, "warehouse")?,
+        resources: one(alloc, one(alloc, zone_level(alloc)?)?)?,
+    })
+}
+
+fn zone(alloc: Global) -> Result<ZoneRow, NoMemory> {
+    Ok(ZoneRow {
+        name: Text::empty(alloc),
+        services: one(alloc, zone_service(alloc)?)?,
+        tag_services: Seq::new(alloc),
+        admins: subjects(alloc),
+        auditors: subjects(alloc),
+    })
+}
+
+fn tag(alloc: Global) -> Result<Tag, NoMemory> {
+    Ok(Tag {
+        kind: text(alloc, "PII")?,
+        attributes: Seq::new(alloc),
+    })
+}
+
+fn tag_row(alloc: Global) -> Result<TagRow, NoMemory> {
+    Ok(TagRow {
+        id: 12,
+        service: Text::empty(alloc),
+        resources: one(alloc, resource(alloc)?)?,
+        tags: one(alloc, tag(alloc)?)?,
+    })
+}
+
+/// A copy of what was made.
+fn copied<T: TryCopy + Drop>(alloc: Global, made: Result<T, NoMemory>) -> Result<T, NoMemory> {
+    made?.try_copy(alloc)
+}
+
+#[test]
+fn policies_and_requests_are_copied(rt: HostRuntime) {
+    let policy = copied(rt.alloc(), policy(rt.alloc())).expect(&rt, "ample memory");
+    assert_eq!(rt; policy.id, PolicyId(7));
+    assert_eq!(rt; policy.items.len(), 1);
+    assert!(rt; policy.audited);
+    let request = copied(rt.alloc(), request(rt.alloc())).expect(&rt, "ample memory");
+    assert_eq!(rt; request.moment, Moment(-1));
+    assert_eq!(rt; request.user.as_str(), "ann");
+}
+
+#[test]
+fn definitions_and_roles_are_copied(rt: HostRuntime) {
+    let def = copied(rt.alloc(), definition(rt.alloc())).expect(&rt, "ample memory");
+    assert_eq!(rt; def.access_types.len(), 1);
+    let role = copied(rt.alloc(), role(rt.alloc())).expect(&rt, "ample memory");
+    assert_eq!(rt; role.name.as_str(), "analyst");
+}
+
+#[test]
+fn zones_and_tag_rows_are_copied(rt: HostRuntime) {
+    let zone = copied(rt.alloc(), zone(rt.alloc())).expect(&rt, "ample memory");
+    assert_eq!(rt; zone.services.len(), 1);
+    let row = copied(rt.alloc(), tag_row(rt.alloc())).expect(&rt, "ample memory");
+    assert_eq!(rt; row.id, 12);
+    assert_eq!(rt; row.tags.len(), 1);
+}
