@@ -1,7 +1,9 @@
 // That calls succeed with ample memory, and what they then give.
 use crate::{
-    NoMemory, Seq, Silent, Steps, Text, TryCopy, char_count, same_folded, same_text, split_char,
+    NoMemory, Pair, Seq, Silent, Steps, Text, TryCopy, char_count, find_named, is_among, is_named,
+    names_distinct, place_named, same_folded, same_text, split_char, value_of,
 };
+use std::alloc::Global;
 
 #[test]
 fn text_grows_by_characters(rt: HostRuntime) {
@@ -83,4 +85,46 @@ fn steps_are_kept_by_kind(rt: HostRuntime) {
     silent.edit();
     silent.attempt();
     assert_eq!(rt; *silent.ledger(), Silent);
+}
+
+/// A name with a value, each a word of the line.
+fn pair(alloc: Global, line: &str) -> Result<Pair, NoMemory> {
+    let (key, value) = line.split_once(' ').unwrap_or((line, ""));
+    Ok(Pair {
+        key: Text::copy_of(alloc, key)?,
+        value: Text::copy_of(alloc, value)?,
+    })
+}
+
+#[test]
+fn the_first_pair_of_a_key_counts(rt: HostRuntime) {
+    let mut pairs = Vec::new(rt.alloc());
+    for line in ["a 1", "b 2", "a 3"] {
+        let made = pair(rt.alloc(), line).expect(&rt, "ample memory");
+        let copy = made.try_copy(rt.alloc()).expect(&rt, "ample memory");
+        pairs.push(copy).expect(&rt, "ample memory");
+    }
+    let found = value_of(pairs.as_slice(), "a").expect(&rt, "there");
+    assert_eq!(rt; found.as_str(), "1");
+    assert!(rt; value_of(pairs.as_slice(), "c").is_none());
+}
+
+#[test]
+fn things_are_found_by_name(rt: HostRuntime) {
+    let mut things = Vec::new(rt.alloc());
+    for name in ["a", "b", "ab"] {
+        let text = Text::copy_of(rt.alloc(), name).expect(&rt, "ample memory");
+        things.push(text).expect(&rt, "ample memory");
+    }
+    assert!(rt; names_distinct(things.as_slice()));
+    assert!(rt; is_among("b", things.as_slice()));
+    assert_eq!(rt; place_named(things.as_slice(), "ab"), Some(2));
+    assert_eq!(rt; place_named(things.as_slice(), "B"), None);
+    let mut text = Text::of(String::from_str(rt.alloc(), "a").expect(&rt, "ample memory"));
+    text.append("b").expect(&rt, "ample memory");
+    assert!(rt; is_named(things.as_slice(), text.as_str()));
+    things.push(text).expect(&rt, "ample memory");
+    assert!(rt; !names_distinct(things.as_slice()));
+    let found = find_named(things.as_slice(), "ab").expect(&rt, "there");
+    assert_eq!(rt; found.as_str(), "ab");
 }

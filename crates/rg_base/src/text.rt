@@ -1,7 +1,8 @@
 // Text, seen as its list of characters.
-ghost use Rattle.std.specs.Prelude.{◌≡◌, ◌∷◌, ◌++◌, [], IfOk, OnOk, OnErr, MatchOption, map, length};
+ghost use Rattle.std.specs.Prelude.{◌≡◌, ◌∷◌, ◌++◌, [], IfOk, OnOk, OnErr, MatchOption, map, length, string_bytes};
 ghost use Rattle.std.specs.Char.{to_ascii_lowercase};
 ghost use Rattle.std.specs.Str.{bytes_eq, chars, encode_utf8_all};
+ghost use Rattle.rg_base.specs.Texts.{alike, is_among, is_name};
 
 use crate::copies::TryCopy;
 use crate::numbers::NoMemory;
@@ -44,12 +45,30 @@ impl Text {
         }
     }
 
+    /// This text. It takes no memory.
+    pub fn of(held: String) -> Text
+        ensures { result ≡ chars (string_bytes held) }
+    {
+        Text { held }
+    }
+
     /// Adds a character at the end.
     pub fn push(&mut self, c: char) -> Result<(), NoMemory>
         ensures ok { OnOk result (self.new ≡ self.old ++ c ∷ []) }
         ensures err { OnErr result (self.new ≡ self.old) }
     {
         if self.held.push(c).is_err() {
+            return Err(NoMemory);
+        }
+        Ok(())
+    }
+
+    /// Adds a text at the end.
+    pub fn append(&mut self, text: &str) -> Result<(), NoMemory>
+        ensures ok { OnOk result (self.new ≡ self.old ++ chars text.now) }
+        ensures err { OnErr result (self.new ≡ self.old) }
+    {
+        if self.held.push_str(text).is_err() {
             return Err(NoMemory);
         }
         Ok(())
@@ -101,4 +120,30 @@ pub fn char_count(text: &str) -> usize
     ensures { result ≡ length (chars text.now) }
 {
     text.chars().count()
+}
+
+/// Whether the two texts are the same, up to the case of ASCII letters where `fold` is set.
+pub fn alike(fold: bool, a: &str, b: &str) -> bool
+    ensures { result ≡ alike fold (chars a.now) (chars b.now) }
+{
+    if fold {
+        same_folded(a, b)
+    } else {
+        same_text(a, b)
+    }
+}
+
+/// Whether the text is one of these.
+pub fn is_among(text: &str, texts: &[Text]) -> bool
+    ensures { result ≡ is_among (chars text.now) texts.now }
+{
+    texts.iter().any(|t| same_text(t.as_str(), text))
+}
+
+/// Whether the text has 1 to 256 characters, as every name has.
+pub fn is_name(text: &str) -> bool
+    ensures { result ≡ is_name (chars text.now) }
+{
+    let count = char_count(text);
+    0 < count && count <= 256
 }
