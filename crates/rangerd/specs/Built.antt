@@ -7,9 +7,9 @@ use Rattle.rg_policy.specs.declared.policy.Item.{Item}
 use Rattle.rg_policy.specs.declared.policy.Policy.{Policy}
 use Rattle.rg_policy.specs.declared.policy.PolicyResource.{PolicyResource}
 use Rattle.rg_policy.specs.declared.request.AccessRequest.{AccessRequest}
-use Rattle.rg_policy.specs.declared.service_def.AccessType.{AccessType}
-use Rattle.rg_policy.specs.declared.service_def.Level.{Level}
-use Rattle.rg_policy.specs.declared.service_def.ServiceDef.{ServiceDef}
+use Rattle.rg_defs.specs.declared.service_def.AccessType.{AccessType}
+use Rattle.rg_defs.specs.declared.service_def.Level.{Level}
+use Rattle.rg_defs.specs.declared.service_def.ServiceDef.{ServiceDef}
 use Rattle.rg_facts.specs.declared.facts.Facts.{Facts}
 use Rattle.rg_facts.specs.Flow.{level_of}
 use Rattle.rg_facts.specs.Sound.{access_type_of}

@@ -4,7 +4,7 @@ use Rattle.std.specs.List.{list_all}
 use Rattle.std.specs.Str.{chars}
 use Rattle.serde_json.specs.Data.{Data, Items, Members}
 use Rattle.serde_json.specs.Find.{as_bool, as_str, as_array, as_object, as_number, as_i64, as_u64}
-use Rattle.rg_facts.specs.Texts.{is_name as is_name_text}
+use Rattle.rg_base.specs.Texts.{is_name as is_name_text}
 use Rattle.rangerd.specs.declared.json.key.Key.{Key}
 use Rattle.rangerd.specs.declared.json.shape.Need.{Need}
 use Rattle.rangerd.specs.declared.json.shape.Need.TheVariants.{Must, May}

@@ -11,9 +11,9 @@ use Rattle.rg_policy.specs.declared.policy.PolicyResource.{PolicyResource}
 use Rattle.rg_policy.specs.declared.request.AccessRequest.{AccessRequest}
 use Rattle.rg_policy.specs.declared.request.Element.{Element}
 use Rattle.rg_policy.specs.declared.request.Resource.{Resource}
-use Rattle.rg_policy.specs.declared.service_def.AccessType.{AccessType}
-use Rattle.rg_policy.specs.declared.service_def.Level.{Level}
-use Rattle.rg_policy.specs.declared.service_def.ServiceDef.{ServiceDef}
+use Rattle.rg_defs.specs.declared.service_def.AccessType.{AccessType}
+use Rattle.rg_defs.specs.declared.service_def.Level.{Level}
+use Rattle.rg_defs.specs.declared.service_def.ServiceDef.{ServiceDef}
 use Rattle.rg_facts.specs.declared.facts.Facts.{Facts}
 use Rattle.rangerd.specs.declared.json.key.Key.TheVariants as key
 use Rattle.rangerd.specs.Fields.{within, text_of, text_at, bool_at, truth_word_at, i64_at, u64_at, list_at, map_at}

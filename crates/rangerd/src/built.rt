@@ -5,8 +5,9 @@ ghost use Rattle.std.specs.Str.{chars};
 ghost use Rattle.rangerd.specs.Built.{entry_built, facts_built, is_plain, is_special, is_wild, item_built, policy_built, request_built, resource_built, user_built, value_built};
 
 use rg_base::{Text, same_text, split_char};
+use rg_defs::ServiceDef;
 use rg_facts::{Facts, access_type_of, level_of};
-use rg_policy::{AccessEntry, AccessRequest, Item, Policy, PolicyResource, ServiceDef};
+use rg_policy::{AccessEntry, AccessRequest, Item, Policy, PolicyResource};
 
 /// Whether the request uses only what is built.
 pub(crate) fn request_built(request: &AccessRequest) -> bool

@@ -2,7 +2,7 @@
 use Rattle.std.proofs.Common.{◌≡◌, ◌&&◌, ◌<◌, ◌+◌, ℕ, zero, suc, Bool, true, false, not, List, [], ◌∷◌, length, drop, get_or, refl, ap, sym, ◌∙◌, add-one}
 use Rattle.std.proofs.Math.Seq.{drop-cons}
 use Rattle.std.specs.List.{list_any}
-use Rattle.rg_facts.specs.Texts.{all_distinct}
+use Rattle.rg_base.specs.Texts.{all_distinct}
 
 and_false : (b : Bool) → (b && false) ≡ false
 and_false true = refl

@@ -8,12 +8,12 @@ use Rattle.rg_policy.specs.declared.policy.Policy.{Policy}
 use Rattle.rg_policy.specs.declared.policy.PolicyResource.{PolicyResource}
 use Rattle.rg_policy.specs.declared.request.AccessRequest.{AccessRequest}
 use Rattle.rg_policy.specs.declared.request.Element.{Element}
-use Rattle.rg_policy.specs.declared.service_def.Level.{Level}
-use Rattle.rg_policy.specs.declared.service_def.ServiceDef.{ServiceDef}
+use Rattle.rg_defs.specs.declared.service_def.Level.{Level}
+use Rattle.rg_defs.specs.declared.service_def.ServiceDef.{ServiceDef}
 use Rattle.rg_facts.specs.declared.decision.Access.TheVariants.{Allowed, Denied}
 use Rattle.rg_facts.specs.declared.decision.Verdict.{Verdict}
 use Rattle.rg_facts.specs.declared.facts.Facts.{Facts}
-use Rattle.rg_facts.specs.Texts.{is_among, alike}
+use Rattle.rg_base.specs.Texts.{is_among, alike}
 
 -- the definition's level of this name
 abbrev pub level_of : ServiceDef → List ℕ → Option Level

@@ -1,4 +1,3 @@
 pub mod Flow
 pub mod Least
 pub mod Sound
-pub mod Texts

@@ -7,12 +7,12 @@ use Rattle.rg_policy.specs.declared.policy.AccessEntry.{AccessEntry}
 use Rattle.rg_policy.specs.declared.policy.Item.{Item}
 use Rattle.rg_policy.specs.declared.policy.Policy.{Policy}
 use Rattle.rg_policy.specs.declared.policy.PolicyResource.{PolicyResource}
-use Rattle.rg_policy.specs.declared.service_def.AccessType.{AccessType}
-use Rattle.rg_policy.specs.declared.service_def.Level.{Level}
-use Rattle.rg_policy.specs.declared.service_def.ServiceDef.{ServiceDef}
+use Rattle.rg_defs.specs.declared.service_def.AccessType.{AccessType}
+use Rattle.rg_defs.specs.declared.service_def.Level.{Level}
+use Rattle.rg_defs.specs.declared.service_def.ServiceDef.{ServiceDef}
 use Rattle.rg_facts.specs.declared.facts.Facts.{Facts}
 use Rattle.rg_facts.specs.Flow.{level_of}
-use Rattle.rg_facts.specs.Texts.{is_name, all_distinct}
+use Rattle.rg_base.specs.Texts.{is_name, all_distinct}
 
 -- the definition's access type of this name
 abbrev pub access_type_of : ServiceDef → List ℕ → Option AccessType

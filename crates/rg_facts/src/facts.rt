@@ -1,6 +1,7 @@
 // Everything that decisions for one service rest on.
 use rg_base::{NoMemory, Seq, Text, TryCopy, Version};
-use rg_policy::{Policy, RoleRow, ServiceDef, TagRow, TimeZoneRow, ZoneRow};
+use rg_defs::ServiceDef;
+use rg_policy::{Policy, RoleRow, TagRow, TimeZoneRow, ZoneRow};
 use std::alloc::Global;
 
 /// What is known of one service: its definition, policies, zones, roles and tags (Ranger's ServicePolicies with its

@@ -4,30 +4,11 @@ ghost use Rattle.std.specs.List.{list_any, filter};
 ghost use Rattle.std.specs.Str.{chars};
 ghost use Rattle.rg_facts.specs.Flow.{allows, folds, grants, in_play, is_hit, item_matches, least_of, level_of, lies};
 ghost use Rattle.rg_facts.specs.Least.{lesser};
-ghost use Rattle.rg_facts.specs.Texts.{alike, is_among};
+ghost use Rattle.rg_base.specs.Texts.{alike, is_among};
 
-use rg_base::{Text, same_folded, same_text};
-use rg_policy::{
-    AccessEntry, AccessRequest, Element, Item, Level, Policy, PolicyResource, ServiceDef,
-};
-
-/// Whether the text is one of these.
-pub(crate) fn is_among(text: &str, texts: &[Text]) -> bool
-    ensures { result ≡ is_among (chars text.now) texts.now }
-{
-    texts.iter().any(|t| same_text(t.as_str(), text))
-}
-
-/// Whether the texts are the same, up to the case of ASCII letters where it counts for nothing.
-fn alike(fold: bool, a: &str, b: &str) -> bool
-    ensures { result ≡ alike fold (chars a.now) (chars b.now) }
-{
-    if fold {
-        same_folded(a, b)
-    } else {
-        same_text(a, b)
-    }
-}
+use rg_base::{Text, alike, is_among, same_text};
+use rg_defs::{Level, ServiceDef};
+use rg_policy::{AccessEntry, AccessRequest, Element, Item, Policy, PolicyResource};
 
 /// The definition's level of this name, None where it has none.
 pub fn level_of<'a>(def: &'a ServiceDef, name: &str) -> Option<&'a Level>

@@ -11,4 +11,4 @@ pub use decision::{Access, Answer, Decision, ItemPlace, MaskText, Verdict};
 pub use facts::Facts;
 pub use flow::level_of;
 pub use plain::Plain;
-pub use sound::{access_type_of, is_name, is_sound};
+pub use sound::{access_type_of, is_sound};

@@ -3,27 +3,20 @@ ghost use Rattle.std.specs.Prelude.{◌≡◌, IfOk, option_map};
 ghost use Rattle.std.specs.List.{list_all, list_any};
 ghost use Rattle.std.specs.Str.{bytes_eq, chars};
 ghost use Rattle.rg_facts.specs.Sound.{access_type_of, def_sound, entry_sound, item_sound, policy_sound, resource_sound, same_id, sound, versions_fit};
-ghost use Rattle.rg_facts.specs.Texts.{all_distinct, is_name};
-ghost use Rattle.rg_policy.specs.declared.service_def.AccessType.{AccessType};
-ghost use Rattle.rg_policy.specs.declared.service_def.Level.{Level};
+ghost use Rattle.rg_base.specs.Texts.{all_distinct, is_name};
+ghost use Rattle.rg_defs.specs.declared.service_def.AccessType.{AccessType};
+ghost use Rattle.rg_defs.specs.declared.service_def.Level.{Level};
 
 use crate::facts::Facts;
 use crate::flow::level_of;
-use rg_base::{NoMemory, Text, char_count, same_text};
-use rg_policy::{AccessEntry, AccessType, Item, Level, Policy, PolicyResource, ServiceDef};
+use rg_base::{NoMemory, Text, is_name, same_text};
+use rg_defs::{AccessType, Level, ServiceDef};
+use rg_policy::{AccessEntry, Item, Policy, PolicyResource};
 use std::alloc::Global;
 use std::collections::BTreeSet;
 
 /// The greatest version that facts may have.
 const LAST_VERSION: u64 = 1 << 62;
-
-/// Whether the text has 1 to 256 characters, as names of users, levels and access types do.
-pub fn is_name(text: &str) -> bool
-    ensures { result ≡ is_name (chars text.now) }
-{
-    let count = char_count(text);
-    0 < count && count <= 256
-}
 
 fn versions_fit(facts: &Facts) -> bool
     ensures { result ≡ versions_fit facts.now }

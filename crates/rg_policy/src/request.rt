@@ -1,13 +1,6 @@
 // The records of a request (Ranger's RangerAccessRequest).
-use rg_base::{Moment, NoMemory, Seq, Text, TryCopy};
+use rg_base::{Moment, NoMemory, Pair, Seq, Text, TryCopy};
 use std::alloc::Global;
-
-/// A key with its value.
-#[derive(Drop)]
-pub struct Pair {
-    pub key: Text,
-    pub value: Text,
-}
 
 /// One resource level that a request names.
 #[derive(Drop)]
@@ -37,15 +30,6 @@ pub struct AccessRequest {
     /// The client's address, or empty.
     pub address: Text,
     pub context: Seq<Pair>,
-}
-
-impl TryCopy for Pair {
-    fn try_copy(&self, alloc: Global) -> Result<Pair, NoMemory> {
-        Ok(Pair {
-            key: self.key.try_copy(alloc)?,
-            value: self.value.try_copy(alloc)?,
-        })
-    }
 }
 
 impl TryCopy for Element {

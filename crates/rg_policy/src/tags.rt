@@ -1,7 +1,6 @@
 // The records of tagged resources (Ranger's ServiceTags).
 use crate::policy::PolicyResource;
-use crate::request::Pair;
-use rg_base::{NoMemory, Seq, Text, TryCopy};
+use rg_base::{NoMemory, Pair, Seq, Text, TryCopy};
 use std::alloc::Global;
 
 /// A tag with its attributes (RangerTag).

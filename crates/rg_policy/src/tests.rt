@@ -1,7 +1,7 @@
 // That copies succeed with ample memory. What they are is proved.
 use crate::{
-    AccessEntry, AccessRequest, AccessType, Element, Item, Level, Policy, PolicyResource, Resource,
-    RoleRow, ServiceDef, Subjects, Tag, TagRow, ZoneLevel, ZoneRow, ZoneService,
+    AccessEntry, AccessRequest, Element, Item, Policy, PolicyResource, Resource, RoleRow, Subjects,
+    Tag, TagRow, ZoneLevel, ZoneRow, ZoneService,
 };
 use rg_base::{Moment, NoMemory, PolicyId, Seq, Text, TryCopy, Version};
 use std::alloc::Global;
@@ -98,40 +98,6 @@ fn request(alloc: Global) -> Result<AccessRequest, NoMemory> {
     })
 }
 
-fn level(alloc: Global) -> Result<Level, NoMemory> {
-    Ok(Level {
-        name: text(alloc, "db")?,
-        level: 10,
-        parent: Text::empty(alloc),
-        mandatory: true,
-        recursive: false,
-        excludes: true,
-        wild: false,
-        fold: true,
-    })
-}
-
-fn access_type(alloc: Global) -> Result<AccessType, NoMemory> {
-    Ok(AccessType {
-        name: text(alloc, "all")?,
-        implied: texts(alloc, "select")?,
-    })
-}
-
-fn definition(alloc: Global) -> Result<ServiceDef, NoMemory> {
-    Ok(ServiceDef {
-        name: Text::empty(alloc),
-        levels: one(alloc, level(alloc)?)?,
-        access_types: one(alloc, access_type(alloc)?)?,
-        conditions: Seq::new(alloc),
-        masks: Seq::new(alloc),
-        mask_access: Seq::new(alloc),
-        mask_levels: Seq::new(alloc),
-        filter_access: Seq::new(alloc),
-        filter_levels: Seq::new(alloc),
-    })
-}
-
 fn role(alloc: Global) -> Result<RoleRow, NoMemory> {
     Ok(RoleRow {
         name: text(alloc, "analyst")?,
@@ -206,9 +172,7 @@ fn policies_and_requests_are_copied(rt: HostRuntime) {
 }
 
 #[test]
-fn definitions_and_roles_are_copied(rt: HostRuntime) {
-    let def = copied(rt.alloc(), definition(rt.alloc())).expect(&rt, "ample memory");
-    assert_eq!(rt; def.access_types.len(), 1);
+fn roles_are_copied(rt: HostRuntime) {
     let role = copied(rt.alloc(), role(rt.alloc())).expect(&rt, "ample memory");
     assert_eq!(rt; role.name.as_str(), "analyst");
 }

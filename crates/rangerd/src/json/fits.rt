@@ -10,8 +10,7 @@ ghost use Rattle.rangerd.specs.Shapes.{fields_from, shape_of};
 
 use crate::json::fields::{find, truth_word};
 use crate::json::shape::{Field, Form, Kind, Need};
-use rg_base::char_count;
-use rg_facts::is_name;
+use rg_base::{char_count, is_name};
 use serde_json::{Map, Value};
 
 /// Whether the text has at most 4,096 characters.

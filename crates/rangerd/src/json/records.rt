@@ -7,11 +7,9 @@ use crate::json::fields::{bool_at, i64_at, inner_truth_word_at, text_at, text_in
 use crate::json::key::Key;
 use crate::json::lists::{FromJson, FromMember, list_at, map_at, record_at};
 use rg_base::{Moment, NoMemory, PolicyId, Seq, Text, Version};
+use rg_defs::{AccessType, Level, ServiceDef};
 use rg_facts::Facts;
-use rg_policy::{
-    AccessEntry, AccessRequest, AccessType, Element, Item, Level, Policy, PolicyResource, Resource,
-    ServiceDef,
-};
+use rg_policy::{AccessEntry, AccessRequest, Element, Item, Policy, PolicyResource, Resource};
 use serde_json::Value;
 use std::alloc::Global;
 

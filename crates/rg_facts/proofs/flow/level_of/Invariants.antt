@@ -1,7 +1,7 @@
 use Rattle.std.proofs.Common.{◌≡◌, drop}
 use Rattle.std.specs.List.{find}
 use Rattle.std.specs.Str.{bytes_eq, chars}
-use Rattle.rg_policy.specs.declared.service_def.Level.{Level}
+use Rattle.rg_defs.specs.declared.service_def.Level.{Level}
 use Rattle.rg_facts.specs.Flow.{level_of}
 use Rattle.rg_facts.proofs.flow.level_of.Given as goal
 

@@ -1,7 +1,7 @@
 use Rattle.std.proofs.Common.{◌≡◌, drop}
 use Rattle.std.specs.List.{find}
 use Rattle.std.specs.Str.{bytes_eq, chars}
-use Rattle.rg_policy.specs.declared.service_def.AccessType.{AccessType}
+use Rattle.rg_defs.specs.declared.service_def.AccessType.{AccessType}
 use Rattle.rg_facts.specs.Sound.{access_type_of}
 use Rattle.rg_facts.proofs.sound.access_type_of.Given as goal
 

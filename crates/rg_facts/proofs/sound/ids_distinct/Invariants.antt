@@ -4,7 +4,7 @@ use Rattle.std.specs.List.{list_any}
 use Rattle.std.specs.Ordering.{int_cmp, int_eq}
 use Rattle.rg_policy.specs.declared.policy.Policy.{Policy}
 use Rattle.rg_facts.specs.Sound.{same_id}
-use Rattle.rg_facts.specs.Texts.{all_distinct}
+use Rattle.rg_base.specs.Texts.{all_distinct}
 use Rattle.rg_facts.proofs.sound.ids_distinct.Given as goal
 
 -- the ids from this place on were seen, each once

@@ -1,7 +1,7 @@
 use Rattle.std.proofs.Common.{◌≡◌, length}
 use Rattle.std.specs.Str.{bytes_eq}
-use Rattle.rg_policy.specs.declared.service_def.Level.{Level}
-use Rattle.rg_facts.specs.Texts.{all_distinct}
+use Rattle.rg_defs.specs.declared.service_def.Level.{Level}
+use Rattle.rg_base.specs.Texts.{all_distinct}
 use Rattle.rg_facts.proofs.sound.levels_distinct.Given as goal
 
 -- the rest decides

@@ -1,6 +1,5 @@
 // The records of a service definition (Ranger's RangerServiceDef).
-use crate::request::Pair;
-use rg_base::{NoMemory, Seq, Text, TryCopy};
+use rg_base::{Named, NoMemory, Pair, Seq, Text, TryCopy};
 use std::alloc::Global;
 
 /// A resource level (RangerResourceDef).
@@ -119,5 +118,37 @@ impl TryCopy for ServiceDef {
             filter_access: self.filter_access.try_copy(alloc)?,
             filter_levels: self.filter_levels.try_copy(alloc)?,
         })
+    }
+}
+
+impl Named for Level {
+    ghost named = { λ l. l.name };
+
+    fn name(&self) -> &str {
+        self.name.as_str()
+    }
+}
+
+impl Named for AccessType {
+    ghost named = { λ t. t.name };
+
+    fn name(&self) -> &str {
+        self.name.as_str()
+    }
+}
+
+impl Named for ConditionDef {
+    ghost named = { λ c. c.name };
+
+    fn name(&self) -> &str {
+        self.name.as_str()
+    }
+}
+
+impl Named for MaskType {
+    ghost named = { λ m. m.name };
+
+    fn name(&self) -> &str {
+        self.name.as_str()
     }
 }
