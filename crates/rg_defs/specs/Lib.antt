@@ -1,0 +1,5 @@
+pub mod Faults
+pub mod Grants
+pub mod Paths
+pub mod PathTests
+pub mod Rules
