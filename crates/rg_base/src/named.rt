@@ -1,5 +1,5 @@
 // Things with names, in lists.
-ghost use Rattle.std.specs.Prelude.{◌≡◌, option_map, position};
+ghost use Rattle.std.specs.Prelude.{◌≡◌, ◌<◌, IfSome, length, option_map, position};
 ghost use Rattle.std.specs.List.{find, list_any};
 ghost use Rattle.std.specs.Str.{bytes_eq, chars};
 ghost use Rattle.rg_base.specs.Texts.{all_distinct};
@@ -48,7 +48,8 @@ pub fn find_named<'a, T: Named>(things: &'a [T], name: &str) -> Option<&'a T>
 
 /// The place of the first thing of this name, None where there is none.
 pub fn place_named<T: Named>(things: &[T], name: &str) -> Option<usize>
-    ensures { result ≡ position (λ x. bytes_eq (T.named x) (chars name.now)) things.now }
+    ensures first { result ≡ position (λ x. bytes_eq (T.named x) (chars name.now)) things.now }
+    ensures within { IfSome result (λ place. place < length things.now) }
 {
     things
         .iter()
