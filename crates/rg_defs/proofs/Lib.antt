@@ -1,1 +1,4 @@
+pub mod Climbs
+pub mod Few
+pub mod Named
 pub mod Tags

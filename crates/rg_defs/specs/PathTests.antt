@@ -1,7 +1,9 @@
 -- The paths, computed.
-use Rattle.std.specs.Prelude.{ℕ, zero, suc, Bool, true, false, not, nat_eq, List, [], ◌∷◌, length, map, Option, Some, None, option_map, reverse, unwrap_or}
+use Rattle.std.specs.Prelude.{ℕ, zero, suc, Bool, true, false, not, ◌||◌, nat_eq, List, [], ◌∷◌, length, map, Option, Some, None, option_and_then, option_map, reverse, unwrap_or}
 use Rattle.std.specs.List.{filter, list_all, list_any, range_with_len, slice_get}
 use Rattle.std.specs.Str.{bytes_eq}
+use Rattle.rg_base.specs.Listed.{Listed, listed}
+use Rattle.rg_base.specs.Texts.{is_among}
 use Rattle.rg_defs.specs.declared.service_def.Level.{Level}
 use Rattle.rg_defs.specs.declared.service_def.ServiceDef.{ServiceDef}
 use Rattle.rg_defs.specs.Paths.{parent_of, place_of}
@@ -28,6 +30,10 @@ is_leaf levels place = not (list_any (λ (l : Level). is_some_place place (place
 abbrev pub paths_of : List Level → List (List ℕ)
 paths_of levels = map (path_to levels) (filter (is_leaf levels) (range_with_len 0 (length levels)))
 
+-- those to leaves at the first n places, as they are kept
+abbrev pub first_paths : List Level → ℕ → List (Listed ℕ)
+first_paths levels n = map (λ leaf. listed (path_to levels leaf)) (filter (is_leaf levels) (range_with_len 0 n))
+
 -- the level at this place has this name
 abbrev pub has_name : List Level → List ℕ → ℕ → Bool
 has_name levels name place = unwrap_or (option_map (λ (l : Level). bytes_eq l.name name) (slice_get levels place)) false
@@ -39,3 +45,18 @@ lies_on levels path name = list_any (has_name levels name) path
 -- levels of all these names lie on one path
 abbrev pub on_one_path : List Level → List (List ℕ) → Bool
 on_one_path levels names = list_any (λ path. list_all (lies_on levels path) names) (paths_of levels)
+
+-- the levels above that of this name, the nearest first
+abbrev pub ancestors : List Level → List ℕ → List ℕ
+ancestors levels name = climb levels (length levels) (option_and_then (parent_of levels) (place_of levels name))
+
+-- the level may be left out, or is named
+abbrev pub is_spared : List (List ℕ) → Level → Bool
+is_spared names l = not l.mandatory || is_among l.name names
+
+abbrev pub is_met : List Level → List (List ℕ) → ℕ → Bool
+is_met levels names place = unwrap_or (option_map (is_spared names) (slice_get levels place)) true
+
+-- every mandatory level above a named one is named
+abbrev pub mandatory_named : List Level → List (List ℕ) → Bool
+mandatory_named levels names = list_all (λ name. list_all (is_met levels names) (ancestors levels name)) names

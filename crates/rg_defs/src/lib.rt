@@ -2,11 +2,15 @@
 #![tactic(auto)]
 
 mod accesses;
+mod ancestors;
 mod check;
+mod level_paths;
 mod service_def;
 
 pub use accesses::{access_type_of, expand, grants};
+pub use ancestors::mandatory_named;
 pub use check::{DefFault, check_def};
+pub use level_paths::{level_of, on_one_path, paths};
 pub use service_def::{AccessType, ConditionDef, Level, MaskType, ServiceDef};
 
 #[cfg(test)]

@@ -1,0 +1,166 @@
+// The paths of a definition's levels.
+ghost use Rattle.std.specs.Prelude.{◌≡◌, ◌<◌, ◌≤◌, ◌+◌, ℕ, None, IfOk, IfSome, length, map, option_map, reverse};
+ghost use Rattle.std.specs.List.{list_all, list_any};
+ghost use Rattle.std.specs.Str.{chars};
+ghost use Rattle.rg_base.specs.Listed.{Listed, listed};
+ghost use Rattle.rg_defs.specs.Paths.{level_of, parent_of, place_of};
+ghost use Rattle.rg_defs.specs.PathTests.{climb, has_name, is_leaf, is_some_place, lies_on, on_one_path, path_to, paths_of};
+ghost use Rattle.rg_defs.specs.Rules.{def_fault};
+ghost use Rattle.rg_defs.specs.PathTests.{first_paths};
+
+use crate::service_def::{Level, ServiceDef};
+use rg_base::{Named, NoMemory, Seq, find_named, place_named, same_text};
+use std::alloc::Global;
+
+/// The definition's level of this name, None where it has none.
+pub fn level_of<'a>(def: &'a ServiceDef, name: &str) -> Option<&'a Level>
+    ensures { option_map (λ l. l.now) result ≡ level_of def.now (chars name.now) }
+{
+    find_named(def.levels.as_slice(), name)
+}
+
+/// The place of the parent of the level at this place, None for a root.
+pub(crate) fn parent_of(levels: &[Level], place: usize) -> Option<usize>
+    ensures place { result ≡ parent_of levels.now place }
+    ensures within { IfSome result (λ parent. parent < length levels.now) }
+{
+    match levels.get(place) {
+        Some(level) => place_named(levels, level.parent.as_str()),
+        None => None,
+    }
+}
+
+/// From the root down, where these places lead from a level up.
+fn turned(mut upwards: Vec<u32>) -> Seq<u32>
+    ensures { result ≡ listed (reverse upwards.items) }
+{
+    upwards.reverse();
+    Seq::from_vec(upwards)
+}
+
+/// From the root down to this place.
+fn path_to(alloc: Global, levels: &[Level], place: usize) -> Result<Seq<u32>, NoMemory>
+    requires there { place < length levels.now }
+    requires few { length levels.now ≤ 16 }
+    ensures { IfOk result (λ path. path ≡ listed (path_to levels.now place)) }
+{
+    let mut upwards: Vec<u32> = Vec::new(alloc);
+    let mut at = Some(place);
+    'climb: for _ in (0..levels.len()).rev() {
+        let Some(here) = at else {
+            return Ok(turned(upwards));
+        };
+        match upwards.push(here as u32) {
+            Ok(()) => {}
+            Err(_) => return Err(NoMemory),
+        }
+        at = parent_of(levels, here);
+    }
+    Ok(turned(upwards))
+}
+
+fn is_place(place: usize, other: Option<usize>) -> bool
+    ensures { result ≡ is_some_place place other }
+{
+    match other {
+        Some(other) => other == place,
+        None => false,
+    }
+}
+
+/// Whether no level has the one at this place as its parent.
+fn is_leaf(levels: &[Level], place: usize) -> bool
+    ensures { result ≡ is_leaf levels.now place }
+{
+    !has_child(levels, place)
+}
+
+fn has_child(levels: &[Level], place: usize) -> bool
+    ensures { result ≡ list_any (λ (l : Level). is_some_place place (place_of levels.now l.parent)) levels.now }
+{
+    levels.iter().any(|level| is_place(place, place_named(levels, level.parent.as_str())))
+}
+
+#[tactic(auto, using(crate::proofs::Climbs::first_paths_leaf, crate::proofs::Climbs::first_paths_other))]
+/// The paths so far, with that to this place where it is a leaf.
+fn with_path(
+    alloc: Global,
+    mut list: Seq<Seq<u32>>,
+    levels: &[Level],
+    place: usize,
+) -> Result<Seq<Seq<u32>>, NoMemory>
+    requires there { place < length levels.now }
+    requires few { length levels.now ≤ 16 }
+    requires so_far { list ≡ listed (first_paths levels.now place) }
+    ensures { IfOk result (λ list. list ≡ listed (first_paths levels.now (place + 1))) }
+{
+    if !is_leaf(levels, place) {
+        return Ok(list);
+    }
+    let path = path_to(alloc, levels, place)?;
+    if list.push(path).is_err() {
+        return Err(NoMemory);
+    }
+    Ok(list)
+}
+
+#[tactic(auto, using(crate::proofs::Climbs::all_paths))]
+fn paths_from(alloc: Global, levels: &[Level]) -> Result<Seq<Seq<u32>>, NoMemory>
+    requires { length levels.now ≤ 16 }
+    ensures { IfOk result (λ list. list ≡ listed (map listed (paths_of levels.now))) }
+{
+    let mut list = Seq::new(alloc);
+    for place in 0..levels.len() {
+        list = with_path(alloc, list, levels, place)?;
+    }
+    Ok(list)
+}
+
+/// The paths from a root to a leaf, as places of levels, in the order of the places of their leaves.
+#[tactic(auto, using(crate::proofs::Few::few_levels))]
+pub fn paths(alloc: Global, def: &ServiceDef) -> Result<Seq<Seq<u32>>, NoMemory>
+    requires { def_fault def.now ≡ None }
+    ensures { IfOk result (λ list. list ≡ listed (map listed (paths_of def.now.levels.items))) }
+{
+    paths_from(alloc, def.levels.as_slice())
+}
+
+fn has_name(levels: &[Level], name: &str, place: u32) -> bool
+    ensures { result ≡ has_name levels.now (chars name.now) place }
+{
+    match levels.get(place as usize) {
+        Some(level) => same_text(level.name.as_str(), name),
+        None => false,
+    }
+}
+
+/// Whether a level of this name lies on the path.
+fn lies_on(levels: &[Level], path: &[u32], name: &str) -> bool
+    ensures { result ≡ lies_on levels.now path.now (chars name.now) }
+{
+    path.iter().any(|place| has_name(levels, name, *place))
+}
+
+fn all_lie_on<T: Named>(levels: &[Level], path: &[u32], things: &[T]) -> bool
+    ensures { result ≡ list_all (λ x. lies_on levels.now path.now (T.named x)) things.now }
+{
+    things
+        .iter()
+        .all(|thing| lies_on(levels, path, thing.name()))
+}
+
+fn on_some_path<T: Named>(levels: &[Level], paths: &[Seq<u32>], things: &[T]) -> bool
+    ensures { result ≡ list_any (λ (p : Listed ℕ). list_all (λ x. lies_on levels.now p.items (T.named x)) things.now) paths.now }
+{
+    paths
+        .iter()
+        .any(|path| all_lie_on(levels, path.as_slice(), things))
+}
+
+/// Whether levels with the names of all these things lie on one path. The paths are those of the levels.
+pub fn on_one_path<T: Named>(levels: &[Level], paths: &[Seq<u32>], things: &[T]) -> bool
+    requires { paths.now ≡ map listed (paths_of levels.now) }
+    ensures { result ≡ on_one_path levels.now (map T.named things.now) }
+{
+    on_some_path(levels, paths, things)
+}
