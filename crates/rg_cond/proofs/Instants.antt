@@ -16,8 +16,10 @@ use Rattle.jiff_core.proofs.DateTimeLemmas.{civil_nanos-civil_seconds}
 use Rattle.jiff_core.proofs.SignedLemmas.{signed_arith}
 use Rattle.jiff_tz.specs.Ambiguous.{compatible_offset}
 use Rattle.jiff_tz.specs.Zone.{ambiguous_at}
-use Rattle.jiff_tz.specs.PosixRule.{rule_nanos, ambiguous_by, ambiguous_at_by, in_window, in_span, saturating_add, saturating_sub, shift_between} 
-use Rattle.jiff_tz.specs.PosixText.{tz_view, dst_view, day_time_view}
+use Rattle.jiff_tz.specs.PosixRule.{rule_nanos, ambiguous_by, ambiguous_at_by, in_window, in_span, saturating_add, saturating_sub, shift_between}
+use Rattle.jiff.specs.Placed.{IsPosixZone}
+use Rattle.jiff_tz.specs.PosixReader.{read_whole}
+use Rattle.jiff_tz.specs.PosixText.{TzText, tz_view, dst_view, day_time_view}
 use Rattle.jiff_tz.specs.declared.posix.DayTime.{DayTime}
 use Rattle.jiff_tz.specs.declared.posix.Dst.{Dst}
 use Rattle.jiff_tz.specs.declared.ambiguous.AmbiguousOffset.{AmbiguousOffset}
@@ -26,7 +28,7 @@ use Rattle.jiff_tz.specs.declared.timezone.TimeZone.{TimeZone}
 use Rattle.jiff_tz.specs.declared.timezone.TimeZone.TheVariants.{UTC, Unknown, Fixed, Posix, Tzif}
 use Rattle.rg_cond.specs.ClockViews.{rule_said}
 use Rattle.rg_cond.specs.Clocks.{change_at, offset_ahead, offset_behind, offset_by, offset_with, offset_before, is_held, held, instant_on}
-use Rattle.rg_cond.specs.Dates.{Shown, is_date, is_time}
+use Rattle.rg_cond.specs.Dates.{shown_of}
 
 -- ---- whole seconds in nanoseconds, and back
 
@@ -51,9 +53,9 @@ whole_nanos dt z =
 
 le_yes : (a b : ℤ) → a ≤ℤ b → int_le a b ≡ true
 le_yes a b h = elim (int_le a b) as (λ v. int_le a b ≡ v → v ≡ true) [
-    true ↦ λ e. refl
+  | true ↦ λ e. refl
   | false ↦ λ e. absurd (omega (arith, signed_arith))
-  ] refl
+] refl
 
 pub held_some : (n d : ℤ) → IsTimestampNanos n → n ≡ d *ℤ pos 1_000_000_000 → held d ≡ Some (record { 0 = d })
 held_some n d r e =
@@ -74,8 +76,8 @@ pub held_none : (n d : ℤ) → (IsTimestampNanos n → ⊥) → n ≡ d *ℤ po
 held_none n d r e =
     let m : Moment = record { 0 = d } in
     elim (is_held d) as (λ v. is_held d ≡ v → (if v then Some m else None) ≡ None) [
-      true ↦ λ h. absurd (r (within n d e h))
-    | false ↦ λ h. refl
+      | true ↦ λ h. absurd (r (within n d e h))
+      | false ↦ λ h. refl
     ] refl
 
 -- ---- the offset before a change
@@ -115,10 +117,6 @@ by_same std dst w at = choice_same (int_lt dst.seconds std.seconds) (int_lt std.
     (behind_same std dst (in_window w at) (in_span (saturating_add w.0 (shift_between std dst)) w.0 at) (in_span w.1 (saturating_sub w.1 (shift_between std dst)) at))
     (ahead_same std dst (in_window w at) (in_span w.0 (saturating_add w.0 (shift_between std dst)) at) (in_span (saturating_sub w.1 (shift_between std dst)) w.1 at))
     refl
-
--- what a date with a time of day shows
-abbrev pub shown_of : DateTime → Shown
-shown_of dt = record { year = dt.date.year; second = civil_seconds dt }
 
 with_same : (std : Offset) (dst : Option Dst) (dt : DateTime) → dt.time.subsec_nanosecond ≡ 0
     → offset_with std.seconds (option_map dst_view dst) (shown_of dt) ≡ (compatible_offset (ambiguous_at_by std dst dt)).seconds
@@ -166,3 +164,12 @@ unplaced zone dt h z r =
     let n : ℤ = civil_nanos dt -ℤ nanos_of_seconds (ahead_of zone dt) in
     let d : ℤ = civil_seconds dt -ℤ ahead_of zone dt in
     sym (held_none n d r (nanos_same dt (ahead_of zone dt) n z refl)) ∙ sym (instant_same zone dt h z)
+
+-- what a rule reads as is what `jiff`'s zone of it says
+pub agrees : (rule : List ℕ) (zone : TimeZone) (dt : DateTime) → IsPosixZone rule zone → dt.time.subsec_nanosecond ≡ 0
+    → (said : TzText) × (read_whole rule ≡ Some said) × (instant_on (Some said) (shown_of dt) ≡ held (civil_seconds dt -ℤ ahead_of zone dt))
+agrees rule (Posix r) dt p z = (tz_view r, p, instant_same (Posix r) dt refl z)
+agrees rule UTC dt p z = absurd p
+agrees rule Unknown dt p z = absurd p
+agrees rule (Fixed offset) dt p z = absurd p
+agrees rule (Tzif table) dt p z = absurd p

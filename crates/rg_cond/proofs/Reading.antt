@@ -20,6 +20,7 @@ end_is rows zone text clock shown z e = λ i. option_and_then (λ c. option_and_
 pub span_is : (rows : List TimeZoneRow) (t : ScheduleText) (clock : Option TzText) (start end : Option Shown)
     → end_shown (encode_utf8_all t.start_time) ≡ Some start → end_shown (encode_utf8_all t.end_time) ≡ Some end → clock_of rows t.time_zone ≡ Some clock
     → span_of rows t ≡ span_on clock start end
+unfolding span_of
 span_is rows t clock start end s e z =
     let first = end_is rows t.time_zone t.start_time clock start z s in
     let last = end_is rows t.time_zone t.end_time clock end z e in
@@ -28,6 +29,7 @@ span_is rows t clock start end s e z =
 pub fault_is : (rows : List TimeZoneRow) (t : ScheduleText) (clock : Option TzText) (start end : Option Shown)
     → end_shown (encode_utf8_all t.start_time) ≡ Some start → end_shown (encode_utf8_all t.end_time) ≡ Some end → clock_of rows t.time_zone ≡ Some clock
     → schedule_fault rows t ≡ placing_fault clock start end
+unfolding schedule_fault span_of
 fault_is rows t clock start end s e z =
     let first = end_is rows t.time_zone t.start_time clock start z s in
     let last = end_is rows t.time_zone t.end_time clock end z e in

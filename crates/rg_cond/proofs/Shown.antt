@@ -6,10 +6,9 @@ use Rattle.jiff_core.specs.DateTime.{civil_seconds}
 use Rattle.jiff_core.specs.Time.{IsHms}
 use Rattle.jiff_core.specs.declared.civil.datetime.DateTime.{DateTime}
 use Rattle.jiff_core.proofs.SignedLemmas.{signed_arith}
-use Rattle.rg_cond.specs.Dates.{Shown, day_form, moment_form, begins_with_date, ends_with_time, day_start, day_second, moment_of, day_of}
+use Rattle.rg_cond.specs.Dates.{Shown, shown_of, day_form, moment_form, begins_with_date, ends_with_time, day_start, day_second, moment_of, day_of}
 use Rattle.rg_cond.specs.Digits.{has_form, two_at, four_at}
 use Rattle.std.proofs.lemmas.Bool.{and_from}
-use Rattle.rg_cond.proofs.Instants.{shown_of}
 
 abbrev IsDateOf : List ℕ → DateTime → Type 0
 IsDateOf text dt = IsYmd (pos (four_at text 0)) (pos (two_at text 5)) (pos (two_at text 8)) dt.date
@@ -27,7 +26,7 @@ seconds_same text dt d t =
     let second : dt.time.second ≡ two_at text 17 = cc in
     λ i. record {
       year = d.0 i;
-      second = days_from_civil (d.0 i) (month i) (day i) *ℤ pos 86_400 +ℤ pos (hour i * 3600 + minute i * 60 + second i)
+      second = days_from_civil (d.0 i) (month i) (day i) *ℤ pos 86_400 +ℤ pos (hour i * 3600 + minute i * 60 + second i);
     }
 
 -- a date with a time of day shows what the text writes
@@ -51,7 +50,7 @@ start_same text dt d t =
     let second : dt.time.second ≡ 0 = cc in
     λ i. record {
       year = d.0 i;
-      second = days_from_civil (d.0 i) (month i) (day i) *ℤ pos 86_400 +ℤ pos (hour i * 3600 + minute i * 60 + second i)
+      second = days_from_civil (d.0 i) (month i) (day i) *ℤ pos 86_400 +ℤ pos (hour i * 3600 + minute i * 60 + second i);
     }
 
 -- and a date alone the beginning of its day

@@ -54,7 +54,7 @@ abbrev pub as_wanted : Bool → Bool → Bool
 as_wanted wanted fact = if wanted then fact else not fact
 
 -- a rule holds
-abbrev pub rule_holds : Rule → AccessRequest → Option Tag → Bool
+unfoldable pub rule_holds : Rule → AccessRequest → Option Tag → Bool
 rule_holds (Expired wanted) request tag = as_wanted wanted (is_expired request.moment tag)
 rule_holds (Address values) request tag = has_address values.items request.address
 rule_holds (Context key values wanted) request tag = as_wanted wanted (has_value key values.items request.context.items)

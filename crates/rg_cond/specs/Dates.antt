@@ -1,12 +1,18 @@
 -- Dates, alone or with a time of day, as policies and tags write them.
 use Rattle.std.specs.Prelude.{ℕ, ℤ, pos, ◌+ℤ◌, ◌*ℤ◌, ◌+◌, ◌*◌, ◌&&◌, nat_le, nat_lt, Bool, List, codes, Option, Some, None, if◌then◌else◌}
 use Rattle.jiff_core.specs.Calendar.{days_in_month, days_from_civil}
+use Rattle.jiff_core.specs.DateTime.{civil_seconds}
+use Rattle.jiff_core.specs.declared.civil.datetime.DateTime.{DateTime}
 use Rattle.rg_cond.specs.Digits.{has_form, two_at, four_at}
 
 -- what a clock shows: the year, and the seconds since it showed the beginning of 1970
 pub record Shown : Type 0 where
   pub year : ℤ
   pub second : ℤ
+
+-- what a date with a time of day shows
+abbrev pub shown_of : DateTime → Shown
+shown_of dt = record { year = dt.date.year; second = civil_seconds dt }
 
 -- `yyyy/MM/dd`, where `d` stands for a digit
 unfoldable pub day_form : List ℕ

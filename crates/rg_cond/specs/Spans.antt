@@ -48,7 +48,7 @@ end_of rows zone text =
     option_and_then (λ clock. option_and_then (λ shown. end_on clock shown) (end_shown (encode_utf8_all text))) (clock_of rows zone)
 
 -- the span of a schedule that reads
-abbrev pub span_of : List TimeZoneRow → ScheduleText → Span
+unfoldable pub span_of : List TimeZoneRow → ScheduleText → Span
 span_of rows t = record {
   start = unwrap_or (end_of rows t.time_zone t.start_time) None;
   end = unwrap_or (end_of rows t.time_zone t.end_time) None;
@@ -63,7 +63,7 @@ abbrev pub is_out : List TimeZoneRow → ScheduleText → Bool
 is_out rows t = is_none (end_of rows t.time_zone t.start_time) || is_none (end_of rows t.time_zone t.end_time)
 
 -- why a schedule doesn't read: the first cause in this order
-abbrev pub schedule_fault : List TimeZoneRow → ScheduleText → Option ScheduleFault
+unfoldable pub schedule_fault : List TimeZoneRow → ScheduleText → Option ScheduleFault
 schedule_fault rows t =
     if is_bad t then Some BadTime
     else (if is_none (clock_of rows t.time_zone) then Some UnknownZone
@@ -81,5 +81,5 @@ is_not_over None moment = true
 is_not_over (Some end) moment = int_le moment.0 end.0
 
 -- the moment lies in the span
-abbrev pub contains : Span → Moment → Bool
+unfoldable pub contains : Span → Moment → Bool
 contains span moment = has_begun span.start moment && is_not_over span.end moment

@@ -94,8 +94,16 @@ fn rule_of_kind(
     match kind {
         Kind::AccessedAfterExpiry => Ok(Rule::Expired(begins_with_yes(values.as_slice()))),
         Kind::IpRange => Ok(Rule::Address(values.try_copy(alloc)?)),
-        Kind::ContextValueIn => Ok(Rule::Context(copy_key(alloc, def)?, values.try_copy(alloc)?, true)),
-        Kind::ContextValueNotIn => Ok(Rule::Context(copy_key(alloc, def)?, values.try_copy(alloc)?, false)),
+        Kind::ContextValueIn => Ok(Rule::Context(
+            copy_key(alloc, def)?,
+            values.try_copy(alloc)?,
+            true,
+        )),
+        Kind::ContextValueNotIn => Ok(Rule::Context(
+            copy_key(alloc, def)?,
+            values.try_copy(alloc)?,
+            false,
+        )),
     }
 }
 

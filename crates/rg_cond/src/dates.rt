@@ -16,12 +16,11 @@ pub(crate) struct LocalTime {
 
 impl Model for LocalTime {
     ghost use Rattle.std.specs.Prelude.{◌≡◌};
-    ghost use Rattle.jiff.specs.Words.{civil_seconds};
-    ghost use Rattle.rg_cond.specs.Dates.{Shown};
+    ghost use Rattle.rg_cond.specs.Dates.{Shown, shown_of};
 
     ghost Value = { Shown };
 
-    ghost view = { λ l. record { year = l.shown.date.year; second = civil_seconds l.shown } };
+    ghost view = { λ l. shown_of l.shown };
 
     ghost invariant = { λ l. l.shown.time.subsec_nanosecond ≡ 0 };
 }

@@ -8,7 +8,7 @@ use rg_defs::ConditionDef;
 
 /// What a condition asks about.
 #[derive(Clone, Copy, Debug, PartialEq, Eq)]
-pub enum Kind {
+pub(crate) enum Kind {
     /// `accessed-after-expiry`
     AccessedAfterExpiry,
     /// `ip-range`

@@ -7,12 +7,14 @@ mod dates;
 mod digits;
 mod faults;
 mod kinds;
+mod laws;
 mod rules;
 mod spans;
 mod zones;
 
 pub use conditions::{Condition, compile_condition, condition_fault};
 pub use faults::{CondFault, ScheduleFault, TimeZoneFault};
+pub use laws::clock_agrees_with_jiff;
 pub use rules::Rule;
 pub use spans::{Schedule, Span};
 pub use zones::TimeZones;

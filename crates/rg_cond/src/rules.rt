@@ -129,6 +129,7 @@ fn as_wanted(wanted: bool, fact: bool) -> bool
 
 impl Rule {
     /// Whether the rule holds for the request and the tag.
+    #[tactic(auto, unfolding(crate::specs::Conditions::rule_holds))]
     pub(crate) fn holds(&self, request: &AccessRequest, tag: Option<&Tag>) -> bool
         ensures { result ≡ rule_holds self.now request.now (option_map (λ t. t.now) tag.entry) }
     {

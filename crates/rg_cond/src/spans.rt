@@ -82,6 +82,7 @@ impl Schedule {
     /// The span of a schedule. Its times are `yyyy/MM/dd HH:mm:ss` or empty for open, its time zone is empty,
     /// `UTC` or `GMT` for UTC, else the name of a row of the list. A time in a gap is taken with the offset
     /// before the gap, and one in a fold is the earlier. A recurrence plays no part. It takes no memory.
+    #[tactic(auto, unfolding(crate::specs::Spans::schedule_fault))]
     pub fn read(text: &ScheduleText, zones: &TimeZones) -> Result<Span, ScheduleFault>
         ensures read { IfOk result (λ span. span ≡ span_of zones.now text.now) }
         ensures sound { IfOk result (λ _. schedule_fault zones.now text.now ≡ None) }
@@ -120,6 +121,7 @@ fn is_not_over(end: Option<Moment>, moment: Moment) -> bool
 
 impl Span {
     /// Whether the moment lies in the span. Both ends do.
+    #[tactic(auto, unfolding(crate::specs::Spans::contains))]
     pub fn contains(&self, moment: Moment) -> bool
         ensures { result ≡ contains self.now moment }
     {

@@ -18,8 +18,8 @@ pub characters-preserved : goal.characters-preserved
 characters-preserved c = record {
   texts = (search rules, search rules);
   same = step_same (chars c.characters.value.now) (chars c.characters.address.now) (chars c.in-Some.rest.now) (chars c.in-Some-split_char.others.now) c.in-Some.mark c.in-Some-split_char.first
-    c.in-Some.ensures c.in-Some-split_char.ensures c.if-first-mark.true (sym c.is_lone_star.ensures ∙ c.if-is_lone_star.false)
-    ∙ c.characters.invariant.same;
+      c.in-Some.ensures c.in-Some-split_char.ensures c.if-first-mark.true (sym c.is_lone_star.ensures ∙ c.if-is_lone_star.false)
+      ∙ c.characters.invariant.same;
 }
 
 pub returns-in_default-split_char : goal.returns-in_default-split_char
