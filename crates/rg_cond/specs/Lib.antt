@@ -1,0 +1,9 @@
+pub mod ClockViews
+pub mod Clocks
+pub mod Conditions
+pub mod Dates
+pub mod Digits
+pub mod Kinds
+pub mod Spans
+pub mod Words
+pub mod Zones

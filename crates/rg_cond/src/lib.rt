@@ -1,0 +1,23 @@
+// Conditions of policies and items, and the spans of validity schedules.
+#![tactic(auto)]
+
+mod clocks;
+mod conditions;
+mod dates;
+mod digits;
+mod faults;
+mod kinds;
+mod laws;
+mod rules;
+mod spans;
+mod zones;
+
+pub use conditions::{Condition, compile_condition, condition_fault};
+pub use faults::{CondFault, ScheduleFault, TimeZoneFault};
+pub use laws::clock_agrees_with_jiff;
+pub use rules::Rule;
+pub use spans::{Schedule, Span};
+pub use zones::TimeZones;
+
+#[cfg(test)]
+mod tests;
