@@ -1,10 +1,10 @@
 -- Climbing from a level to its root, and the paths so far.
-use Rattle.std.proofs.Common.{◌≡◌, ◌<◌, ◌-◌, ◌+◌, ◌++◌, ℕ, zero, suc, Bool, true, false, cond, ◌&&◌, List, [], ◌∷◌, length, map, Option, Some, None, refl, arith, sym, ap, ◌∙◌, append_assoc}
+use Rattle.std.proofs.Common.{◌≡◌, ◌<◌, ◌-◌, ◌+◌, ◌++◌, ℕ, zero, suc, Bool, true, false, cond, ◌||◌, List, [], ◌∷◌, length, map, Option, Some, None, refl, arith, sym, ap, ◌∙◌, append_assoc}
 use Rattle.std.proofs.lemmas.List.{append-nil, map-append, map-id}
 use Rattle.std.proofs.lemmas.Simd.{map-map}
 use Rattle.std.proofs.lemmas.List.Elements.{filter-append}
 use Rattle.std.proofs.lemmas.List.FromFn.{map-range_with_len_more}
-use Rattle.std.specs.List.{filter, list_all, range_with_len}
+use Rattle.std.specs.List.{filter, list_any, range_with_len}
 use Rattle.rg_base.specs.Listed.{listed}
 use Rattle.rg_defs.specs.declared.service_def.Level.{Level}
 use Rattle.rg_defs.specs.Paths.{parent_of}
@@ -48,10 +48,10 @@ first_paths_other levels n e =
 pub all_paths : (levels : List Level) → first_paths levels (length levels) ≡ map listed (paths_of levels)
 all_paths levels = sym (map-map listed (path_to levels) (filter (is_leaf levels) (range_with_len 0 (length levels))))
 
--- a place that passes can be left out
-pub passed_above : (p : ℕ → Bool) (levels : List Level) (n here : ℕ) → 0 < n → p here ≡ true
-    → list_all p (climb levels (n - 1) (parent_of levels here)) ≡ list_all p (climb levels n (Some here))
-passed_above p levels zero here h e = absurd (omega arith)
-passed_above p levels (suc n) here h e =
+-- a place that fails can be left out
+pub failed_above : (p : ℕ → Bool) (levels : List Level) (n here : ℕ) → 0 < n → p here ≡ false
+    → list_any p (climb levels (n - 1) (parent_of levels here)) ≡ list_any p (climb levels n (Some here))
+failed_above p levels zero here h e = absurd (omega arith)
+failed_above p levels (suc n) here h e =
     let same : suc n - 1 ≡ n = omega arith in
-    ap (λ m. list_all p (climb levels m (parent_of levels here))) same ∙ sym (ap (λ b. b && list_all p (climb levels n (parent_of levels here))) e)
+    ap (λ m. list_any p (climb levels m (parent_of levels here))) same ∙ sym (ap (λ b. b || list_any p (climb levels n (parent_of levels here))) e)

@@ -50,13 +50,18 @@ on_one_path levels names = list_any (λ path. list_all (lies_on levels path) nam
 abbrev pub ancestors : List Level → List ℕ → List ℕ
 ancestors levels name = climb levels (length levels) (option_and_then (parent_of levels) (place_of levels name))
 
--- the level may be left out, or is named
-abbrev pub is_spared : List (List ℕ) → Level → Bool
-is_spared names l = not l.mandatory || is_among l.name names
+-- the level of the one name stands above that of the other
+abbrev pub is_above : List Level → List ℕ → List ℕ → Bool
+is_above levels upper lower = list_any (has_name levels upper) (ancestors levels lower)
 
-abbrev pub is_met : List Level → List (List ℕ) → ℕ → Bool
-is_met levels names place = unwrap_or (option_map (is_spared names) (slice_get levels place)) true
+-- the level of this name is named, or stands above none that is named
+abbrev pub is_settled : List Level → List (List ℕ) → List ℕ → Bool
+is_settled levels names name = is_among name names || not (list_any (is_above levels name) names)
+
+-- the level may be left out, or is settled
+abbrev pub is_spared : List Level → List (List ℕ) → Level → Bool
+is_spared levels names l = not l.mandatory || is_settled levels names l.name
 
 -- every mandatory level above a named one is named
 abbrev pub mandatory_named : List Level → List (List ℕ) → Bool
-mandatory_named levels names = list_all (λ name. list_all (is_met levels names) (ancestors levels name)) names
+mandatory_named levels names = list_all (is_spared levels names) levels

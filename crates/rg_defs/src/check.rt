@@ -132,11 +132,18 @@ fn parts_rule(def: &ServiceDef) -> bool
                 && are_levels(levels, def.filter_levels.as_slice())))
 }
 
+/// The name of tag definitions, and of their one level.
 #[tactic(auto, using(crate::proofs::Tags::tag_facts))]
+pub fn tag_name() -> &'static str
+    ensures { chars result.now ≡ tag_name }
+{
+    "tag"
+}
+
 fn is_tag(text: &str) -> bool
     ensures { result ≡ bytes_eq (chars text.now) tag_name }
 {
-    same_text(text, "tag")
+    same_text(text, tag_name())
 }
 
 fn is_tag_level(levels: &[Level]) -> bool

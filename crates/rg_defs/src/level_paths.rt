@@ -125,20 +125,21 @@ pub fn paths(alloc: Global, def: &ServiceDef) -> Result<Seq<Seq<u32>>, NoMemory>
     paths_from(alloc, def.levels.as_slice())
 }
 
-fn has_name(levels: &[Level], name: &str, place: u32) -> bool
+pub(crate) fn has_name(levels: &[Level], name: &str, place: usize) -> bool
     ensures { result ≡ has_name levels.now (chars name.now) place }
 {
-    match levels.get(place as usize) {
+    match levels.get(place) {
         Some(level) => same_text(level.name.as_str(), name),
         None => false,
     }
 }
 
 /// Whether a level of this name lies on the path.
-fn lies_on(levels: &[Level], path: &[u32], name: &str) -> bool
+pub fn lies_on(levels: &[Level], path: &[u32], name: &str) -> bool
     ensures { result ≡ lies_on levels.now path.now (chars name.now) }
 {
-    path.iter().any(|place| has_name(levels, name, *place))
+    path.iter()
+        .any(|place| has_name(levels, name, *place as usize))
 }
 
 fn all_lie_on<T: Named>(levels: &[Level], path: &[u32], things: &[T]) -> bool

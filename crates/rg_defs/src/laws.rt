@@ -1,0 +1,18 @@
+// Laws of paths, each the contract of a function that does nothing.
+ghost use Rattle.std.specs.Prelude.{◌≡◌, ◌↔◌, ◌<◌, ℕ, List, None, length};
+ghost use Rattle.std.specs.List.{Contains};
+ghost use Rattle.rg_defs.specs.declared.service_def.ServiceDef.{ServiceDef};
+ghost use Rattle.rg_defs.specs.Paths.{IsPath};
+ghost use Rattle.rg_defs.specs.PathTests.{paths_of};
+ghost use Rattle.rg_defs.specs.Rules.{def_fault};
+
+/// The computed paths of a lawful definition are exactly the chains of its levels from a root to a leaf.
+pub fn paths_are_all()
+    ensures { (def : ServiceDef) → def_fault def ≡ None → (path : List ℕ) → Contains (paths_of def.levels.items) path ↔ IsPath def.levels.items path }
+{}
+
+/// Every level of a lawful definition lies on a path.
+pub fn levels_lie_on_paths()
+    ensures { (def : ServiceDef) → def_fault def ≡ None → (place : ℕ) → place < length def.levels.items
+        → (path : List ℕ) × Contains (paths_of def.levels.items) path × Contains path place }
+{}

@@ -1,0 +1,4 @@
+pub mod Compiled
+pub mod Lies
+pub mod Rules
+pub mod Tests
