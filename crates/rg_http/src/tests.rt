@@ -218,27 +218,33 @@ fn stream<'r>(alloc: Global, row: &'r str) -> Result<(Vec<u8>, &'r str), Fail> {
     Ok((bytes, fields.next().unwrap_or("no answer")))
 }
 
-/// Gives the bytes one by one; long ones only from a hundred bytes before the limit of a head on, since each byte has the whole head
-/// judged anew.
-fn singly(alloc: Global, bytes: &[u8]) -> Result<MemLink, AllocError> {
+/// Gives the bytes in pieces of this size; long ones only from a hundred bytes before the limit of a head on, since with each piece
+/// the whole head is judged anew.
+fn slow_link(alloc: Global, bytes: &[u8], size: u32) -> Result<MemLink, AllocError>
+    requires { 0 < size }
+{
     if bytes.len() < 2000 {
-        link(alloc, bytes, &[1], &[])
+        link(alloc, bytes, &[size], &[])
     } else {
-        link(alloc, bytes, &[4096, 4096, 4096, 3996, 1], &[])
+        link(alloc, bytes, &[4096, 4096, 4096, 3996, size], &[])
     }
+}
+
+fn check_stream(rt: &impl Abort, alloc: Global, row: &str) -> Result<(), Fail> {
+    let (bytes, want) = stream(alloc, row)?;
+    let whole = tell(alloc, link(alloc, bytes.as_slice(), &[], &[])?)?;
+    assert_eq!(rt; whole.as_str(), want, "{row}");
+    let sevens = tell(alloc, slow_link(alloc, bytes.as_slice(), 7)?)?;
+    assert_eq!(rt; sevens.as_str(), want, "{row}");
+    let ones = tell(alloc, slow_link(alloc, bytes.as_slice(), 1)?)?;
+    assert_eq!(rt; ones.as_str(), want, "{row}");
+    Ok(())
 }
 
 #[test]
 fn pieces_play_no_part(rt: HostRuntime) -> Result<(), Fail> {
-    let alloc = rt.alloc();
     for row in STREAMS.lines() {
-        let (bytes, want) = stream(alloc, row)?;
-        let whole = tell(alloc, link(alloc, bytes.as_slice(), &[], &[])?)?;
-        assert_eq!(rt; whole.as_str(), want, "{row}");
-        let sevens = tell(alloc, link(alloc, bytes.as_slice(), &[7], &[])?)?;
-        assert_eq!(rt; sevens.as_str(), want, "{row} by 7");
-        let ones = tell(alloc, singly(alloc, bytes.as_slice())?)?;
-        assert_eq!(rt; ones.as_str(), want, "{row} by 1");
+        check_stream(&rt, rt.alloc(), row)?;
     }
     Ok(())
 }
@@ -259,22 +265,24 @@ fn failed_calls(rt: &impl Abort, alloc: Global, bytes: &[u8], want: &str) -> Res
     Ok(made)
 }
 
+// Where the link is read to its end, each piece takes a call, and the end one more.
+fn check_failures(rt: &impl Abort, alloc: Global, row: &str) -> Result<(), Fail> {
+    let (bytes, want) = stream(alloc, row)?;
+    if bytes.len() >= 150 {
+        return Ok(());
+    }
+    let made = failed_calls(rt, alloc, bytes.as_slice(), want)?;
+    assert!(rt; 0 < made, "{row}");
+    if want.ends_with("open, ended") || want.ends_with("cut") {
+        assert_eq!(rt; made, bytes.len().div_ceil(7) as u64 + 1, "{row}");
+    }
+    Ok(())
+}
+
 #[test]
 fn a_failed_call_is_a_fault(rt: HostRuntime) -> Result<(), Fail> {
-    let alloc = rt.alloc();
     for row in STREAMS.lines() {
-        let (bytes, want) = stream(alloc, row)?;
-        if bytes.len() < 150 {
-            let made = failed_calls(&rt, alloc, bytes.as_slice(), want)?;
-            assert!(rt; 0 < made, "{row}");
-            if want.ends_with("open, ended") || want.ends_with("cut") {
-                assert_eq!(rt;
-                    made,
-                    bytes.len() as u64 / 7 + 1 + (bytes.len() % 7).min(1) as u64,
-                    "{row}"
-                );
-            }
-        }
+        check_failures(&rt, rt.alloc(), row)?;
     }
     Ok(())
 }
@@ -291,52 +299,55 @@ fn what_came_with_a_message_is_kept(rt: HostRuntime) -> Result<(), Fail> {
     Ok(())
 }
 
+/// What is told of the first n bytes of two equal messages of this length.
+fn told_of_two(alloc: Global, told_one: &str, len: usize, n: usize) -> Result<String, AllocError> {
+    let mut want = String::new(alloc);
+    for _ in 0..(n / len.max(1)).min(2) {
+        want.push_str(told_one)?;
+    }
+    want.push_str(if n % len.max(1) == 0 { "ended" } else { "cut" })?;
+    Ok(want)
+}
+
 #[test]
 fn a_stream_may_break_off_anywhere(rt: HostRuntime) -> Result<(), Fail> {
     let alloc = rt.alloc();
-    let one = "POST /service HTTP/1.1~x-user: ann~Content-Length: 4~~body";
-    let told_one = "POST /service ann [body] open, ";
-    let mut bytes = Vec::new(alloc);
-    spell(&mut bytes, one)?;
-    let len = bytes.len();
-    spell(&mut bytes, one)?;
-    for n in 0..=bytes.len() {
-        let told = tell(alloc, link(alloc, &bytes.as_slice()[..n], &[], &[])?)?;
-        let mut want = String::new(alloc);
-        if len <= n {
-            want.push_str(told_one)?;
-        }
-        if bytes.len() <= n {
-            want.push_str(told_one)?;
-        }
-        want.push_str(if n == 0 || n == len || n == bytes.len() {
-            "ended"
-        } else {
-            "cut"
-        })?;
+    let (one, told_one) = stream(
+        alloc,
+        "POST /a HTTP/1.1~x-user: ann~Content-Length: 4~~body||0||POST /a ann [body] open, ",
+    )?;
+    let mut two = Vec::from_slice(alloc, one.as_slice())?;
+    two.extend_from_slice(one.as_slice())?;
+    for n in 0..=two.len() {
+        let told = tell(alloc, link(alloc, two.as_slice().split_at(n).0, &[], &[])?)?;
+        let want = told_of_two(alloc, told_one, one.len(), n)?;
         assert_eq!(rt; told.as_str(), want.as_str(), "after {n} bytes");
     }
     Ok(())
 }
 
+fn check_response(rt: &impl Abort, alloc: Global, row: &str) -> Result<(), Fail> {
+    let mut fields = row.split('|');
+    let status = fields.next().unwrap_or("").parse::<u16>().unwrap_or(0);
+    let body = fields.next().unwrap_or("").as_bytes();
+    let response = Response {
+        status: status.clamp(100, 999),
+        body: Seq::from_vec(Vec::from_slice(alloc, body)?),
+        close: fields.next().unwrap_or("") == "close",
+    };
+    let mut want = Vec::new(alloc);
+    spell(&mut want, fields.next().unwrap_or(""))?;
+    match print_response(alloc, &response) {
+        Ok(bytes) => assert_eq!(rt; bytes.as_slice(), want.as_slice(), "{row}"),
+        Err(_) => assert!(rt; false),
+    }
+    Ok(())
+}
+
 #[test]
-fn prints(rt: HostRuntime) -> Result<(), Fail> {
-    let alloc = rt.alloc();
+fn responses_are_printed(rt: HostRuntime) -> Result<(), Fail> {
     for row in RESPONSES.lines() {
-        let mut fields = row.split('|');
-        let status = fields.next().unwrap_or("").parse::<u16>().unwrap_or(0);
-        let body = fields.next().unwrap_or("").as_bytes();
-        let response = Response {
-            status: status.clamp(100, 999),
-            body: Seq::from_vec(Vec::from_slice(alloc, body)?),
-            close: fields.next().unwrap_or("") == "close",
-        };
-        let mut want = Vec::new(alloc);
-        spell(&mut want, fields.next().unwrap_or(""))?;
-        match print_response(alloc, &response) {
-            Ok(bytes) => assert_eq!(rt; bytes.as_slice(), want.as_slice(), "{row}"),
-            Err(_) => assert!(rt; false),
-        }
+        check_response(&rt, rt.alloc(), row)?;
     }
     Ok(())
 }
