@@ -1,6 +1,6 @@
 -- No more is read than the answer takes.
-use Rattle.std.proofs.Common.{◌≡◌, ◌≤◌, ◌<◌, ◌+◌, ℕ, List, [], ◌++◌, length, take, drop, Option, Some, None, IfSome, Result, Ok, Err, OnOk, refl, sym, ap, ◌∙◌, subst, arith, append_assoc, append-nil, length-append, inl, inr}
-use Rattle.std.proofs.lemmas.List.{take_all, take_at, drop_at, take-append-drop, length-drop}
+use Rattle.std.proofs.Common.{◌≡◌, ◌≤◌, ◌<◌, ◌+◌, ℕ, List, [], ◌++◌, length, take, drop, Option, Some, None, Result, Ok, Err, OnOk, refl, sym, ap, ◌∙◌, subst, arith, append_assoc, append-nil, length-append, inl, inr}
+use Rattle.std.proofs.lemmas.List.{take_all, take_at, drop_at, take-append-drop}
 use Rattle.rg_http.specs.declared.message.Message.{Message}
 use Rattle.rg_http.specs.Framing.{IsUnfinished}
 use Rattle.rg_http.specs.Answers.{all_of, piece_limit, IsSparing, ReadsSparingly}

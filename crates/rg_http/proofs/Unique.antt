@@ -5,8 +5,7 @@ use Rattle.std.proofs.Math.Seq.{take-append-add}
 use Rattle.std.proofs.lemmas.List.{take_all, take_at, drop_at}
 use Rattle.std.proofs.lemmas.List.Elements.{All-nil, All-cons}
 use Rattle.httparse.proofs.GrammarLemmas.{request_unique}
-use Rattle.httparse.specs.Ascii.{space}
-use Rattle.httparse.specs.Grammar.{RequestHead, print_request, ReadsRequest, NeverHasRequest, is_token_byte, IsToken, print_blank}
+use Rattle.httparse.specs.Grammar.{RequestHead, print_request, ReadsRequest, NeverHasRequest, is_token_byte, IsToken}
 use Rattle.rg_http.specs.declared.message.Message.{Message}
 use Rattle.rg_http.specs.declared.rules.Ruling.{Ruling}
 use Rattle.rg_http.specs.declared.rules.Ruling.TheVariants.{Refused, Body}
@@ -14,7 +13,6 @@ use Rattle.rg_http.specs.Framing.{window, head_limit, IsHopeless, IsOpen, HasHea
 use Rattle.rg_http.specs.declared.message.End.{End}
 use Rattle.rg_http.specs.declared.message.End.TheVariants.{Ended, Cut, Bad, Full}
 use Rattle.rg_http.specs.Messages.{Stops, Messages}
-use Rattle.rg_http.proofs.Waiting.{print_parts, after_target}
 use Rattle.rg_http.proofs.Standing.{front_reads, head_some}
 
 abbrev number : Ruling → ℕ

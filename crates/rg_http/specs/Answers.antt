@@ -1,6 +1,5 @@
 -- What the answers of a framer say of the bytes: those that it keeps, and those that its link is still to give where the link tells them.
 use Rattle.std.specs.Prelude.{◌≡◌, ◌≢◌, ◌≤◌, ◌+◌, ◌⊎◌, ℕ, List, [], ◌++◌, length, Bool, true, false, Option, Some, None, IfSome}
-use Rattle.rg_http.specs.declared.message.Message.{Message}
 use Rattle.rg_http.specs.declared.message.Next.{Next}
 use Rattle.rg_http.specs.declared.message.Next.TheVariants.{Message as Whole, Ended, Cut, Bad}
 use Rattle.rg_http.specs.Rules.{body_limit}

@@ -1,6 +1,6 @@
 -- The messages in a stream of bytes (RFC 9112). The grammar of a head is that of `httparse`; the rest of the rules stand here and in
 -- `Rules`. All of it speaks of the bytes alone.
-use Rattle.std.specs.Prelude.{◌≡◌, ◌<◌, ◌≤◌, ◌||◌, ◌⊎◌, not, ℕ, ◌==◌, List, [], ◌∷◌, ◌++◌, length, take, map, Bool, Option, option_map}
+use Rattle.std.specs.Prelude.{◌≡◌, ◌<◌, ◌≤◌, ◌||◌, ◌⊎◌, not, ℕ, ◌==◌, List, [], ◌∷◌, ◌++◌, length, take, map, Bool, option_map}
 use Rattle.std.specs.Str.{chars}
 use Rattle.rg_base.specs.Listed.{listed}
 use Rattle.httparse.specs.Ascii.{line_feed, carriage_return, space}

@@ -9,12 +9,14 @@ use http::StatusCode;
 use rg_base::{NoMemory, Seq};
 use std::alloc::{AllocError, Global};
 
+// Whether a response with this status has no length.
 fn is_bare(status: u16) -> bool
     ensures { result ≡ is_bare status }
 {
     status == 204 || status == 304
 }
 
+// HTTP/1.1, the status and its phrase.
 fn status_line(text: &mut String, status: u16) -> Result<(), AllocError>
     requires { IsStatusCode status }
     ensures { OnOk result (string_bytes text.new ≡ string_bytes text.old ++ status_line status) }
@@ -25,6 +27,7 @@ fn status_line(text: &mut String, status: u16) -> Result<(), AllocError>
     }
 }
 
+// Says that the connection is closed, where it is.
 fn close_line(text: &mut String, close: bool) -> Result<(), AllocError>
     ensures { OnOk result (string_bytes text.new ≡ string_bytes text.old ++ close_line close) }
 {
@@ -34,6 +37,7 @@ fn close_line(text: &mut String, close: bool) -> Result<(), AllocError>
     Ok(())
 }
 
+// Says of what type the body is, where it has bytes.
 fn type_line(text: &mut String, len: usize) -> Result<(), AllocError>
     ensures { OnOk result (string_bytes text.new ≡ string_bytes text.old ++ type_line len) }
 {
@@ -43,6 +47,7 @@ fn type_line(text: &mut String, len: usize) -> Result<(), AllocError>
     Ok(())
 }
 
+// Says how long the body is, and of what type.
 fn length_lines(text: &mut String, status: u16, len: usize) -> Result<(), AllocError>
     ensures { OnOk result (string_bytes text.new ≡ string_bytes text.old ++ length_lines status len) }
 {
@@ -53,6 +58,7 @@ fn length_lines(text: &mut String, status: u16, len: usize) -> Result<(), AllocE
     type_line(text, len)
 }
 
+// All before the body.
 fn head_text(alloc: Global, response: &Response) -> Result<String, AllocError>
     requires { IsStatusCode response.now.status }
     ensures { IfOk result (λ s. string_bytes s ++ response.now.body.items ≡ response_text response.now) }
