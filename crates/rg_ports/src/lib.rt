@@ -5,14 +5,22 @@ mod calls;
 mod counter;
 mod list_clock;
 mod machine;
+mod mem_link;
+mod mem_listener;
 mod mem_sink;
 mod mem_source;
 mod ports;
+mod taking;
+mod tcp;
 #[cfg(test)]
 mod tests;
+mod unread;
 
 pub use list_clock::ListClock;
 pub use machine::{StdSink, StdSource, WallClock};
+pub use mem_link::MemLink;
+pub use mem_listener::MemListener;
 pub use mem_sink::MemSink;
 pub use mem_source::MemSource;
-pub use ports::{Clock, Sink, Source};
+pub use ports::{Clock, Link, Listener, Sink, Source};
+pub use tcp::{TcpLink, TcpNet};

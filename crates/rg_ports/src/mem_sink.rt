@@ -6,6 +6,7 @@ ghost use Rattle.rg_ports.specs.Memory.{SinkState, after_write};
 
 use crate::calls::Calls;
 use crate::ports::Sink;
+use crate::taking::take_bytes;
 use rg_base::{Failed, Seq};
 use std::marker::Model;
 
@@ -46,21 +47,6 @@ impl MemSink {
     }
 }
 
-// Appends as many of the bytes as there is memory for.
-fn append(held: &mut Seq<u8>, bytes: &[u8]) -> usize
-    ensures within { result ≤ length bytes.now }
-    ensures taken { held.new.items ≡ held.old.items ++ take result bytes.now }
-{
-    let mut n = 0;
-    for byte in bytes {
-        if held.push(*byte).is_err() {
-            return n;
-        }
-        n += 1;
-    }
-    n
-}
-
 impl Sink for MemSink {
     ghost use Rattle.std.specs.Prelude.{Some};
 
@@ -79,17 +65,6 @@ impl Sink for MemSink {
         ensures some { IfOk result (λ n. 0 < length piece.now → 0 < n) }
         ensures after { IfOk result (λ n. self.new ≡ after_write piece.now n self.old) }
     {
-        if self.calls.is_to_fail() {
-            self.calls.fail();
-            return Err(Failed);
-        }
-        let most = self.calls.moves(piece.len());
-        let n = append(&mut self.bytes, piece.split_at(most).0);
-        if n == 0 && !piece.is_empty() {
-            self.calls.fail();
-            return Err(Failed);
-        }
-        self.calls.succeed();
-        Ok(n)
+        take_bytes(&mut self.bytes, &mut self.calls, piece)
     }
 }

@@ -6,28 +6,23 @@ ghost use Rattle.rg_ports.specs.Memory.{SourceState, after_read};
 
 use crate::calls::Calls;
 use crate::ports::Source;
+use crate::unread::Unread;
 use rg_base::{Failed, Seq};
-use std::cmp;
 use std::marker::Model;
 
 /// Bytes in memory.
 #[derive(Drop)]
 pub struct MemSource {
-    bytes: Seq<u8>,
-    at: usize,
-    met_end: bool,
+    bytes: Unread,
     calls: Calls,
 }
 
 impl Model for MemSource {
-    ghost use Rattle.std.specs.Prelude.{◌≤◌, length, drop};
     ghost use Rattle.rg_ports.specs.Memory.{SourceState};
 
     ghost Value = { SourceState };
 
-    ghost view = { λ s. record { left = drop s.at s.bytes.items; ended = s.met_end; calls = s.calls } };
-
-    ghost invariant = { λ s. s.at ≤ length s.bytes.items };
+    ghost view = { λ s. record { left = s.bytes.left; ended = s.bytes.ended; calls = s.calls } };
 }
 
 impl MemSource {
@@ -39,20 +34,10 @@ impl MemSource {
         ensures { result ≡ record { left = bytes.items; ended = false; calls = untouched pieces.items fails.items } }
     {
         MemSource {
-            bytes,
-            at: 0,
-            met_end: false,
+            bytes: Unread::new(bytes),
             calls: Calls::new(pieces, fails),
         }
     }
-}
-
-// Puts the bytes into the front of the room.
-fn put_front(room: &mut [u8], bytes: &[u8])
-    requires { length bytes.now ≤ length room.old }
-    ensures { room.new ≡ bytes.now ++ drop (length bytes.now) room.old }
-{
-    room[..bytes.len()].copy_from_slice(bytes);
 }
 
 impl Source for MemSource {
@@ -76,18 +61,6 @@ impl Source for MemSource {
         ensures steady { self.old.calls.fails ≡ [] → self.new.calls.faults ≡ self.old.calls.faults }
         ensures after { IfOk result (λ n. self.new ≡ after_read (length room.old) n self.old) }
     {
-        if self.calls.is_to_fail() {
-            self.calls.fail();
-            return Err(Failed);
-        }
-        let rest = self.bytes.as_slice().split_at(self.at).1;
-        let n = self.calls.moves(cmp::min(room.len(), rest.len()));
-        put_front(room, rest.split_at(n).0);
-        if n == 0 && !room.is_empty() {
-            self.met_end = true;
-        }
-        self.at += n;
-        self.calls.succeed();
-        Ok(n)
+        self.bytes.read(&mut self.calls, room)
     }
 }

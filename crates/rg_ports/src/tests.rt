@@ -1,7 +1,10 @@
 // What no contract can say: that a call can succeed, and what the forms over the machine do.
 ghost use Rattle.std.specs.Prelude.{◌<◌, All};
 
-use crate::{Clock, ListClock, MemSink, MemSource, Sink, Source, StdSink, StdSource, WallClock};
+use crate::{
+    Clock, Link, ListClock, Listener, MemLink, MemListener, MemSink, MemSource, Sink, Source,
+    StdSink, StdSource, TcpLink, TcpNet, WallClock,
+};
 use rg_base::{Failed, Moment, Seq};
 use std::alloc::Global;
 use std::io::{ErrorKind, Read, Write};
@@ -113,6 +116,78 @@ fn a_listed_write_fails(rt: HostRuntime) -> Result<(), Fail> {
     Ok(())
 }
 
+fn link(alloc: Global, pieces: &[u32], fails: &[u64]) -> Result<MemLink, Fail>
+    requires { All (λ size. 0 < size) pieces.now }
+{
+    let bytes = Seq::from_vec(Vec::from_slice(alloc, DIGITS)?);
+    let pieces = Seq::from_vec(Vec::from_slice(alloc, pieces)?);
+    let fails = Seq::from_vec(Vec::from_slice(alloc, fails)?);
+    Ok(MemLink::new(bytes, Seq::new(alloc), pieces, fails))
+}
+
+// Reads into a room for four bytes and then writes `abc`, again and again, and compares what came and what is held.
+fn check_link(rt: &impl Abort, mut link: MemLink, wanted: &[(&str, &str)]) {
+    for (came, held) in wanted {
+        let mut room = [b'.'; 4];
+        match link.read(&mut room) {
+            Ok(n) => assert_eq!(rt; &room[..n], came.as_bytes()),
+            Err(Failed) => assert_eq!(rt; *came, "failed"),
+        }
+        match link.write(b"abc") {
+            Ok(_) => assert_eq!(rt; link.held(), held.as_bytes()),
+            Err(Failed) => assert_eq!(rt; *held, "failed"),
+        }
+    }
+}
+
+#[test]
+fn reads_and_writes_of_a_link_are_counted_together(rt: HostRuntime) -> Result<(), Fail> {
+    let sizes = link(rt.alloc(), &[3, 1, 2], &[])?;
+    check_link(&rt, sizes, &[("012", "a"), ("34", "aab"), ("56", "aabab")]);
+    let fails = link(rt.alloc(), &[], &[2, 3])?;
+    check_link(
+        &rt,
+        fails,
+        &[
+            ("0123", "failed"),
+            ("failed", "abc"),
+            ("4567", "abcabc"),
+            ("89", "abcabcabc"),
+        ],
+    );
+    Ok(())
+}
+
+#[test]
+fn a_listener_gives_its_links_in_order(rt: HostRuntime) -> Result<(), Fail> {
+    let alloc = rt.alloc();
+    let links = vec![in alloc; link(alloc, &[1], &[])?, link(alloc, &[2], &[])?]?;
+    let fails = Seq::from_vec(Vec::from_slice(alloc, &[1, 3])?);
+    let mut listener = MemListener::new(links, fails);
+    assert_eq!(rt; listener.listen("127.0.0.1:0"), Err(Failed));
+    assert_eq!(rt; listener.listen("127.0.0.1:0"), Ok(()));
+    assert!(rt; listener.accept().is_err());
+    for came in ["0", "01", ""] {
+        let mut room = [b'.'; 4];
+        match listener.accept() {
+            Ok(Some(mut link)) => assert_eq!(rt; link.read(&mut room), Ok(came.len())),
+            Ok(None) => assert_eq!(rt; came, ""),
+            Err(Failed) => assert!(rt; false),
+        }
+    }
+    Ok(())
+}
+
+#[test]
+fn nobody_is_met_where_nothing_listens(rt: HostRuntime) -> Result<(), Fail> {
+    let mut net = TcpNet::new(rt.clone()?);
+    assert!(rt; net.accept().is_err());
+    assert_eq!(rt; net.listen("a text that is no address"), Err(Failed));
+    assert_eq!(rt; net.failures(), 2);
+    assert_eq!(rt; net.listen("127.0.0.1:0"), Ok(()));
+    Ok(())
+}
+
 #[test]
 fn the_last_moment_repeats(rt: HostRuntime) -> Result<(), Fail> {
     let moments = vec![in rt.alloc(); Moment(5), Moment(-7), Moment(6)]?;
@@ -200,6 +275,12 @@ fn interrupts_are_passed_over_and_faults_are_counted(rt: HostRuntime) {
         assert_eq!(rt; source.failures(), failures);
         assert_eq!(rt; sink.write(b"ab"), want);
         assert_eq!(rt; sink.failures(), failures);
+    }
+    let mut link = TcpLink::new(Unsteady { calls: 0 });
+    for (want, failures) in [(Ok(1), 0), (Err(Failed), 1)] {
+        assert_eq!(rt; link.read(&mut room), want);
+        assert_eq!(rt; link.write(b"ab"), want);
+        assert_eq!(rt; link.failures(), 2 * failures);
     }
 }
 

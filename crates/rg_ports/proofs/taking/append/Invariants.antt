@@ -1,5 +1,5 @@
 use Rattle.std.proofs.Common.{◌≡◌, ◌++◌, take}
-use Rattle.rg_ports.proofs.mem_sink.append.Given as goal
+use Rattle.rg_ports.proofs.taking.append.Given as goal
 
 -- what was appended so far
 abbrev pub invariant-loop-byte : goal.invariant-loop-byte

@@ -1,0 +1,9 @@
+pub mod Answers
+pub mod Fields
+pub mod Framing
+pub mod Messages
+pub mod Names
+pub mod Places
+pub mod Print
+pub mod Rules
+pub mod Scan
