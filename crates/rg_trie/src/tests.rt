@@ -123,69 +123,81 @@ fn prefixes_are_of_whole_characters(rt: HostRuntime) -> Result<(), Fail> {
     Ok(())
 }
 
-/// How many pairs the long test files, and after how many edits it looks at all of them.
+/// How many pairs the long test files, and how many of them under each key.
 const PAIRS: u32 = 1000;
 
-const STEP: u32 = 20;
+const EACH: u32 = 100;
 
-/// The key and the entry of the pair with this number: in the order of the numbers, ten entries at each prefix of the text.
-fn numbered(text: &str, number: u32) -> (&str, Filed) {
-    let length = (number / 10) as usize;
+/// The key and the entry of the pair with this number, in the order of the numbers. The first seven keys are prefixes of
+/// one text, the first and the last three of another. A greater key has lesser ids, so no two pairs have the same entry.
+fn numbered(number: u32) -> (&'static str, Filed) {
+    let key = match number / EACH {
+        0 => "",
+        1 => "s",
+        2 => "sa",
+        3 => "sal",
+        4 => "sale",
+        5 => "sales",
+        6 => "sales_",
+        7 => "t",
+        8 => "ta",
+        _ => "tax",
+    };
     let entry = Filed {
-        id: (number % 10 / 2) as i64,
+        id: (number % EACH / 2) as i64 - (number / EACH * EACH) as i64,
         place: number % 2,
     };
-    match text.get(..length) {
-        Some(key) => (key, entry),
-        None => (text, entry),
-    }
+    (key, entry)
 }
 
-/// Whether a walk over the text gives the pairs with these numbers, in this order.
-fn gives(trie: &Trie, text: &str, numbers: &[u32]) -> bool {
+/// Whether the walk gives the pairs with these numbers, in this order, and then no more.
+fn gives(trie: &Trie, text: &str, first: &[u32], last: &[u32]) -> bool {
     let mut walk = trie.walk(text, false);
-    for number in numbers {
-        if walk.next() != Some(numbered(text, *number).1) {
-            return false;
+    for numbers in [first, last] {
+        for number in numbers {
+            if walk.next() != Some(numbered(*number).1) {
+                return false;
+            }
         }
     }
     walk.next() == None
+}
+
+/// Whether two walks, which together see each pair, give the pairs with these numbers, which stand in order.
+fn agrees(trie: &Trie, numbers: &[u32]) -> bool {
+    let shared = numbers.partition_point(|number| *number < EACH);
+    let under_first = numbers.partition_point(|number| *number < 7 * EACH);
+    let (start, rest) = numbers.split_at(under_first);
+    gives(trie, "sales_eu", start, &[]) && gives(trie, "taxes", numbers.split_at(shared).0, rest)
 }
 
 #[test]
 fn many_edits_agree_with_a_sorted_list(rt: HostRuntime) -> Result<(), Fail> {
     let alloc = rt.alloc();
     let mut steps = Steps::counted();
-    let text =
-        "the quick brown fox jumps over the lazy dog, and then the dog jumps over the fox, which is not lazy";
     let mut trie = Trie::empty(alloc);
     let mut numbers = Vec::new(alloc);
     for i in 0..PAIRS {
         let number = i * 379 % PAIRS;
-        let (key, entry) = numbered(text, number);
+        let (key, entry) = numbered(number);
         trie = trie.insert(alloc, key, entry, &mut steps)?;
         let place = numbers.partition_point(|other: &u32| *other < number);
         numbers.insert(place, number)?;
-        if i % STEP == 0 {
-            assert!(rt;
-                gives(&trie, text, numbers.as_slice()),
-                "after inserting {number}"
-            );
-        }
+        assert!(rt;
+            agrees(&trie, numbers.as_slice()),
+            "after inserting {number}"
+        );
     }
     for i in 0..PAIRS {
         let number = i * 611 % PAIRS;
-        let (key, entry) = numbered(text, number);
+        let (key, entry) = numbered(number);
         trie = trie.remove(alloc, key, entry, &mut steps)?;
         numbers.retain(|other| *other != number);
-        if i % STEP == 0 {
-            assert!(rt;
-                gives(&trie, text, numbers.as_slice()),
-                "after removing {number}"
-            );
-        }
+        assert!(rt;
+            agrees(&trie, numbers.as_slice()),
+            "after removing {number}"
+        );
     }
-    assert_eq!(rt; trie.walk(text, false).next(), None);
     assert_eq!(rt; steps.ledger().edits, 2000);
     Ok(())
 }
