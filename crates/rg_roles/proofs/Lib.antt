@@ -1,0 +1,12 @@
+pub mod Firsts
+pub mod Lists
+pub mod Decided
+pub mod Least
+pub mod Lookup
+pub mod Asker
+pub mod Walks
+pub mod Ranked
+pub mod Asked
+pub mod Built
+pub mod Rows
+pub mod Charted

@@ -1,0 +1,5 @@
+pub mod Members
+pub mod Chains
+pub mod Holding
+pub mod Faults
+pub mod Places

@@ -1,0 +1,24 @@
+// The record of a role (Ranger's RangerRole).
+use rg_base::{NoMemory, Seq, Text, TryCopy};
+use std::alloc::Global;
+
+/// A role with its members.
+#[derive(Drop)]
+pub struct RoleRow {
+    pub name: Text,
+    pub users: Seq<Text>,
+    pub groups: Seq<Text>,
+    /// The names of the roles whose members this role has too.
+    pub roles: Seq<Text>,
+}
+
+impl TryCopy for RoleRow {
+    fn try_copy(&self, alloc: Global) -> Result<RoleRow, NoMemory> {
+        Ok(RoleRow {
+            name: self.name.try_copy(alloc)?,
+            users: self.users.try_copy(alloc)?,
+            groups: self.groups.try_copy(alloc)?,
+            roles: self.roles.try_copy(alloc)?,
+        })
+    }
+}
