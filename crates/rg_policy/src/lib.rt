@@ -3,7 +3,6 @@
 
 mod policy;
 mod request;
-mod roles;
 mod tags;
 mod zones;
 
@@ -12,7 +11,6 @@ pub use policy::{
 };
 pub use request::{AccessRequest, Element, Resource};
 pub use rg_base::Pair;
-pub use roles::RoleRow;
 pub use tags::{Tag, TagRow};
 pub use zones::{Subjects, ZoneLevel, ZoneRow, ZoneService};
 

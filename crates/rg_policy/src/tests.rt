@@ -1,7 +1,7 @@
 // That copies succeed with ample memory. What they are is proved.
 use crate::{
-    AccessEntry, AccessRequest, Element, Item, Policy, PolicyResource, Resource, RoleRow, Subjects,
-    Tag, TagRow, ZoneLevel, ZoneRow, ZoneService,
+    AccessEntry, AccessRequest, Element, Item, Policy, PolicyResource, Resource, Subjects, Tag,
+    TagRow, ZoneLevel, ZoneRow, ZoneService,
 };
 use rg_base::{Moment, NoMemory, PolicyId, Seq, Text, TryCopy, Version};
 use std::alloc::Global;
@@ -98,15 +98,6 @@ fn request(alloc: Global) -> Result<AccessRequest, NoMemory> {
     })
 }
 
-fn role(alloc: Global) -> Result<RoleRow, NoMemory> {
-    Ok(RoleRow {
-        name: text(alloc, "analyst")?,
-        users: texts(alloc, "ann")?,
-        groups: Seq::new(alloc),
-        roles: Seq::new(alloc),
-    })
-}
-
 fn subjects(alloc: Global) -> Subjects {
     Subjects {
         users: Seq::new(alloc),
@@ -169,12 +160,6 @@ fn policies_and_requests_are_copied(rt: HostRuntime) {
     let request = copied(rt.alloc(), request(rt.alloc())).expect(&rt, "ample memory");
     assert_eq!(rt; request.moment, Moment(-1));
     assert_eq!(rt; request.user.as_str(), "ann");
-}
-
-#[test]
-fn roles_are_copied(rt: HostRuntime) {
-    let role = copied(rt.alloc(), role(rt.alloc())).expect(&rt, "ample memory");
-    assert_eq!(rt; role.name.as_str(), "analyst");
 }
 
 #[test]
