@@ -1,5 +1,5 @@
 -- The tests of dates and times of day, against `jiff`'s facts.
-use Rattle.std.proofs.Common.{◌≡◌, ℕ, ◌≤◌, ◌<◌, ℤ, pos, neg_ℤ, ◌≤ℤ◌, nat_le, nat_lt, Bool, true, false, ◌&&◌, ◌↔◌, List, refl, sym, ◌∙◌, arith}
+use Rattle.std.proofs.Common.{◌≡◌, ℕ, ◌≤◌, ◌<◌, pos, nat_le, nat_lt, Bool, true, false, ◌&&◌, ◌↔◌, List, refl, sym, arith}
 use Rattle.std.proofs.lemmas.Bool.Decides.{nat_tests}
 use Rattle.jiff_core.specs.Calendar.{IsDate, days_in_month}
 use Rattle.jiff_core.specs.Time.{IsTime}

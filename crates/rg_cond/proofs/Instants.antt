@@ -1,14 +1,12 @@
 -- Instants of the calendar, of zones and of `jiff`.
-use Rattle.std.proofs.Common.{◌≡◌, ℕ, List, ◌+◌, ◌*◌, ◌/◌, zero, suc, ℤ, pos, negsuc, neg_ℤ, ◌+ℤ◌, ◌-ℤ◌, ◌*ℤ◌, ◌≤ℤ◌, int_le, int_lt, Bool, true, false, not, ◌&&◌, if◌then◌else◌, Option, Some, None, is_some, IsTrue, option_map, refl, sym, ap, ◌∙◌, arith, lit<, FitsSigned, w64, to_z, of_z}
+use Rattle.std.proofs.Common.{◌≡◌, ℕ, List, ◌*◌, ◌/◌, zero, suc, ℤ, pos, negsuc, neg_ℤ, ◌+ℤ◌, ◌-ℤ◌, ◌*ℤ◌, ◌≤ℤ◌, int_le, int_lt, Bool, true, false, not, if◌then◌else◌, Option, Some, None, is_some, IsTrue, option_map, refl, sym, ap, ◌∙◌, arith, lit<, FitsSigned, w64, to_z, of_z}
 use Rattle.std.proofs.lemmas.Bool.{and_from, and_parts}
 use Rattle.std.proofs.lemmas.Int.{to_z-of_z}
 use Rattle.rg_base.specs.declared.numbers.Moment.{Moment}
 use Rattle.std.proofs.Math.IntN.{pos-*ℤ-pos, negsuc-*ℤ-pos}
 use Rattle.std.proofs.Math.Nat.{mul-div_cancel}
 use Rattle.std.specs.Int.RustNames.{int_div}
-use Rattle.jiff_core.specs.Calendar.{IsDate, days_in_month}
 use Rattle.jiff_core.specs.DateTime.{civil_nanos, civil_seconds}
-use Rattle.jiff_core.specs.Time.{IsTime}
 use Rattle.jiff_core.specs.Timestamp.{IsTimestampNanos, nanos_of_seconds}
 use Rattle.jiff_core.specs.declared.Offset.{Offset}
 use Rattle.jiff_core.specs.declared.civil.datetime.DateTime.{DateTime}
@@ -27,7 +25,7 @@ use Rattle.jiff_tz.specs.declared.ambiguous.AmbiguousOffset.TheVariants.{Unambig
 use Rattle.jiff_tz.specs.declared.timezone.TimeZone.{TimeZone}
 use Rattle.jiff_tz.specs.declared.timezone.TimeZone.TheVariants.{UTC, Unknown, Fixed, Posix, Tzif}
 use Rattle.rg_cond.specs.ClockViews.{rule_said}
-use Rattle.rg_cond.specs.Clocks.{change_at, offset_ahead, offset_behind, offset_by, offset_with, offset_before, is_held, held, instant_on}
+use Rattle.rg_cond.specs.Clocks.{change_at, offset_by, offset_with, offset_before, is_held, held, instant_on}
 use Rattle.rg_cond.specs.Dates.{shown_of}
 
 -- ---- whole seconds in nanoseconds, and back

@@ -1,13 +1,10 @@
 -- A schedule whose ends and zone read.
-use Rattle.std.proofs.Common.{◌≡◌, ℕ, List, Bool, true, false, ◌||◌, if◌then◌else◌, Option, Some, None, is_none, option_and_then, unwrap_or, refl, sym, ap, ◌∙◌}
+use Rattle.std.proofs.Common.{◌≡◌, ℕ, List, ◌||◌, if◌then◌else◌, Option, Some, None, is_none, option_and_then, unwrap_or}
 use Rattle.std.specs.Str.{encode_utf8_all}
 use Rattle.jiff_tz.specs.PosixText.{TzText}
-use Rattle.rg_base.specs.declared.numbers.Moment.{Moment}
 use Rattle.rg_policy.specs.declared.policy.ScheduleText.{ScheduleText}
 use Rattle.rg_policy.specs.declared.policy.TimeZoneRow.{TimeZoneRow}
-use Rattle.rg_cond.specs.declared.faults.ScheduleFault.{ScheduleFault}
 use Rattle.rg_cond.specs.declared.faults.ScheduleFault.TheVariants.{BadTime, UnknownZone, OutOfRange, EndFirst}
-use Rattle.rg_cond.specs.declared.spans.Span.{Span}
 use Rattle.rg_cond.specs.Clocks.{clock_of}
 use Rattle.rg_cond.specs.Dates.{Shown}
 use Rattle.rg_cond.specs.Spans.{end_shown, end_on, end_of, ends_first, span_of, span_on, placing_fault, schedule_fault}

@@ -1,5 +1,5 @@
 -- Which instant a clock shows a time at: a clock in UTC, or one in a zone that a POSIX rule gives. What a rule reads as, and which days it names, are `jiff`'s.
-use Rattle.std.specs.Prelude.{ℕ, ℤ, pos, neg_ℤ, ◌+ℤ◌, ◌-ℤ◌, ◌*ℤ◌, ◌&&◌, ◌||◌, not, int_le, int_lt, Bool, List, [], codes, Option, Some, None, option_map, option_and_then, if◌then◌else◌}
+use Rattle.std.specs.Prelude.{ℕ, ℤ, pos, neg_ℤ, ◌+ℤ◌, ◌-ℤ◌, ◌*ℤ◌, ◌&&◌, ◌||◌, not, int_le, int_lt, Bool, List, [], Option, Some, None, option_map, option_and_then, if◌then◌else◌}
 use Rattle.std.specs.List.{find}
 use Rattle.std.specs.Str.{bytes_eq, encode_utf8_all}
 use Rattle.jiff_core.specs.Timestamp.{nanos_of_seconds}

@@ -1,5 +1,5 @@
 -- When a condition holds, for a request and the tag that is asked, if there is one.
-use Rattle.std.specs.Prelude.{ℕ, ℤ, ◌||◌, ◌&&◌, ◌-◌, ◌==◌, int_lt, not, Bool, false, List, [], ◌∷◌, ◌++◌, length, take, Option, Some, None, option_map, option_and_then, unwrap_or, if◌then◌else◌}
+use Rattle.std.specs.Prelude.{ℕ, ℤ, ◌||◌, ◌&&◌, ◌-◌, ◌==◌, int_lt, not, Bool, false, List, [], ◌∷◌, ◌++◌, length, take, Option, option_map, option_and_then, unwrap_or, if◌then◌else◌}
 use Rattle.std.specs.List.{list_any}
 use Rattle.std.specs.Option.{option_or}
 use Rattle.std.specs.Str.{bytes_eq, encode_utf8_all}

@@ -1,5 +1,5 @@
 -- The span of a schedule: from its start to its end, both included, where an empty text is open.
-use Rattle.std.specs.Prelude.{ℕ, ℤ, ◌||◌, ◌&&◌, ◌==◌, int_le, int_lt, Bool, true, false, List, length, Option, Some, None, is_none, option_map, option_and_then, unwrap_or, if◌then◌else◌}
+use Rattle.std.specs.Prelude.{ℕ, ◌||◌, ◌&&◌, ◌==◌, int_le, int_lt, Bool, true, false, List, length, Option, Some, None, is_none, option_map, option_and_then, unwrap_or, if◌then◌else◌}
 use Rattle.std.specs.Str.{encode_utf8_all}
 use Rattle.jiff_tz.specs.PosixText.{TzText}
 use Rattle.rg_base.specs.declared.numbers.Moment.{Moment}

@@ -1,5 +1,5 @@
 -- What the rules of a definition bound.
-use Rattle.std.proofs.Common.{◌≡◌, ◌≤◌, ◌&&◌, ◌∷◌, [], ℕ, List, true, false, Bool, None, length, drop, arith, option_map, refl}
+use Rattle.std.proofs.Common.{◌≡◌, ◌≤◌, ◌∷◌, [], ℕ, List, true, false, Bool, None, length, drop, arith, option_map, refl}
 use Rattle.std.specs.List.{find, list_all}
 use Rattle.std.specs.Prelude.{not}
 use Rattle.std.proofs.lemmas.Bool.{and_from, and_parts}

@@ -1,6 +1,6 @@
 -- The computed paths are all paths, and every level lies on one.
-use Rattle.std.proofs.Common.{◌≡◌, ◌<◌, ◌≤◌, ◌+◌, ◌++◌, ℕ, zero, suc, Bool, true, false, not, cond, ◌&&◌, ◌||◌, int_lt, List, [], ◌∷◌, length, get_or, map, reverse, Option, Some, None, slice_get, option_and_then, position, All, Contains, filter, refl, sym, ap, subst, ◌∙◌, arith, inl, inr, ◌⊎◌}
-use Rattle.std.proofs.lemmas.Bool.{false≢true, and_parts, or_cases, not-true, not_from_false, true_from_ne_false, eqb-true, eq-eqb, cases_Bool}
+use Rattle.std.proofs.Common.{◌≡◌, ◌<◌, ◌≤◌, ◌+◌, ℕ, zero, suc, Bool, true, false, not, cond, ◌&&◌, ◌||◌, int_lt, List, [], ◌∷◌, length, get_or, map, reverse, Option, Some, None, slice_get, option_and_then, All, Contains, filter, refl, sym, ap, subst, ◌∙◌, arith, inl, inr, ◌⊎◌}
+use Rattle.std.proofs.lemmas.Bool.{false≢true, and_parts, or_cases, not-true, true_from_ne_false, eqb-true, eq-eqb, cases_Bool}
 use Rattle.std.proofs.lemmas.List.{reverse-append}
 use Rattle.std.proofs.lemmas.List.Elements.{All-map, All-filter, All-contains, filter_passes, Contains-append_left, Contains-append_right}
 use Rattle.std.proofs.lemmas.List.FromFn.{length-range_with_len, get_or-range_with_len}

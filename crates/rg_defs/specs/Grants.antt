@@ -1,6 +1,6 @@
 -- What an access type grants.
-use Rattle.std.specs.Prelude.{ℕ, ◌&&◌, ◌||◌, Bool, List, ◌∷◌, [], Option, Some, None, option_map, unwrap_or}
-use Rattle.std.specs.List.{find, list_any}
+use Rattle.std.specs.Prelude.{ℕ, ◌||◌, Bool, List, ◌∷◌, [], Option, option_map, unwrap_or}
+use Rattle.std.specs.List.{find}
 use Rattle.std.specs.Str.{bytes_eq}
 use Rattle.rg_base.specs.Texts.{is_among}
 use Rattle.rg_defs.specs.declared.service_def.AccessType.{AccessType}

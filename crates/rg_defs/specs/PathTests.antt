@@ -1,11 +1,10 @@
 -- The paths, computed.
-use Rattle.std.specs.Prelude.{ℕ, zero, suc, Bool, true, false, not, ◌||◌, nat_eq, List, [], ◌∷◌, length, map, Option, Some, None, option_and_then, option_map, reverse, unwrap_or}
+use Rattle.std.specs.Prelude.{ℕ, zero, suc, Bool, false, not, ◌||◌, nat_eq, List, [], ◌∷◌, length, map, Option, Some, None, option_and_then, option_map, reverse, unwrap_or}
 use Rattle.std.specs.List.{filter, list_all, list_any, range_with_len, slice_get}
 use Rattle.std.specs.Str.{bytes_eq}
 use Rattle.rg_base.specs.Listed.{Listed, listed}
 use Rattle.rg_base.specs.Texts.{is_among}
 use Rattle.rg_defs.specs.declared.service_def.Level.{Level}
-use Rattle.rg_defs.specs.declared.service_def.ServiceDef.{ServiceDef}
 use Rattle.rg_defs.specs.Paths.{parent_of, place_of}
 
 -- the place, if there is one, and those above it, at most so many

@@ -1,5 +1,5 @@
 -- The paths of a definition: chains of levels from a root to a leaf, by parents. A level is named by its place in the list.
-use Rattle.std.specs.Prelude.{◌≡◌, ◌<◌, ℕ, Bool, List, [], ◌∷◌, length, Option, Some, None, option_and_then, position, reverse}
+use Rattle.std.specs.Prelude.{◌≡◌, ◌<◌, ℕ, List, [], ◌∷◌, length, Option, Some, None, option_and_then, position, reverse}
 use Rattle.std.specs.List.{find, slice_get}
 use Rattle.std.specs.Str.{bytes_eq}
 use Rattle.rg_defs.specs.declared.service_def.Level.{Level}

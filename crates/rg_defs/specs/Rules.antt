@@ -1,5 +1,5 @@
 -- The rules of a service definition, and the first that fails.
-use Rattle.std.specs.Prelude.{◌≡◌, ℕ, ◌&&◌, ◌||◌, not, Bool, true, false, nat_le, int_lt, codes, List, [], ◌∷◌, length, Option, None, option_map, if◌then◌else◌}
+use Rattle.std.specs.Prelude.{ℕ, ◌&&◌, ◌||◌, not, Bool, true, false, nat_le, int_lt, codes, List, [], ◌∷◌, length, Option, option_map}
 use Rattle.std.specs.List.{find, list_all, list_any}
 use Rattle.std.specs.Str.{bytes_eq}
 use Rattle.rg_base.specs.Texts.{all_distinct, is_name}

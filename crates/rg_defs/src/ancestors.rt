@@ -1,6 +1,6 @@
 // Which levels stand above others, and whether the mandatory ones among them are named.
-ghost use Rattle.std.specs.Prelude.{◌≡◌, ◌||◌, Option, length, map, not, option_and_then, ℕ};
-ghost use Rattle.std.specs.List.{list_all, list_any};
+ghost use Rattle.std.specs.Prelude.{◌≡◌, ◌||◌, Option, length, map, not, option_and_then};
+ghost use Rattle.std.specs.List.{list_any};
 ghost use Rattle.std.specs.Str.{bytes_eq, chars};
 ghost use Rattle.rg_defs.specs.declared.service_def.Level.{Level};
 ghost use Rattle.rg_defs.specs.Paths.{parent_of, place_of};

@@ -4,9 +4,8 @@ ghost use Rattle.std.specs.List.{list_all, list_any};
 ghost use Rattle.std.specs.Str.{chars};
 ghost use Rattle.rg_base.specs.Listed.{Listed, listed};
 ghost use Rattle.rg_defs.specs.Paths.{level_of, parent_of, place_of};
-ghost use Rattle.rg_defs.specs.PathTests.{climb, has_name, is_leaf, is_some_place, lies_on, on_one_path, path_to, paths_of};
+ghost use Rattle.rg_defs.specs.PathTests.{climb, first_paths, has_name, is_leaf, is_some_place, lies_on, on_one_path, path_to, paths_of};
 ghost use Rattle.rg_defs.specs.Rules.{def_fault};
-ghost use Rattle.rg_defs.specs.PathTests.{first_paths};
 
 use crate::service_def::{Level, ServiceDef};
 use rg_base::{Named, NoMemory, Seq, find_named, place_named, same_text};
@@ -81,8 +80,8 @@ fn has_child(levels: &[Level], place: usize) -> bool
     levels.iter().any(|level| is_place(place, place_named(levels, level.parent.as_str())))
 }
 
-#[tactic(auto, using(crate::proofs::Climbs::first_paths_leaf, crate::proofs::Climbs::first_paths_other))]
 /// The paths so far, with that to this place where it is a leaf.
+#[tactic(auto, using(crate::proofs::Climbs::first_paths_leaf, crate::proofs::Climbs::first_paths_other))]
 fn with_path(
     alloc: Global,
     mut list: Seq<Seq<u32>>,

@@ -1,5 +1,5 @@
 -- The matching of what is compiled against the written resources.
-use Rattle.std.proofs.Common.{◌≡◌, ◌++◌, ◌&&◌, ◌||◌, ℕ, Bool, true, false, not, cond, if◌then◌else◌, List, [], ◌∷◌, map, Option, Some, None, option_map, slice_get, Contains, refl, sym, ap, subst, ◌∙◌}
+use Rattle.std.proofs.Common.{◌≡◌, ◌&&◌, ◌||◌, ℕ, Bool, true, false, not, if◌then◌else◌, List, [], ◌∷◌, map, Option, Some, None, option_map, slice_get, refl, sym, ap, ◌∙◌}
 use Rattle.std.proofs.lemmas.Bool.{false≢true, and_parts, and_from}
 use Rattle.std.proofs.lemmas.List.Folds.{list_all-append, list_all-map}
 use Rattle.std.proofs.lemmas.Slice.Eq.{bytes_eq-Decides}
@@ -24,7 +24,7 @@ use Rattle.rg_resmatch.specs.Compiled.{LevelForm}
 use Rattle.rg_resmatch.specs.Rules.{is_some_resource, levels_fit, named_levels}
 use Rattle.rg_resmatch.specs.Tests.{any_stands, is_hit, is_open, is_some_element, levels_of, lies, may_name, meets, names_level, patterns_of, value_at}
 use Rattle.rg_resmatch.proofs.Named.{list_any-map}
-use Rattle.rg_resmatch.proofs.Quantified.{agree_all, agree_any, all_from, all_holds, any_from, any_holds}
+use Rattle.rg_resmatch.proofs.Quantified.{agree_all, all_from, all_holds, any_from, any_holds}
 
 -- one level
 

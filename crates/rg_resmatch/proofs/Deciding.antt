@@ -1,10 +1,9 @@
 -- The tests decide the relations.
-use Rattle.std.proofs.Common.{◌≡◌, ◌<◌, ◌↔◌, ◌&&◌, ◌||◌, ℕ, Bool, true, false, not, if◌then◌else◌, IsTrue, List, [], ◌∷◌, length, map, Option, Some, None, option_map, slice_get, Contains, refl, sym, ap, subst, ◌∙◌, arith, inl, inr}
-use Rattle.std.proofs.lemmas.Bool.{false≢true, and_parts, and_from, or_cases, or_left, or_right, not-true, not_from_false, false_from_ne_true, cases_Bool}
-use Rattle.std.proofs.lemmas.Option.{none-some, same_Some}
+use Rattle.std.proofs.Common.{◌≡◌, ◌<◌, ◌↔◌, ◌&&◌, ℕ, Bool, true, false, not, if◌then◌else◌, IsTrue, List, [], ◌∷◌, length, map, Option, Some, None, option_map, slice_get, Contains, refl, sym, ap, subst, ◌∙◌, arith, inl, inr}
+use Rattle.std.proofs.lemmas.Bool.{false≢true, and_parts, and_from, or_cases, or_left, or_right, not-true, not_from_false, false_from_ne_true}
 use Rattle.std.proofs.lemmas.Simd.{map-map}
 use Rattle.std.proofs.lemmas.Slice.Eq.{bytes_eq-Decides}
-use Rattle.std.specs.List.{list_all, list_any}
+use Rattle.std.specs.List.{list_all}
 use Rattle.std.specs.Option.{unwrap_or}
 use Rattle.std.specs.Str.{bytes_eq}
 use Rattle.rg_base.specs.Texts.{is_among}
@@ -22,7 +21,7 @@ use Rattle.rg_policy.specs.declared.request.Element.{Element}
 use Rattle.rg_resmatch.specs.declared.reach.Reach.{Reach}
 use Rattle.rg_resmatch.specs.declared.reach.Reach.TheVariants.{Exact, Down}
 use Rattle.rg_resmatch.specs.Lies.{Hit, Lies, LiesOn, SomeStands, Turned}
-use Rattle.rg_resmatch.specs.Tests.{any_stands, hit, is_hit, is_open, is_some_element, levels_of, lies, may_name, meets, names_level, patterns_of, some_stands, star, value_at}
+use Rattle.rg_resmatch.specs.Tests.{any_stands, hit, is_hit, is_open, is_some_element, levels_of, lies, may_name, meets, patterns_of, some_stands, star, value_at}
 use Rattle.rg_resmatch.proofs.Named.{list_any-map}
 use Rattle.rg_resmatch.proofs.Quantified.{all_from, all_holds, any_from, any_holds}
 

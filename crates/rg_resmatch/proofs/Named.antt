@@ -1,10 +1,9 @@
 -- Lists of the levels that resources name.
-use Rattle.std.proofs.Common.{◌≡◌, ◌||◌, ℕ, Bool, not, List, [], ◌∷◌, map, refl, sym, ap, ◌∙◌}
+use Rattle.std.proofs.Common.{◌≡◌, ◌||◌, ℕ, Bool, not, List, [], ◌∷◌, map, refl, ap, ◌∙◌}
 use Rattle.std.proofs.lemmas.List.Folds.{list_all-map}
 use Rattle.std.specs.List.{list_all, list_any}
 use Rattle.std.specs.Str.{bytes_eq}
 use Rattle.rg_base.specs.Listed.{Listed, listed}
-use Rattle.rg_base.specs.Texts.{is_among}
 use Rattle.rg_defs.specs.declared.service_def.Level.{Level}
 use Rattle.rg_defs.specs.PathTests.{is_above, is_settled, lies_on, on_one_path, paths_of}
 use Rattle.rg_policy.specs.declared.policy.PolicyResource.{PolicyResource}

@@ -1,17 +1,16 @@
 -- When a level is hit, and when resources lie on those of a request: relations.
-use Rattle.std.specs.Prelude.{◌≡◌, ◌⊎◌, ◌<◌, ℕ, Bool, true, false, List, length, map, Option, Some, None}
+use Rattle.std.specs.Prelude.{◌≡◌, ◌⊎◌, ◌<◌, ℕ, Bool, true, false, List, length, Some, None}
 use Rattle.std.specs.List.{Contains, slice_get}
 use Rattle.rg_defs.specs.declared.service_def.Level.{Level}
 use Rattle.rg_defs.specs.declared.service_def.ServiceDef.{ServiceDef}
 use Rattle.rg_defs.specs.Paths.{IsPath, level_of}
-use Rattle.rg_pattern.specs.declared.atoms.Atom.{Atom}
 use Rattle.rg_pattern.specs.Atoms.{twin}
 use Rattle.rg_pattern.specs.Reading.{atoms_of}
 use Rattle.rg_pattern.specs.Standing.{Stands}
 use Rattle.rg_policy.specs.declared.policy.PolicyResource.{PolicyResource}
 use Rattle.rg_policy.specs.declared.request.Element.{Element}
 use Rattle.rg_resmatch.specs.declared.reach.Reach.{Reach}
-use Rattle.rg_resmatch.specs.declared.reach.Reach.TheVariants.{Exact, Down}
+use Rattle.rg_resmatch.specs.declared.reach.Reach.TheVariants.{Exact}
 use Rattle.rg_resmatch.specs.Tests.{levels_of, star, value_at}
 
 -- some value of the resource stands for v, or the resource is recursive and some twin does

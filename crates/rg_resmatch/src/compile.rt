@@ -1,11 +1,8 @@
 // How resources are compiled.
 ghost use Rattle.std.specs.Prelude.{◌≡◌, ◌++◌, IfOk, List, None, Option, ℕ, map, option_map, option_to_list, true, false};
-ghost use Rattle.std.specs.List.{list_all, slice_get};
-ghost use Rattle.std.specs.Str.{chars};
-ghost use Rattle.rg_base.specs.Listed.{Listed, added, listed};
-ghost use Rattle.rg_base.specs.Texts.{is_name};
+ghost use Rattle.std.specs.List.{slice_get};
+ghost use Rattle.rg_base.specs.Listed.{listed};
 ghost use Rattle.rg_defs.specs.declared.service_def.Level.{Level};
-ghost use Rattle.rg_defs.specs.PathTests.{lies_on, paths_of};
 ghost use Rattle.rg_defs.specs.Rules.{def_fault};
 ghost use Rattle.rg_policy.specs.declared.policy.PolicyResource.{PolicyResource};
 ghost use Rattle.rg_policy.specs.declared.request.Element.{Element};

@@ -7,7 +7,7 @@ ghost use Rattle.rg_defs.specs.Paths.{level_of};
 ghost use Rattle.rg_pattern.specs.Atoms.{twin};
 ghost use Rattle.rg_pattern.specs.Reading.{atoms_of};
 ghost use Rattle.rg_resmatch.specs.Compiled.{folds, form_hit, form_meets, is_known, level_form, patterns_at};
-ghost use Rattle.rg_resmatch.specs.Tests.{any_stands, is_open, star};
+ghost use Rattle.rg_resmatch.specs.Tests.{any_stands, is_open};
 
 use rg_base::{NoMemory, Text, TryCopy, is_among};
 use rg_defs::{Level, ServiceDef, level_of};

@@ -1,5 +1,5 @@
 // The matching of the resource of a request.
-ghost use Rattle.std.specs.Prelude.{◌≡◌, ◌||◌, ℕ, List, Option, map, option_map};
+ghost use Rattle.std.specs.Prelude.{◌≡◌, ℕ, List, Option, option_map};
 ghost use Rattle.std.specs.List.{find, list_all, list_any};
 ghost use Rattle.std.specs.Str.{bytes_eq, chars};
 ghost use Rattle.rg_base.specs.Counts.{one_try};
@@ -8,7 +8,7 @@ ghost use Rattle.rg_base.specs.Texts.{is_among};
 ghost use Rattle.rg_defs.specs.Rules.{tag_name};
 ghost use Rattle.rg_policy.specs.declared.request.Element.{Element};
 ghost use Rattle.rg_resmatch.specs.Compiled.{LevelForm, form_meets, in_reach, matches_of, names_form};
-ghost use Rattle.rg_resmatch.specs.Tests.{is_some_element, tag_elements, value_at};
+ghost use Rattle.rg_resmatch.specs.Tests.{tag_elements, value_at};
 
 use crate::level::CompiledLevel;
 use rg_base::{Ledger, Seq, Steps, Text, is_among, same_text};

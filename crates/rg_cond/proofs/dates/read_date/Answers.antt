@@ -1,4 +1,4 @@
-use Rattle.std.proofs.Common.{sym, ◌∙◌, ap, arith, w8, w16, to_z, pos}
+use Rattle.std.proofs.Common.{◌∙◌, ap, arith, w8, w16, pos}
 use Rattle.std.proofs.lemmas.Int.{to_z_pos}
 use Rattle.rg_cond.proofs.Calendars.{date_taken}
 use Rattle.rg_cond.proofs.dates.read_date.Goals as goal

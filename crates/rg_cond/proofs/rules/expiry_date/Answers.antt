@@ -1,4 +1,4 @@
-use Rattle.std.proofs.Common.{ap, ◌∙◌}
+use Rattle.std.proofs.Common.{◌∙◌}
 use Rattle.rg_base.specs.Pairs.{value_of}
 use Rattle.rg_cond.proofs.Spelled.{date_chars}
 use Rattle.rg_cond.proofs.rules.expiry_date.Goals as goal

@@ -1,4 +1,4 @@
-use Rattle.std.proofs.Common.{◌≡◌, ℕ, ap, ◌∙◌}
+use Rattle.std.proofs.Common.{ℕ, ap, ◌∙◌}
 use Rattle.std.specs.List.{list_all, list_any}
 use Rattle.rg_base.specs.Listed.{Listed}
 use Rattle.rg_defs.specs.PathTests.{lies_on}

@@ -1,6 +1,5 @@
 use Rattle.std.proofs.Common.{◌≡◌, ◌++◌, ◌-◌, ◌∷◌, [], Some, None, length, ap, ◌∙◌, sym, arith, reverse}
 use Rattle.rg_base.specs.Listed.{listed}
-use Rattle.rg_defs.specs.Paths.{parent_of}
 use Rattle.rg_defs.specs.PathTests.{climb}
 use Rattle.rg_defs.proofs.Climbs.{climb_more, climb_ended}
 use Rattle.rg_defs.proofs.level_paths.path_to.Goals as goal

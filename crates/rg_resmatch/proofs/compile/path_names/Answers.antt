@@ -1,4 +1,4 @@
-use Rattle.std.proofs.Common.{◌≡◌, ◌++◌, ◌<◌, ℕ, List, Option, option_map, option_to_list, length, take, get_or, slice_get, sym, ap, ◌∙◌, arith}
+use Rattle.std.proofs.Common.{◌++◌, ◌<◌, ℕ, List, Option, option_map, option_to_list, length, take, get_or, slice_get, sym, ap, ◌∙◌, arith}
 use Rattle.std.proofs.lemmas.List.{take_more}
 use Rattle.rg_base.specs.Listed.{Listed, listed}
 use Rattle.rg_defs.specs.declared.service_def.Level.{Level}

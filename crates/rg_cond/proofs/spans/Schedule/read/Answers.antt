@@ -1,4 +1,4 @@
-use Rattle.std.proofs.Common.{◌≡◌, ap, sym, ◌∙◌}
+use Rattle.std.proofs.Common.{ap, sym, ◌∙◌}
 use Rattle.rg_cond.specs.Clocks.{clock_of}
 use Rattle.rg_cond.specs.Spans.{end_shown}
 use Rattle.rg_cond.proofs.Reading.{span_is, fault_is}
