@@ -1,9 +1,9 @@
 -- The first element with the least key, found by one pass.
 use Rattle.std.proofs.Common.{◌≡◌, ◌||◌, Bool, true, false, not, cond, List, [], ◌∷◌, Option, Some, None, refl, ap, sym, ◌∙◌, ℤ, int_lt, arith}
 use Rattle.std.proofs.lemmas.Int.{ints}
-use Rattle.std.specs.List.{find, list_any}
+use Rattle.std.specs.List.{filter, find, list_any}
 use Rattle.rg_facts.specs.Flow.{is_least, least_of}
-use Rattle.rg_facts.specs.Least.{lesser}
+use Rattle.rg_facts.specs.Cells.{lesser, offered}
 use Rattle.rg_policy.specs.declared.policy.Policy.{Policy}
 
 -- the best of these, from the best so far
@@ -91,3 +91,10 @@ best_of_some b (p ∷ ps) = best_of_some (lesser (Some b) p) ps ∙ least_next b
 pub best_from_none : (ps : List Policy) → best_from None ps ≡ least_of ps
 best_from_none [] = refl
 best_from_none (p ∷ ps) = best_of_some p ps
+
+-- one more policy, which may stand in the cell
+pub best_next : (f : Policy → Bool) (best : Option Policy) (p : Policy) (ps : List Policy) → best_from best (filter f (p ∷ ps)) ≡ best_from (offered (f p) best p) (filter f ps)
+best_next f best p ps = elim (f p) as (λ b. best_from best (cond b (p ∷ filter f ps) (filter f ps)) ≡ best_from (cond b (Some (lesser best p)) best) (filter f ps)) [
+  | true ↦ refl
+  | false ↦ refl
+]

@@ -1,3 +1,5 @@
+pub mod Cells
 pub mod Flow
-pub mod Least
+pub mod Order
+pub mod Plans
 pub mod Sound

@@ -1,17 +1,24 @@
 // Whether facts are sound.
-ghost use Rattle.std.specs.Prelude.{◌≡◌, IfOk, option_map};
-ghost use Rattle.std.specs.List.{list_all, list_any};
-ghost use Rattle.std.specs.Str.{bytes_eq, chars};
-ghost use Rattle.rg_facts.specs.Sound.{access_type_of, def_sound, entry_sound, item_sound, policy_sound, resource_sound, same_id, sound, versions_fit};
-ghost use Rattle.rg_base.specs.Texts.{all_distinct, is_name};
-ghost use Rattle.rg_defs.specs.declared.service_def.AccessType.{AccessType};
-ghost use Rattle.rg_defs.specs.declared.service_def.Level.{Level};
+ghost use Rattle.std.specs.Prelude.{◌≡◌, true, false, None, IfOk, MatchOption, is_none, map};
+ghost use Rattle.std.specs.List.{list_all};
+ghost use Rattle.rg_base.specs.Listed.{listed};
+ghost use Rattle.rg_base.specs.Texts.{all_distinct};
+ghost use Rattle.rg_policy.specs.declared.policy.TimeZoneRow.{TimeZoneRow};
+ghost use Rattle.rg_defs.specs.PathTests.{paths_of};
+ghost use Rattle.rg_defs.specs.Rules.{def_fault};
+ghost use Rattle.rg_cond.specs.Kinds.{condition_fault};
+ghost use Rattle.rg_cond.specs.Spans.{schedule_fault};
+ghost use Rattle.rg_cond.specs.Zones.{bad_rule};
+ghost use Rattle.rg_roles.specs.Faults.{fault_of};
+ghost use Rattle.rg_facts.specs.Sound.{all_items_sound, conditions_rule, entries_rule, entry_rule, item_sound, items_sound, policy_sound, priority_rule, same_id, schedule_rule, schedules_rule, sound, subjects_rule, versions_fit};
 
 use crate::facts::Facts;
-use crate::flow::level_of;
-use rg_base::{NoMemory, Text, is_name, same_text};
-use rg_defs::{AccessType, Level, ServiceDef};
-use rg_policy::{AccessEntry, Item, Policy, PolicyResource};
+use rg_base::{NoMemory, Seq};
+use rg_cond::{Schedule, ScheduleFault, TimeZoneFault, TimeZones, condition_fault};
+use rg_defs::{DefFault, ServiceDef, access_type_of, check_def, paths};
+use rg_policy::{AccessEntry, Item, Policy, PolicyCondition, ScheduleText, TimeZoneRow};
+use rg_resmatch::{levels_fit, values_fit};
+use rg_roles::{RoleFault, RoleRow, Roles};
 use std::alloc::Global;
 use std::collections::BTreeSet;
 
@@ -24,119 +31,116 @@ fn versions_fit(facts: &Facts) -> bool
     facts.policy_version.0 <= LAST_VERSION && facts.tag_version.0 <= LAST_VERSION
 }
 
-/// The definition's access type of this name, None where it has none.
-pub fn access_type_of<'a>(def: &'a ServiceDef, name: &str) -> Option<&'a AccessType>
-    ensures { option_map (λ t. t.now) result ≡ access_type_of def.now (chars name.now) }
+fn priority_rule(policy: &Policy) -> bool
+    ensures { result ≡ priority_rule policy.now }
 {
-    for kind in def.access_types.as_slice() {
-        if same_text(kind.name.as_str(), name) {
-            return Some(kind);
-        }
-    }
-    None
+    policy.priority == 0 || policy.priority == 1
 }
 
-fn any_level_named(levels: &[Level], name: &str) -> bool
-    ensures { result ≡ list_any (λ (l : Level). bytes_eq l.name (chars name.now)) levels.now }
+fn entries_rule(def: &ServiceDef, entries: &[AccessEntry]) -> bool
+    ensures { result ≡ entries_rule def.now entries.now }
 {
-    levels
-        .iter()
-        .any(|level| same_text(level.name.as_str(), name))
+    !entries.is_empty() && are_access_types(def, entries)
 }
 
-fn any_access_named(types: &[AccessType], name: &str) -> bool
-    ensures { result ≡ list_any (λ (t : AccessType). bytes_eq t.name (chars name.now)) types.now }
-{
-    types.iter().any(|kind| same_text(kind.name.as_str(), name))
-}
-
-/// Whether the names of the levels are distinct.
-fn levels_distinct(levels: &[Level]) -> bool
-    ensures { result ≡ all_distinct (λ (l m : Level). bytes_eq m.name l.name) levels.now }
-{
-    let mut rest = levels;
-    while let Some((level, later)) = rest.split_first() {
-        if any_level_named(later, level.name.as_str()) {
-            return false;
-        }
-        rest = later;
-    }
-    true
-}
-
-/// Whether the names of the access types are distinct.
-fn access_types_distinct(types: &[AccessType]) -> bool
-    ensures { result ≡ all_distinct (λ (t u : AccessType). bytes_eq u.name t.name) types.now }
-{
-    let mut rest = types;
-    while let Some((kind, later)) = rest.split_first() {
-        if any_access_named(later, kind.name.as_str()) {
-            return false;
-        }
-        rest = later;
-    }
-    true
-}
-
-fn def_sound(def: &ServiceDef) -> bool
-    ensures { result ≡ def_sound def.now }
-{
-    levels_distinct(def.levels.as_slice()) && access_types_distinct(def.access_types.as_slice())
-}
-
-fn all_names(texts: &[Text]) -> bool
-    ensures { result ≡ list_all is_name texts.now }
-{
-    texts.iter().all(|text| is_name(text.as_str()))
-}
-
-fn resource_sound(def: &ServiceDef, resource: &PolicyResource) -> bool
-    ensures { result ≡ resource_sound def.now resource.now }
-{
-    level_of(def, resource.level.as_str()).is_some()
-        && (!resource.values.is_empty() && all_names(resource.values.as_slice()))
-}
-
-fn resources_sound(def: &ServiceDef, resources: &[PolicyResource]) -> bool
-    ensures { result ≡ list_all (resource_sound def.now) resources.now }
-{
-    resources
-        .iter()
-        .all(|resource| resource_sound(def, resource))
-}
-
-fn entries_sound(def: &ServiceDef, entries: &[AccessEntry]) -> bool
-    ensures { result ≡ list_all (entry_sound def.now) entries.now }
+fn are_access_types(def: &ServiceDef, entries: &[AccessEntry]) -> bool
+    ensures { result ≡ list_all (entry_rule def.now) entries.now }
 {
     entries.iter().all(|entry| access_type_of(def, entry.access.as_str()).is_some())
+}
+
+fn conditions_rule(def: &ServiceDef, conditions: &[PolicyCondition]) -> bool
+    ensures { result ≡ conditions_rule def.now conditions.now }
+{
+    conditions
+        .iter()
+        .all(|condition| condition_fault(def, condition).is_none())
+}
+
+fn subjects_rule(item: &Item) -> bool
+    ensures { result ≡ subjects_rule item.now }
+{
+    !item.users.is_empty() || (!item.groups.is_empty() || !item.roles.is_empty())
 }
 
 fn item_sound(def: &ServiceDef, item: &Item) -> bool
     ensures { result ≡ item_sound def.now item.now }
 {
-    !item.users.is_empty()
-        && (!item.accesses.is_empty() && entries_sound(def, item.accesses.as_slice()))
+    entries_rule(def, item.accesses.as_slice())
+        && (conditions_rule(def, item.conditions.as_slice()) && subjects_rule(item))
 }
 
 fn items_sound(def: &ServiceDef, items: &[Item]) -> bool
-    ensures { result ≡ list_all (item_sound def.now) items.now }
+    ensures { result ≡ items_sound def.now items.now }
 {
     items.iter().all(|item| item_sound(def, item))
 }
 
-#[tactic(auto, unfolding(crate::specs::Sound::policy_sound))]
-fn policy_sound(def: &ServiceDef, policy: &Policy) -> bool
-    ensures { result ≡ policy_sound def.now policy.now }
+fn all_items_sound(def: &ServiceDef, policy: &Policy) -> bool
+    ensures { result ≡ all_items_sound def.now policy.now }
 {
-    0 < policy.id.0
-        && (resources_sound(def, policy.resources.as_slice())
-            && items_sound(def, policy.items.as_slice()))
+    items_sound(def, policy.items.as_slice())
+        && (items_sound(def, policy.deny_items.as_slice())
+            && (items_sound(def, policy.allow_exceptions.as_slice())
+                && (items_sound(def, policy.deny_exceptions.as_slice())
+                    && (items_sound(def, policy.mask_items.as_slice())
+                        && items_sound(def, policy.filter_items.as_slice())))))
 }
 
-fn policies_sound(def: &ServiceDef, policies: &[Policy]) -> bool
-    ensures { result ≡ list_all (policy_sound def.now) policies.now }
+fn reads(schedule: &ScheduleText, zones: &TimeZones) -> bool
+    ensures { result ≡ is_none (schedule_fault zones.now schedule.now) }
 {
-    policies.iter().all(|policy| policy_sound(def, policy))
+    Schedule::read(schedule, zones).is_ok()
+}
+
+fn schedule_rule(schedule: &ScheduleText, zones: &TimeZones) -> bool
+    ensures { result ≡ schedule_rule zones.now schedule.now }
+{
+    !schedule.recurring && reads(schedule, zones)
+}
+
+fn schedules_rule(schedules: &[ScheduleText], zones: &TimeZones) -> bool
+    ensures { result ≡ schedules_rule zones.now schedules.now }
+{
+    schedules
+        .iter()
+        .all(|schedule| schedule_rule(schedule, zones))
+}
+
+/// What the rules of a policy are asked against.
+#[derive(Drop)]
+struct Against<'a> {
+    def: &'a ServiceDef,
+    paths: &'a [Seq<u32>],
+    zones: &'a TimeZones,
+}
+
+#[tactic(auto, unfolding(crate::specs::Sound::policy_sound))]
+fn policy_sound(against: &Against, policy: &Policy) -> bool
+    requires { against.now.paths.now ≡ map listed (paths_of against.now.def.now.levels.items) }
+    ensures { result ≡ policy_sound against.now.def.now against.now.zones.now policy.now }
+{
+    let def = against.def;
+    let resources = policy.resources.as_slice();
+    0 < policy.id.0
+        && (priority_rule(policy)
+            && (levels_fit(def, against.paths, true, resources)
+                && (values_fit(def, resources)
+                    && (conditions_rule(def, policy.conditions.as_slice())
+                        && (schedules_rule(policy.schedules.as_slice(), against.zones)
+                            && all_items_sound(def, policy))))))
+}
+
+fn policies_sound(against: &Against, policies: &[Policy]) -> bool
+    requires { against.now.paths.now ≡ map listed (paths_of against.now.def.now.levels.items) }
+    ensures { result ≡ list_all (policy_sound against.now.def.now against.now.zones.now) policies.now }
+{
+    for policy in policies {
+        if !policy_sound(against, policy) {
+            return false;
+        }
+    }
+    true
 }
 
 /// Whether no two policies have one id.
@@ -154,16 +158,69 @@ fn ids_distinct(alloc: Global, policies: &[Policy]) -> Result<bool, NoMemory>
     Ok(true)
 }
 
-/// Whether the facts are sound. It takes memory for the ids of the policies.
+/// Whether the definition passes its rules.
+fn def_sound(alloc: Global, def: &ServiceDef) -> Result<bool, NoMemory>
+    ensures { IfOk result (λ sound. sound ≡ is_none (def_fault def.now)) }
+{
+    match check_def(alloc, def) {
+        Ok(()) => Ok(true),
+        Err(DefFault::Rule(_)) => Ok(false),
+        Err(DefFault::NoMemory) => Err(NoMemory),
+    }
+}
+
+/// The time zones, None where a rule doesn't read.
+fn time_zones(alloc: Global, rows: &[TimeZoneRow]) -> Result<Option<TimeZones>, NoMemory>
+    ensures { IfOk result (λ zones. MatchOption zones (is_none (bad_rule rows.now) ≡ false) (λ z. (z ≡ rows.now) × (is_none (bad_rule rows.now) ≡ true))) }
+{
+    match TimeZones::build(alloc, rows) {
+        Ok(zones) => Ok(Some(zones)),
+        Err(TimeZoneFault::BadRule(_)) => Ok(None),
+        Err(TimeZoneFault::NoMemory) => Err(NoMemory),
+    }
+}
+
+/// Whether the roles have distinct names, name roles that are there, and go in no circle.
+fn roles_sound(alloc: Global, rows: &[RoleRow]) -> Result<bool, NoMemory>
+    ensures { IfOk result (λ sound. sound ≡ is_none (fault_of rows.now)) }
+{
+    match Roles::build(alloc, rows) {
+        Ok(_) => Ok(true),
+        Err(RoleFault::NoMemory) => Err(NoMemory),
+        Err(_) => Ok(false),
+    }
+}
+
+/// Whether each policy passes its rules. The definition has passed its own.
+fn all_policies_sound(alloc: Global, facts: &Facts, zones: &TimeZones) -> Result<bool, NoMemory>
+    requires { def_fault facts.now.def ≡ None }
+    ensures { IfOk result (λ s. s ≡ list_all (policy_sound facts.now.def zones.now) facts.now.policies.items) }
+{
+    let paths = paths(alloc, &facts.def)?;
+    let against = Against {
+        def: &facts.def,
+        paths: paths.as_slice(),
+        zones,
+    };
+    Ok(policies_sound(&against, facts.policies.as_slice()))
+}
+
+/// Whether the facts are sound. It takes memory for the ids of the policies, the paths, the time zones and the roles.
 #[tactic(auto, unfolding(crate::specs::Sound::sound))]
 pub fn is_sound(alloc: Global, facts: &Facts) -> Result<bool, NoMemory>
     ensures { IfOk result (λ is_sound. is_sound ≡ sound facts.now) }
 {
-    if !versions_fit(facts) || !def_sound(&facts.def) {
+    if !versions_fit(facts) || !def_sound(alloc, &facts.def)? {
+        return Ok(false);
+    }
+    let Some(zones) = time_zones(alloc, facts.time_zones.as_slice())? else {
+        return Ok(false);
+    };
+    if !roles_sound(alloc, facts.roles.as_slice())? {
         return Ok(false);
     }
     if !ids_distinct(alloc, facts.policies.as_slice())? {
         return Ok(false);
     }
-    Ok(policies_sound(&facts.def, facts.policies.as_slice()))
+    all_policies_sound(alloc, facts, &zones)
 }
