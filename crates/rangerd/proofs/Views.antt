@@ -5,7 +5,7 @@ use Rattle.std.specs.declared.alloc.Global.{Global}
 use Rattle.serde_json.specs.Data.{Data}
 use Rattle.serde_json.specs.View.{view, items_of, members_of, items_view, members_view}
 use Rattle.serde_json.specs.declared.value.Value.{Value}
-use Rattle.rangerd.specs.Fields.{data_list, pairs_list}
+use Rattle.rg_wire.specs.Fields.{data_list, pairs_list}
 
 list_of_items : (ds : List Data) → data_list (items_of ds) ≡ ds
 list_of_items [] = refl

@@ -1,61 +1,73 @@
--- Which facts and requests use only what is built. A line that uses more is a bad line.
-use Rattle.std.specs.Prelude.{ℕ, ◌==◌, ◌&&◌, ◌||◌, not, Bool, true, false, List, length, codes, Option, Some, None, option_map, unwrap_or}
+-- Which facts use only what is built. A line that uses more is a bad line.
+use Rattle.std.specs.Prelude.{ℕ, ℤ, pos, ◌&&◌, not, Bool, true, List, [], codes, Option, option_map, option_and_then, is_some, unwrap_or}
 use Rattle.std.specs.List.{list_all}
-use Rattle.std.specs.Str.{bytes_eq}
-use Rattle.rg_policy.specs.declared.policy.AccessEntry.{AccessEntry}
-use Rattle.rg_policy.specs.declared.policy.Item.{Item}
-use Rattle.rg_policy.specs.declared.policy.Policy.{Policy}
-use Rattle.rg_policy.specs.declared.policy.PolicyResource.{PolicyResource}
-use Rattle.rg_policy.specs.declared.request.AccessRequest.{AccessRequest}
-use Rattle.rg_defs.specs.declared.service_def.AccessType.{AccessType}
-use Rattle.rg_defs.specs.declared.service_def.Level.{Level}
-use Rattle.rg_defs.specs.declared.service_def.ServiceDef.{ServiceDef}
-use Rattle.rg_facts.specs.declared.facts.Facts.{Facts}
-use Rattle.rg_facts.specs.Flow.{level_of}
-use Rattle.rg_facts.specs.Sound.{access_type_of}
+use Rattle.std.specs.Ordering.{int_eq}
+use Rattle.serde_json.specs.Data.{Data}
+use Rattle.serde_json.specs.Find.{get, as_array, as_i64, as_number}
+use Rattle.rg_wire.specs.Fields.{data_list, unless_null}
+use Rattle.rg_wire.specs.Texts.{data_of}
+use Rattle.rangerd.specs.declared.built.Part.{Part}
+use Rattle.rangerd.specs.declared.built.Part.TheVariants as part
 
--- the request names one level
-abbrev pub request_built : AccessRequest → Bool
-request_built q = length q.resource.elements.items == 1
+-- the key of a part
+unfoldable pub key_of : Part → List ℕ
+key_of part.TagServiceDef = codes "tagServiceDef"
+key_of part.TagPolicies = codes "tagPolicies"
+key_of part.Zones = codes "zones"
+key_of part.Roles = codes "roles"
+key_of part.Resources = codes "resources"
+key_of part.ZoneName = codes "zoneName"
+key_of part.PolicyType = codes "policyType"
+key_of part.DataMaskPolicyItems = codes "dataMaskPolicyItems"
+key_of part.RowFilterPolicyItems = codes "rowFilterPolicyItems"
+key_of part.Policies = codes "policies"
+key_of part.PolicyItems = codes "policyItems"
+key_of part.DenyPolicyItems = codes "denyPolicyItems"
+key_of part.AllowExceptions = codes "allowExceptions"
+key_of part.DenyExceptions = codes "denyExceptions"
 
--- `*`, `?` or `{`
-abbrev pub is_special : ℕ → Bool
-is_special c = c == 42 || (c == 63 || c == 123)
+-- the part stands with a value other than null
+unfoldable pub stands : Part → Data → Bool
+stands p d = is_some (option_and_then unless_null (get (key_of p) d))
 
--- the value has no special character
-abbrev pub value_built : List ℕ → Bool
-value_built v = list_all (λ c. not (is_special c)) v
+-- the items of a part that is a list
+unfoldable pub items_of : Part → Data → List Data
+items_of p d = unwrap_or (option_map data_list (option_and_then as_array (get (key_of p) d))) []
 
--- wildCard is on at the level of this name
-abbrev pub is_wild : ServiceDef → List ℕ → Bool
-is_wild def name = unwrap_or (option_map (λ (l : Level). l.wild) (level_of def name)) true
+-- the policy is of type 0, which is the default
+unfoldable pub is_access : Data → Bool
+is_access d = unwrap_or (option_map (int_eq (pos 0)) (option_and_then as_i64 (option_and_then as_number (get (key_of part.PolicyType) d)))) true
 
-abbrev pub resource_built : ServiceDef → PolicyResource → Bool
-resource_built def r = is_wild def r.level && list_all value_built r.values.items
+-- an item names no roles
+abbrev pub item_built : Data → Bool
+item_built d = not (stands part.Roles d)
 
--- the access type of this name has no implied grants
-abbrev pub is_plain : ServiceDef → List ℕ → Bool
-is_plain def name = unwrap_or (option_map (λ (t : AccessType). length t.implied.items == 0) (access_type_of def name)) true
+abbrev pub items_built : Part → Data → Bool
+items_built p d = list_all item_built (items_of p d)
 
-abbrev pub entry_built : ServiceDef → AccessEntry → Bool
-entry_built def entry = is_plain def entry.access
+-- a policy gives access, has no zone, and has no items of masks or row filters
+unfoldable pub policy_built : Data → Bool
+policy_built d = is_access d
+    && (not (stands part.ZoneName d)
+    && (not (stands part.DataMaskPolicyItems d)
+    && (not (stands part.RowFilterPolicyItems d)
+    && (items_built part.PolicyItems d
+    && (items_built part.DenyPolicyItems d
+    && (items_built part.AllowExceptions d
+    && items_built part.DenyExceptions d))))))
 
-unfoldable pub user_macro : List ℕ
-user_macro = codes "{USER}"
+-- facts have no tags, zones or roles
+unfoldable pub facts_built : Data → Bool
+facts_built d = not (stands part.TagServiceDef d)
+    && (not (stands part.TagPolicies d)
+    && (not (stands part.Zones d)
+    && (not (stands part.Roles d)
+    && (not (stands part.Resources d)
+    && list_all policy_built (items_of part.Policies d)))))
 
-unfoldable pub owner_macro : List ℕ
-owner_macro = codes "{OWNER}"
+abbrev pub json_built : Option Data → Bool
+json_built d = unwrap_or (option_map facts_built d) true
 
--- the name is neither `{USER}` nor `{OWNER}`
-abbrev pub user_built : List ℕ → Bool
-user_built user = not (bytes_eq user user_macro || bytes_eq user owner_macro)
-
-abbrev pub item_built : ServiceDef → Item → Bool
-item_built def item = list_all (entry_built def) item.accesses.items && list_all user_built item.users.items
-
--- the policy names one level, with values of plain characters, and its items are built
-unfoldable pub policy_built : ServiceDef → Policy → Bool
-policy_built def p = length p.resources.items == 1 && (list_all (resource_built def) p.resources.items && list_all (item_built def) p.items.items)
-
-abbrev pub facts_built : Facts → Bool
-facts_built facts = list_all (policy_built facts.def) facts.policies.items
+-- the JSON of this text, if it is any, uses only what is built
+abbrev pub text_built : List ℕ → Bool
+text_built text = json_built (data_of text)

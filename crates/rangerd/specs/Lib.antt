@@ -1,17 +1,9 @@
 pub mod Built
-pub mod Fields
-pub mod Fits
 pub mod Limits
 pub mod Line
 pub mod LineEnds
 pub mod Lines
 pub mod Moments
-pub mod Names
-pub mod Printing
-pub mod Records
 pub mod Run
 pub mod Script
-pub mod Shape
-pub mod Shapes
 pub mod Streams
-pub mod Texts

@@ -1,15 +1,16 @@
 -- What a line of a script is.
-use Rattle.std.specs.Prelude.{ℕ, ◌==◌, ◌&&◌, Bool, true, nat_le, List, [], ◌∷◌, length, take, drop, codes, Option, Some, None, if◌then◌else◌}
+use Rattle.std.specs.Prelude.{ℕ, ◌==◌, ◌&&◌, Bool, true, nat_le, List, [], ◌∷◌, length, take, drop, codes, Option, Some, None, Result, Ok, Err, if◌then◌else◌}
 use Rattle.std.specs.Str.{bytes_eq}
-use Rattle.serde_json.specs.Data.{Data}
 use Rattle.rg_base.specs.declared.numbers.Moment.{Moment}
+use Rattle.rg_policy.specs.declared.request.AccessRequest.{AccessRequest}
+use Rattle.rg_facts.specs.declared.facts.Facts.{Facts}
+use Rattle.rg_wire.specs.declared.fault.Fault.{Fault}
+use Rattle.rg_wire.specs.Reading.{reading}
+use Rattle.rg_wire.specs.Records.{facts_of, request_of}
+use Rattle.rg_wire.specs.Shapes.{facts_shape, request_shape}
 use Rattle.rangerd.specs.declared.line.Line.{Line}
 use Rattle.rangerd.specs.declared.line.Line.TheVariants as line
-use Rattle.rangerd.specs.Built.{facts_built, request_built}
-use Rattle.rangerd.specs.Fits.{fits}
-use Rattle.rangerd.specs.Records.{facts_of, request_of}
-use Rattle.rangerd.specs.Shapes.{facts_shape, request_shape}
-use Rattle.rangerd.specs.Texts.{data_of}
+use Rattle.rangerd.specs.Built.{text_built}
 
 -- what follows a word at the front of a line
 unfoldable pub after_word : List ℕ → List ℕ → Option (List ℕ)
@@ -27,22 +28,29 @@ is_blank [] = true
 is_blank (b ∷ bs) = b == 35
 
 -- facts that read and are built
-abbrev pub facts_from : Option Data → Option Line
-facts_from None = None
-facts_from (Some d) = if fits facts_shape d && facts_built (facts_of d) then Some (line.Facts (facts_of d)) else None
+abbrev pub facts_from : Bool → Result Facts Fault → Option Line
+facts_from built (Ok facts) = if built then Some (line.Facts facts) else None
+facts_from built (Err fault) = None
 
--- a request that reads and is built; one without a time is made now
-abbrev pub request_from : Moment → Option Data → Option Line
-request_from now None = None
-request_from now (Some d) = if fits request_shape d && request_built (request_of now d) then Some (line.Decide (request_of now d)) else None
+abbrev pub facts_line : List ℕ → Option Line
+facts_line json = facts_from (text_built json) (reading facts_shape facts_of json)
+
+-- a request that reads
+abbrev pub request_from : Result AccessRequest Fault → Option Line
+request_from (Ok request) = Some (line.Decide request)
+request_from (Err fault) = None
+
+-- a request without a time is made now
+abbrev pub request_line : Moment → List ℕ → Option Line
+request_line now json = request_from (reading request_shape (request_of now) json)
 
 abbrev pub decide_line : Moment → Option (List ℕ) → Option Line
 decide_line now None = None
-decide_line now (Some json) = request_from now (data_of json)
+decide_line now (Some json) = request_line now json
 
 abbrev pub worded_line : Moment → List ℕ → Option (List ℕ) → Option Line
 worded_line now bytes None = decide_line now (after_word decide_word bytes)
-worded_line now bytes (Some json) = facts_from (data_of json)
+worded_line now bytes (Some json) = facts_line json
 
 -- the line, or None for a bad one
 unfoldable pub line_of : List ℕ → Moment → Option Line

@@ -1,129 +1,159 @@
 // What is built so far: each part that comes drops a test here.
-ghost use Rattle.std.specs.Prelude.{◌≡◌};
+ghost use Rattle.std.specs.Prelude.{◌≡◌, IfOk, map, option_map};
 ghost use Rattle.std.specs.List.{list_all};
-ghost use Rattle.std.specs.Str.{chars};
-ghost use Rattle.rangerd.specs.Built.{entry_built, facts_built, is_plain, is_special, is_wild, item_built, policy_built, request_built, resource_built, user_built, value_built};
+ghost use Rattle.serde_json.specs.View.{view};
+ghost use Rattle.rg_wire.specs.Texts.{data_of};
+ghost use Rattle.rangerd.specs.Built.{facts_built, is_access, item_built, items_built, items_of, json_built, key_of, policy_built, stands, text_built};
 
-use rg_base::{Text, same_text, split_char};
-use rg_defs::ServiceDef;
-use rg_facts::{Facts, access_type_of, level_of};
-use rg_policy::{AccessEntry, AccessRequest, Item, Policy, PolicyResource};
+use rg_base::NoMemory;
+use serde_json::Value;
+use std::alloc::Global;
+use std::str;
 
-/// Whether the request uses only what is built.
-pub(crate) fn request_built(request: &AccessRequest) -> bool
-    ensures { result ≡ request_built request.now }
-{
-    request.resource.elements.len() == 1
+/// A part of facts in JSON that isn't built, or in which one may stand.
+#[derive(Clone, Copy, Debug, PartialEq, Eq)]
+pub(crate) enum Part {
+    TagServiceDef,
+    TagPolicies,
+    Zones,
+    Roles,
+    Resources,
+    ZoneName,
+    PolicyType,
+    DataMaskPolicyItems,
+    RowFilterPolicyItems,
+    Policies,
+    PolicyItems,
+    DenyPolicyItems,
+    AllowExceptions,
+    DenyExceptions,
 }
 
-fn is_special(c: char) -> bool
-    ensures { result ≡ is_special c }
-{
-    c == '*' || (c == '?' || c == '{')
+impl Part {
+    /// Its key in JSON.
+    #[tactic(auto, unfolding(crate::specs::Built::key_of))]
+    fn key(self) -> &'static str
+        ensures { result.now ≡ key_of self }
+    {
+        match self {
+            Part::TagServiceDef => "tagServiceDef",
+            Part::TagPolicies => "tagPolicies",
+            Part::Zones => "zones",
+            Part::Roles => "roles",
+            Part::Resources => "resources",
+            Part::ZoneName => "zoneName",
+            Part::PolicyType => "policyType",
+            Part::DataMaskPolicyItems => "dataMaskPolicyItems",
+            Part::RowFilterPolicyItems => "rowFilterPolicyItems",
+            Part::Policies => "policies",
+            Part::PolicyItems => "policyItems",
+            Part::DenyPolicyItems => "denyPolicyItems",
+            Part::AllowExceptions => "allowExceptions",
+            Part::DenyExceptions => "denyExceptions",
+        }
+    }
 }
 
-fn value_built(value: &str) -> bool
-    ensures { result ≡ value_built (chars value.now) }
+/// Whether the part stands with a value other than null.
+#[tactic(auto, unfolding(crate::specs::Built::stands))]
+fn stands(part: Part, value: &Value) -> bool
+    ensures { result ≡ stands part (view value.now) }
 {
-    let mut rest = value;
-    'characters: while let Some((c, more)) = split_char(rest) {
-        if is_special(c) {
+    match value.get(part.key()) {
+        None => false,
+        Some(Value::Null) => false,
+        Some(_) => true,
+    }
+}
+
+/// The items of a part that is a list.
+#[tactic(auto, using(crate::proofs::Views::views), unfolding(crate::specs::Built::items_of))]
+fn items_of<'a>(part: Part, value: &'a Value) -> &'a [Value]
+    ensures { map view result.now ≡ items_of part (view value.now) }
+{
+    match value.get(part.key()) {
+        None => &[],
+        Some(found) => match found.as_array() {
+            None => &[],
+            Some(items) => items.as_slice(),
+        },
+    }
+}
+
+/// Whether the policy is of type 0, which is the default.
+#[tactic(auto, unfolding(crate::specs::Built::is_access))]
+fn is_access(policy: &Value) -> bool
+    ensures { result ≡ is_access (view policy.now) }
+{
+    match policy.get(Part::PolicyType.key()) {
+        None => true,
+        Some(kind) => match kind.as_i64() {
+            None => true,
+            Some(number) => number == 0,
+        },
+    }
+}
+
+fn all_items_built(items: &[Value]) -> bool
+    ensures { result ≡ list_all item_built (map view items.now) }
+{
+    for item in items {
+        if stands(Part::Roles, item) {
             return false;
         }
-        rest = more;
     }
     true
 }
 
-fn values_built(values: &[Text]) -> bool
-    ensures { result ≡ list_all value_built values.now }
+fn items_built(part: Part, policy: &Value) -> bool
+    ensures { result ≡ items_built part (view policy.now) }
 {
-    values.iter().all(|value| value_built(value.as_str()))
-}
-
-fn is_wild(def: &ServiceDef, name: &str) -> bool
-    ensures { result ≡ is_wild def.now (chars name.now) }
-{
-    match level_of(def, name) {
-        Some(level) => level.wild,
-        None => true,
-    }
-}
-
-fn resource_built(def: &ServiceDef, resource: &PolicyResource) -> bool
-    ensures { result ≡ resource_built def.now resource.now }
-{
-    is_wild(def, resource.level.as_str()) && values_built(resource.values.as_slice())
-}
-
-fn resources_built(def: &ServiceDef, resources: &[PolicyResource]) -> bool
-    ensures { result ≡ list_all (resource_built def.now) resources.now }
-{
-    resources
-        .iter()
-        .all(|resource| resource_built(def, resource))
-}
-
-fn is_plain(def: &ServiceDef, name: &str) -> bool
-    ensures { result ≡ is_plain def.now (chars name.now) }
-{
-    match access_type_of(def, name) {
-        Some(kind) => kind.implied.is_empty(),
-        None => true,
-    }
-}
-
-fn entries_built(def: &ServiceDef, entries: &[AccessEntry]) -> bool
-    ensures { result ≡ list_all (entry_built def.now) entries.now }
-{
-    entries
-        .iter()
-        .all(|entry| is_plain(def, entry.access.as_str()))
-}
-
-#[tactic(auto, using(crate::proofs::Macros::macros))]
-fn user_built(user: &str) -> bool
-    ensures { result ≡ user_built (chars user.now) }
-{
-    !(same_text(user, "{USER}") || same_text(user, "{OWNER}"))
-}
-
-fn users_built(users: &[Text]) -> bool
-    ensures { result ≡ list_all user_built users.now }
-{
-    users.iter().all(|user| user_built(user.as_str()))
-}
-
-fn item_built(def: &ServiceDef, item: &Item) -> bool
-    ensures { result ≡ item_built def.now item.now }
-{
-    entries_built(def, item.accesses.as_slice()) && users_built(item.users.as_slice())
-}
-
-fn items_built(def: &ServiceDef, items: &[Item]) -> bool
-    ensures { result ≡ list_all (item_built def.now) items.now }
-{
-    items.iter().all(|item| item_built(def, item))
+    all_items_built(items_of(part, policy))
 }
 
 #[tactic(auto, unfolding(crate::specs::Built::policy_built))]
-fn policy_built(def: &ServiceDef, policy: &Policy) -> bool
-    ensures { result ≡ policy_built def.now policy.now }
+fn policy_built(policy: &Value) -> bool
+    ensures { result ≡ policy_built (view policy.now) }
 {
-    policy.resources.len() == 1
-        && (resources_built(def, policy.resources.as_slice())
-            && items_built(def, policy.items.as_slice()))
+    is_access(policy)
+        && (!stands(Part::ZoneName, policy)
+            && (!stands(Part::DataMaskPolicyItems, policy)
+                && (!stands(Part::RowFilterPolicyItems, policy)
+                    && (items_built(Part::PolicyItems, policy)
+                        && (items_built(Part::DenyPolicyItems, policy)
+                            && (items_built(Part::AllowExceptions, policy)
+                                && items_built(Part::DenyExceptions, policy)))))))
 }
 
-fn policies_built(def: &ServiceDef, policies: &[Policy]) -> bool
-    ensures { result ≡ list_all (policy_built def.now) policies.now }
+fn policies_built(policies: &[Value]) -> bool
+    ensures { result ≡ list_all policy_built (map view policies.now) }
 {
-    policies.iter().all(|policy| policy_built(def, policy))
+    for policy in policies {
+        if !policy_built(policy) {
+            return false;
+        }
+    }
+    true
 }
 
-/// Whether the facts use only what is built.
-pub(crate) fn facts_built(facts: &Facts) -> bool
-    ensures { result ≡ facts_built facts.now }
+#[tactic(auto, unfolding(crate::specs::Built::facts_built))]
+fn facts_built(facts: &Value) -> bool
+    ensures { result ≡ facts_built (view facts.now) }
 {
-    policies_built(&facts.def, facts.policies.as_slice())
+    !stands(Part::TagServiceDef, facts)
+        && (!stands(Part::TagPolicies, facts)
+            && (!stands(Part::Zones, facts)
+                && (!stands(Part::Roles, facts)
+                    && (!stands(Part::Resources, facts)
+                        && policies_built(items_of(Part::Policies, facts))))))
+}
+
+/// Whether the facts of this text use only what is built. A text that is no JSON is judged elsewhere.
+pub(crate) fn text_built(alloc: Global, text: &[u8]) -> Result<bool, NoMemory>
+    ensures { IfOk result (λ built. built ≡ text_built text.now) }
+{
+    match rg_wire::json_of(alloc, text)? {
+        None => Ok(true),
+        Some(facts) => Ok(facts_built(&facts)),
+    }
 }

@@ -1,19 +1,12 @@
 // The lines of a script, read.
 ghost use Rattle.std.specs.Prelude.{◌≡◌, Some, None, IfOk, option_map};
-ghost use Rattle.serde_json.specs.View.{view};
-ghost use Rattle.rangerd.specs.Line.{after_word, decide_line, facts_from, is_blank, line_of, request_from};
-ghost use Rattle.rangerd.specs.Texts.{data_of};
+ghost use Rattle.rangerd.specs.Line.{after_word, decide_line, facts_line, is_blank, line_of, request_line};
 
-use crate::built::{facts_built, request_built};
-use crate::json::fits::fits;
-use crate::json::lists::FromJson;
-use crate::json::records::read_request;
-use crate::json::shape::Kind;
-use crate::json::texts::{ParseFault, parse};
+use crate::built::text_built;
 use rg_base::Moment;
 use rg_facts::Facts;
 use rg_policy::AccessRequest;
-use serde_json::Value;
+use rg_wire::{WireFault, read_facts, read_request};
 use std::alloc::Global;
 
 /// A line of a script.
@@ -58,73 +51,32 @@ fn is_blank(line: &[u8]) -> bool
     }
 }
 
-/// The JSON of a text; None where it is none.
-fn json_of(alloc: Global, text: &[u8]) -> Result<Option<Value>, LineFault>
-    ensures ok { IfOk result (λ value. option_map view value ≡ data_of text.now) }
-    ensures never_bad { result ≡ Err LineFault.Bad → ⊥ }
-{
-    match parse(alloc, text) {
-        Ok(value) => Ok(Some(value)),
-        Err(ParseFault::Syntax) => Ok(None),
-        Err(ParseFault::NoMemory) => Err(LineFault::NoMemory),
-    }
-}
-
-#[tactic(auto, unfolding(crate::specs::Shapes::shape_of))]
-fn read_facts(alloc: Global, value: &Value) -> Result<Line, LineFault>
-    ensures ok { IfOk result (λ line. facts_from (Some (view value.now)) ≡ Some line) }
-    ensures bad { result ≡ Err LineFault.Bad → facts_from (Some (view value.now)) ≡ None }
-{
-    if !fits(Kind::Facts, value) {
-        return Err(LineFault::Bad);
-    }
-    let Ok(facts) = Facts::read(alloc, value) else {
-        return Err(LineFault::NoMemory);
-    };
-    if facts_built(&facts) {
-        Ok(Line::Facts(facts))
-    } else {
-        Err(LineFault::Bad)
-    }
-}
-
-#[tactic(auto, unfolding(crate::specs::Shapes::shape_of))]
-fn read_decide(alloc: Global, value: &Value, now: Moment) -> Result<Line, LineFault>
-    ensures ok { IfOk result (λ line. request_from now (Some (view value.now)) ≡ Some line) }
-    ensures bad { result ≡ Err LineFault.Bad → request_from now (Some (view value.now)) ≡ None }
-{
-    if !fits(Kind::Request, value) {
-        return Err(LineFault::Bad);
-    }
-    let Ok(request) = read_request(alloc, value, now) else {
-        return Err(LineFault::NoMemory);
-    };
-    if request_built(&request) {
-        Ok(Line::Decide(request))
-    } else {
-        Err(LineFault::Bad)
-    }
-}
-
 fn facts_line(alloc: Global, json: &[u8]) -> Result<Line, LineFault>
-    ensures ok { IfOk result (λ line. facts_from (data_of json.now) ≡ Some line) }
-    ensures bad { result ≡ Err LineFault.Bad → facts_from (data_of json.now) ≡ None }
+    ensures ok { IfOk result (λ line. facts_line json.now ≡ Some line) }
+    ensures bad { result ≡ Err LineFault.Bad → facts_line json.now ≡ None }
 {
-    match json_of(alloc, json) {
-        Ok(Some(value)) => read_facts(alloc, &value),
-        Ok(None) => Err(LineFault::Bad),
-        Err(_) => Err(LineFault::NoMemory),
+    let Ok(built) = text_built(alloc, json) else {
+        return Err(LineFault::NoMemory);
+    };
+    match read_facts(alloc, json) {
+        Ok(facts) => if built {
+            Ok(Line::Facts(facts))
+        } else {
+            Err(LineFault::Bad)
+        },
+        Err(WireFault::Bad { .. }) => Err(LineFault::Bad),
+        Err(WireFault::NoMemory) => Err(LineFault::NoMemory),
     }
 }
 
 fn decide_line(alloc: Global, json: &[u8], now: Moment) -> Result<Line, LineFault>
-    ensures ok { IfOk result (λ line. request_from now (data_of json.now) ≡ Some line) }
-    ensures bad { result ≡ Err LineFault.Bad → request_from now (data_of json.now) ≡ None }
+    ensures ok { IfOk result (λ line. request_line now json.now ≡ Some line) }
+    ensures bad { result ≡ Err LineFault.Bad → request_line now json.now ≡ None }
 {
-    match json_of(alloc, json) {
-        Ok(Some(value)) => read_decide(alloc, &value, now),
-        Ok(None) => Err(LineFault::Bad),
-        Err(_) => Err(LineFault::NoMemory),
+    match read_request(alloc, json, now) {
+        Ok(request) => Ok(Line::Decide(request)),
+        Err(WireFault::Bad { .. }) => Err(LineFault::Bad),
+        Err(WireFault::NoMemory) => Err(LineFault::NoMemory),
     }
 }
 

@@ -2,7 +2,6 @@
 #![tactic(auto)]
 
 mod built;
-mod json;
 mod line;
 mod lines;
 mod program;

@@ -3,17 +3,16 @@ ghost use Rattle.std.specs.Prelude.{◌≡◌, ◌++◌, ◌<◌, ◌^◌, ℕ, 
 ghost use Rattle.rg_base.specs.declared.numbers.Moment.{Moment};
 ghost use Rattle.rg_facts.specs.Sound.{sound};
 ghost use Rattle.rangerd.specs.Lines.{lines_of};
-ghost use Rattle.rangerd.specs.Printing.{decision_line};
 ghost use Rattle.rangerd.specs.Moments.{Gave};
-ghost use Rattle.rangerd.specs.Script.{Output, answer_of, bad_line_text, decide_outcome, facts_outcome, outcome_of, publication_of, script};
+ghost use Rattle.rangerd.specs.Script.{Output, bad_line_text, decide_outcome, decision_line, decision_of, facts_outcome, outcome_of, publication_of, script};
 
-use crate::json::printing::print_decision;
 use crate::line::{Line, LineFault, read_line};
 use crate::lines::split_line;
-use rg_base::{Moment, NoMemory, Serial};
-use rg_facts::{Answer, Facts, Plain, is_sound};
+use rg_base::{Moment, NoMemory, Serial, Text};
+use rg_facts::{Decision, Facts, Plain, is_sound};
 use rg_policy::AccessRequest;
 use rg_ports::Clock;
+use rg_wire::print_decision;
 use std::alloc::Global;
 
 /// What decisions are made by: an engine over the facts of one publication.
@@ -92,16 +91,35 @@ fn publish(
     }
 }
 
-/// The answer to a request.
-fn answer(publication: &Publication, request: &AccessRequest) -> Answer
-    ensures { result ≡ answer_of publication.now request.now }
+/// The decision of a request. Row filters and masks are not built yet, and nothing names the path of the resource.
+fn decision(alloc: Global, publication: &Publication, request: &AccessRequest) -> Decision
+    ensures { result ≡ decision_of publication.now request.now }
 {
     let facts = publication.engine.facts();
-    Answer {
-        verdict: publication.engine.scan(request),
+    let verdict = publication.engine.scan(request);
+    Decision {
+        access: verdict.access,
+        policy: verdict.policy,
+        audited: verdict.audited,
+        filter: None,
+        mask: None,
         serial: publication.serial,
         policy_version: facts.policy_version,
         tag_version: facts.tag_version,
+        path: Text::empty(alloc),
+    }
+}
+
+/// Adds the decision line.
+#[tactic(auto, unfolding(crate::specs::Script::decision_line))]
+fn add_decision(alloc: Global, text: &mut String, decision: &Decision) -> Result<(), NoMemory>
+    ensures { OnOk result (string_bytes text.new ≡ string_bytes text.old ++ decision_line decision.now) }
+{
+    let printed = print_decision(alloc, decision)?;
+    let line = printed.as_str();
+    match writeln!(text, "{line}") {
+        Ok(()) => Ok(()),
+        Err(_) => Err(NoMemory),
     }
 }
 
@@ -120,8 +138,8 @@ fn decide(
     match &published.current {
         None => bad_line(text, number),
         Some(publication) => {
-            let answer = answer(publication, request);
-            print_decision(alloc, text, &answer)?;
+            let decision = decision(alloc, publication, request);
+            add_decision(alloc, text, &decision)?;
             Ok(true)
         }
     }

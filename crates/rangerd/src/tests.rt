@@ -8,10 +8,10 @@ use std::alloc::Global;
 use std::process::Abort;
 use std::test::Fail;
 
-/// A definition with a level `database`, a level `url` where the case of letters counts, a level `fixed` without
-/// wildcards, and an access type `all` that implies `drop`.
+/// A definition: a database with tables and columns, a url where values may be recursive and the case of letters counts,
+/// and a level `fixed` without wildcards.
 const HEAD: &str =
-    r#"facts {"service":"s","serviceDef":{"name":"d","resources":[{"name":"database"},{"name":"url","matcherOptions":{"ignoreCase":"false"}},{"name":"fixed","matcherOptions":{"wildCard":false}}],"accessTypes":[{"name":"select"},{"name":"drop"},{"name":"all","impliedGrants":["drop"]}]},"policies":["#;
+    r#"facts {"service":"s","serviceDef":{"name":"d","resources":[{"name":"database","level":10,"excludesSupported":true},{"name":"url","level":10,"recursiveSupported":true,"matcherOptions":{"ignoreCase":"false"}},{"name":"table","level":20,"parent":"database","excludesSupported":true},{"name":"column","level":30,"parent":"table"},{"name":"fixed","level":10,"matcherOptions":{"wildCard":false}}],"accessTypes":[{"name":"select"},{"name":"drop"},{"name":"all","impliedGrants":["select","drop"]},{"name":"every","impliedGrants":["all"]}],"policyConditions":[{"name":"ip-range"},{"name":"script","evaluator":"js"},{"name":"ctx","evaluator":"context-value-in","evaluatorOptions":{"attributeName":"k"}}]},"policies":["#;
 
 const USAGE: &str = "usage: rangerd replay | serve ADDRESS LINKS | drill SEED POLICIES REQUESTS\n";
 
@@ -145,6 +145,33 @@ fn refuses_request(rt: &impl Abort, alloc: Global, request: &str) -> Result<(), 
     check(rt, alloc, script.as_bytes(), 2, "bad line 2\n")
 }
 
+/// One line of a table: an access with a policy id, a request, policies, and further keys of the facts, with `|` between.
+fn decides(rt: &impl Abort, alloc: Global, row: &str) -> Result<(), Fail> {
+    let mut parts = row.split('|');
+    let mut wanted = parts.next().unwrap_or("").split(' ');
+    let request = parts.next().unwrap_or("");
+    let mut script = String::from_str(alloc, HEAD)?;
+    script.push_str(parts.next().unwrap_or(""))?;
+    script.push_str("]")?;
+    script.push_str(parts.next().unwrap_or(""))?;
+    script.push_str("}\ndecide ")?;
+    script.push_str(request)?;
+    let wanted = line(
+        alloc,
+        wanted.next().unwrap_or(""),
+        "true",
+        wanted.next().unwrap_or(""),
+    )?;
+    check(rt, alloc, script.as_bytes(), 0, wanted.as_str())
+}
+
+fn decide_all(rt: &impl Abort, alloc: Global, table: &str) -> Result<(), Fail> {
+    for row in table.lines() {
+        decides(rt, alloc, row)?;
+    }
+    Ok(())
+}
+
 #[test]
 fn an_empty_source_prints_nothing(rt: HostRuntime) -> Result<(), Fail> {
     check(&rt, rt.alloc(), b"", 0, "")?;
@@ -209,94 +236,43 @@ fn audit_is_the_naming_policys(rt: HostRuntime) -> Result<(), Fail> {
     check(&rt, rt.alloc(), script.as_bytes(), 0, wanted.as_str())
 }
 
-#[test]
-fn facts_that_are_not_sound(rt: HostRuntime) -> Result<(), Fail> {
-    let alloc = rt.alloc();
-    refuses(
-        &rt,
-        alloc,
-        r#"{"id":0,"resources":{"database":{"values":["a"]}}}"#,
-    )?;
-    refuses(
-        &rt,
-        alloc,
-        r#"{"id":1,"resources":{"schema":{"values":["a"]}}}"#,
-    )?;
-    refuses(
-        &rt,
-        alloc,
-        r#"{"id":1,"resources":{"database":{"values":[]}}}"#,
-    )?;
-    refuses(
-        &rt,
-        alloc,
-        r#"{"id":1,"resources":{"database":{"values":["a",""]}}}"#,
-    )?;
-    refuses(
-        &rt,
-        alloc,
-        r#"{"id":1,"resources":{"database":{"values":["a"]}},"policyItems":[{"users":["u"]}]}"#,
-    )?;
-    refuses(
-        &rt,
-        alloc,
-        r#"{"id":1,"resources":{"database":{"values":["a"]}},"policyItems":[{"accesses":[{"type":"select"}]}]}"#,
-    )?;
-    refuses(
-        &rt,
-        alloc,
-        r#"{"id":1,"resources":{"database":{"values":["a"]}},"policyItems":[{"users":["u"],"accesses":[{"type":"fly"}]}]}"#,
-    )?;
-    refuses(
-        &rt,
-        alloc,
-        r#"{"id":1,"resources":{"database":{"values":["a"]}}},{"id":1,"resources":{"database":{"values":["b"]}}}"#,
-    )
-}
+/// Each line breaks one rule.
+const UNSOUND: &str = r#"{"id":0,"resources":{"database":{"values":["a"]}}}
+{"id":1}
+{"id":1,"resources":{"schema":{"values":["a"]}}}
+{"id":1,"resources":{"database":{"values":["a"]},"url":{"values":["a"]}}}
+{"id":1,"resources":{"database":{"values":[]}}}
+{"id":1,"resources":{"database":{"values":["a",""]}}}
+{"id":1,"resources":{"database":{"values":["a"],"isRecursive":true}}}
+{"id":1,"resources":{"column":{"values":["a"],"isExcludes":true}}}
+{"id":1,"policyPriority":2,"resources":{"database":{"values":["a"]}}}
+{"id":1,"policyPriority":-1,"resources":{"database":{"values":["a"]}}}
+{"id":1,"resources":{"database":{"values":["a"]}},"policyItems":[{"users":["u"]}]}
+{"id":1,"resources":{"database":{"values":["a"]}},"policyItems":[{"accesses":[{"type":"select"}]}]}
+{"id":1,"resources":{"database":{"values":["a"]}},"policyItems":[{"users":["u"],"accesses":[{"type":"fly"}]}]}
+{"id":1,"resources":{"database":{"values":["a"]}},"denyExceptions":[{"users":["u"],"accesses":[{"type":"fly"}]}]}
+{"id":1,"resources":{"database":{"values":["a"]}},"conditions":[{"type":"unknown","values":["a"]}]}
+{"id":1,"resources":{"database":{"values":["a"]}},"conditions":[{"type":"script","values":["a"]}]}
+{"id":1,"resources":{"database":{"values":["a"]}},"policyItems":[{"users":["u"],"accesses":[{"type":"select"}],"conditions":[{"type":"ip-range"}]}]}
+{"id":1,"resources":{"database":{"values":["a"]}},"validitySchedules":[{"startTime":"2024/02/30 00:00:00"}]}
+{"id":1,"resources":{"database":{"values":["a"]}},"validitySchedules":[{"timeZone":"Nowhere"}]}
+{"id":1,"resources":{"database":{"values":["a"]}},"validitySchedules":[{"startTime":"2024/02/02 00:00:00","endTime":"2024/02/01 00:00:00"}]}
+{"id":1,"resources":{"database":{"values":["a"]}},"validitySchedules":[{"recurrences":[{}]}]}
+{"id":1,"resources":{"database":{"values":["a"]}}},{"id":1,"resources":{"database":{"values":["b"]}}}
+],"timeZones":[{"name":"x","rule":"no rule"}"#;
 
 #[test]
-fn facts_that_are_not_built(rt: HostRuntime) -> Result<(), Fail> {
-    let alloc = rt.alloc();
-    refuses(&rt, alloc, r#"{"id":1}"#)?;
-    refuses(
-        &rt,
-        alloc,
-        r#"{"id":1,"resources":{"database":{"values":["a"]},"url":{"values":["a"]}}}"#,
-    )?;
-    refuses(
-        &rt,
-        alloc,
-        r#"{"id":1,"resources":{"fixed":{"values":["a"]}}}"#,
-    )?;
-    for value in "a*|?|{a".split('|') {
-        let mut policy = String::from_str(
-            alloc,
-            r#"{"id":1,"resources":{"database":{"values":["b",""#,
-        )?;
-        policy.push_str(value)?;
-        policy.push_str("\"]}}}")?;
-        refuses(&rt, alloc, policy.as_str())?;
+fn facts_that_are_not_sound(rt: HostRuntime) -> Result<(), Fail> {
+    for policies in UNSOUND.lines() {
+        refuses(&rt, rt.alloc(), policies)?;
     }
-    for user in "{USER}|{OWNER}".split('|') {
-        let mut policy = String::from_str(
-            alloc,
-            r#"{"id":1,"resources":{"database":{"values":["b"]}},"policyItems":[{"users":["u",""#,
-        )?;
-        policy.push_str(user)?;
-        policy.push_str(r#""],"accesses":[{"type":"select"}]}]}"#)?;
-        refuses(&rt, alloc, policy.as_str())?;
-    }
-    refuses(
-        &rt,
-        alloc,
-        r#"{"id":1,"resources":{"database":{"values":["a"]}},"policyItems":[{"users":["u"],"accesses":[{"type":"all"}]}]}"#,
-    )
+    Ok(())
 }
 
 #[test]
 fn keys_that_are_not_built(rt: HostRuntime) -> Result<(), Fail> {
     let alloc = rt.alloc();
-    for key in r#""policyType":0|"policyPriority":0|"conditions":[]|"denyPolicyItems":[]|"zoneName":""|"isDenyAllElse":false"#.split(
+    for key in r#""policyType":1|"policyType":2|"zoneName":""|"dataMaskPolicyItems":[]|"rowFilterPolicyItems":[]|"policyItems":[{"users":["u"],"accesses":[{"type":"select"}],"roles":[]}]|"denyExceptions":[{"users":["u"],"accesses":[{"type":"select"}],"roles":["r"]}]"#.split(
         '|',
     ) {
         let mut policy = String::from_str(
@@ -307,15 +283,10 @@ fn keys_that_are_not_built(rt: HostRuntime) -> Result<(), Fail> {
         policy.push_str("}")?;
         refuses(&rt, alloc, policy.as_str())?;
     }
-    for key in r#""groups":[]|"roles":[]|"delegateAdmin":false|"dataMaskInfo":{}|"rowFilterInfo":{"filterExpr":"x"}|"rowFilterInfo":1"#.split(
-        '|',
-    ) {
-        let mut policy = String::from_str(
-            alloc,
-            r#"{"id":1,"resources":{"database":{"values":["a"]}},"policyItems":[{"users":["u"],"accesses":[{"type":"select"}],"#,
-        )?;
+    for key in "tagServiceDef|tagPolicies|zones|roles|resources".split('|') {
+        let mut policy = String::from_str(alloc, r#"],""#)?;
         policy.push_str(key)?;
-        policy.push_str("}]}")?;
+        policy.push_str(r#"":["#)?;
         refuses(&rt, alloc, policy.as_str())?;
     }
     Ok(())
@@ -353,16 +324,6 @@ fn requests_that_do_not_read(rt: HostRuntime) -> Result<(), Fail> {
     refuses_request(
         &rt,
         alloc,
-        r#"{"user":"u","resource":{"elements":{}},"accessType":"select"}"#,
-    )?;
-    refuses_request(
-        &rt,
-        alloc,
-        r#"{"user":"u","resource":{"elements":{"database":"a","url":"b"}},"accessType":"select"}"#,
-    )?;
-    refuses_request(
-        &rt,
-        alloc,
         r#"{"user":"u","resource":{"elements":{"":"a"}},"accessType":"select"}"#,
     )?;
     refuses_request(
@@ -383,13 +344,91 @@ fn requests_that_do_not_read(rt: HostRuntime) -> Result<(), Fail> {
     refuses_request(
         &rt,
         alloc,
-        r#"{"user":"u","resource":{"elements":{"database":"a"}},"accessType":"select","userGroups":[]}"#,
+        r#"{"user":"u","resource":{"elements":{"database":"a"}},"accessType":"select","userGroups":[""]}"#,
     )?;
     refuses_request(
         &rt,
         alloc,
-        r#"{"user":"u","resource":{"elements":{"database":"a"},"ownerUser":"o"},"accessType":"select"}"#,
+        r#"{"user":"u","resource":{"elements":{"database":"a"},"ownerUser":1},"accessType":"select"}"#,
     )
+}
+
+/// Two cells, or one cell twice: which decides, and which id is named.
+const CELLS: &str =
+    r#"DENIED 7|{"user":"ann","resource":{"elements":{"database":"sales"}},"accessType":"select","accessTime":0}|{"id":7,"policyPriority":1,"resources":{"database":{"values":["sales"]}},"denyPolicyItems":[{"users":["ann"],"accesses":[{"type":"select"}]}]}
+DENIED 7|{"user":"ann","resource":{"elements":{"database":"sales"}},"accessType":"select","accessTime":0}|{"id":8,"policyPriority":1,"resources":{"database":{"values":["sales"]}},"policyItems":[{"users":["ann"],"accesses":[{"type":"select"}]}]},{"id":7,"policyPriority":1,"resources":{"database":{"values":["sales"]}},"denyPolicyItems":[{"users":["ann"],"accesses":[{"type":"select"}]}]}
+DENIED 7|{"user":"ann","resource":{"elements":{"database":"sales"}},"accessType":"select","accessTime":0}|{"id":3,"policyPriority":0,"resources":{"database":{"values":["sales"]}},"denyPolicyItems":[{"users":["ann"],"accesses":[{"type":"select"}]}]},{"id":7,"policyPriority":1,"resources":{"database":{"values":["sales"]}},"denyPolicyItems":[{"users":["ann"],"accesses":[{"type":"select"}]}]}
+DENIED 7|{"user":"ann","resource":{"elements":{"database":"sales"}},"accessType":"select","accessTime":0}|{"id":2,"policyPriority":0,"resources":{"database":{"values":["sales"]}},"policyItems":[{"users":["ann"],"accesses":[{"type":"select"}]}]},{"id":7,"policyPriority":1,"resources":{"database":{"values":["sales"]}},"denyPolicyItems":[{"users":["ann"],"accesses":[{"type":"select"}]}]}
+ALLOWED 8|{"user":"ann","resource":{"elements":{"database":"sales"}},"accessType":"select","accessTime":0}|{"id":8,"policyPriority":1,"resources":{"database":{"values":["sales"]}},"policyItems":[{"users":["ann"],"accesses":[{"type":"select"}]}]}
+ALLOWED 8|{"user":"ann","resource":{"elements":{"database":"sales"}},"accessType":"select","accessTime":0}|{"id":3,"policyPriority":0,"resources":{"database":{"values":["sales"]}},"denyPolicyItems":[{"users":["ann"],"accesses":[{"type":"select"}]}]},{"id":8,"policyPriority":1,"resources":{"database":{"values":["sales"]}},"policyItems":[{"users":["ann"],"accesses":[{"type":"select"}]}]}
+ALLOWED 8|{"user":"ann","resource":{"elements":{"database":"sales"}},"accessType":"select","accessTime":0}|{"id":2,"policyPriority":0,"resources":{"database":{"values":["sales"]}},"policyItems":[{"users":["ann"],"accesses":[{"type":"select"}]}]},{"id":8,"policyPriority":1,"resources":{"database":{"values":["sales"]}},"policyItems":[{"users":["ann"],"accesses":[{"type":"select"}]}]}
+DENIED 3|{"user":"ann","resource":{"elements":{"database":"sales"}},"accessType":"select","accessTime":0}|{"id":3,"policyPriority":0,"resources":{"database":{"values":["sales"]}},"denyPolicyItems":[{"users":["ann"],"accesses":[{"type":"select"}]}]}
+DENIED 3|{"user":"ann","resource":{"elements":{"database":"sales"}},"accessType":"select","accessTime":0}|{"id":2,"policyPriority":0,"resources":{"database":{"values":["sales"]}},"policyItems":[{"users":["ann"],"accesses":[{"type":"select"}]}]},{"id":3,"policyPriority":0,"resources":{"database":{"values":["sales"]}},"denyPolicyItems":[{"users":["ann"],"accesses":[{"type":"select"}]}]}
+ALLOWED 2|{"user":"ann","resource":{"elements":{"database":"sales"}},"accessType":"select","accessTime":0}|{"id":2,"policyPriority":0,"resources":{"database":{"values":["sales"]}},"policyItems":[{"users":["ann"],"accesses":[{"type":"select"}]}]}
+DENIED 7|{"user":"ann","resource":{"elements":{"database":"sales"}},"accessType":"select","accessTime":0}|{"id":27,"policyPriority":1,"resources":{"database":{"values":["sales"]}},"denyPolicyItems":[{"users":["ann"],"accesses":[{"type":"select"}]}]},{"id":7,"policyPriority":1,"resources":{"database":{"values":["sales"]}},"denyPolicyItems":[{"users":["ann"],"accesses":[{"type":"select"}]}]}
+ALLOWED 8|{"user":"ann","resource":{"elements":{"database":"sales"}},"accessType":"select","accessTime":0}|{"id":28,"policyPriority":1,"resources":{"database":{"values":["sales"]}},"policyItems":[{"users":["ann"],"accesses":[{"type":"select"}]}]},{"id":8,"policyPriority":1,"resources":{"database":{"values":["sales"]}},"policyItems":[{"users":["ann"],"accesses":[{"type":"select"}]}]}
+DENIED 3|{"user":"ann","resource":{"elements":{"database":"sales"}},"accessType":"select","accessTime":0}|{"id":23,"policyPriority":0,"resources":{"database":{"values":["sales"]}},"denyPolicyItems":[{"users":["ann"],"accesses":[{"type":"select"}]}]},{"id":3,"policyPriority":0,"resources":{"database":{"values":["sales"]}},"denyPolicyItems":[{"users":["ann"],"accesses":[{"type":"select"}]}]}
+ALLOWED 2|{"user":"ann","resource":{"elements":{"database":"sales"}},"accessType":"select","accessTime":0}|{"id":22,"policyPriority":0,"resources":{"database":{"values":["sales"]}},"policyItems":[{"users":["ann"],"accesses":[{"type":"select"}]}]},{"id":2,"policyPriority":0,"resources":{"database":{"values":["sales"]}},"policyItems":[{"users":["ann"],"accesses":[{"type":"select"}]}]}"#;
+
+/// What items, subjects, exceptions, schedules and conditions do.
+const FLOW: &str =
+    r#"DENIED -1|{"user":"ann","resource":{"elements":{"database":"sales"}},"accessType":"select"}|{"id":1,"resources":{"database":{"values":["sales"]}},"policyItems":[{"users":["ann"],"accesses":[{"type":"select"}]}],"allowExceptions":[{"users":["ann"],"accesses":[{"type":"select"}]}]}
+DENIED 1|{"user":"ann","resource":{"elements":{"database":"sales"}},"accessType":"select"}|{"id":1,"isDenyAllElse":true,"resources":{"database":{"values":["sales"]}},"policyItems":[{"users":["ann"],"accesses":[{"type":"select"}]}],"allowExceptions":[{"users":["ann"],"accesses":[{"type":"select"}]}]}
+ALLOWED 1|{"user":"ann","resource":{"elements":{"database":"sales"}},"accessType":"select"}|{"id":1,"isDenyAllElse":true,"resources":{"database":{"values":["sales"]}},"policyItems":[{"users":["ann"],"accesses":[{"type":"select"}]}]}
+DENIED 4|{"user":"ann","resource":{"elements":{"database":"sales"}},"accessType":"select"}|{"id":9,"resources":{"database":{"values":["sales"]}},"denyPolicyItems":[{"users":["ann"],"accesses":[{"type":"select"}]}]},{"id":4,"resources":{"database":{"values":["sales"]}},"denyPolicyItems":[{"users":["ann"],"accesses":[{"type":"select"}]}]}
+ALLOWED 2|{"user":"ann","resource":{"elements":{"database":"sales"}},"accessType":"select"}|{"id":1,"resources":{"database":{"values":["sales"]}},"policyItems":[{"users":["ann"],"accesses":[{"type":"select"}]}],"allowExceptions":[{"users":["ann"],"accesses":[{"type":"select"}]}]},{"id":2,"resources":{"database":{"values":["sales"]}},"policyItems":[{"users":["ann"],"accesses":[{"type":"select"}]}]}
+DENIED 2|{"user":"ann","resource":{"elements":{"database":"sales"}},"accessType":"select"}|{"id":1,"resources":{"database":{"values":["sales"]}},"denyPolicyItems":[{"users":["ann"],"accesses":[{"type":"select"}]}],"denyExceptions":[{"users":["ann"],"accesses":[{"type":"select"}]}]},{"id":2,"resources":{"database":{"values":["sales"]}},"denyPolicyItems":[{"users":["ann"],"accesses":[{"type":"select"}]}]}
+ALLOWED 1|{"user":"ann","resource":{"elements":{"database":"sales"}},"accessType":"select"}|{"id":1,"resources":{"database":{"values":["sales"]}},"policyItems":[{"users":["ann"],"accesses":[{"type":"select"}]}],"denyPolicyItems":[{"users":["ann"],"accesses":[{"type":"select"}]}],"denyExceptions":[{"users":["ann"],"accesses":[{"type":"select"}]}]}
+UNDETERMINED -1|{"user":"ann","resource":{"elements":{"database":"sales"}},"accessType":"select"}||,"fallback":true
+DENIED -1|{"user":"ann","resource":{"elements":{"database":"sales"}},"accessType":"select"}||,"fallback":false
+ALLOWED 1|{"user":"ann","resource":{"elements":{"database":"sales"}},"accessType":"select","userGroups":["x","staff"]}|{"id":1,"resources":{"database":{"values":["sales"]}},"policyItems":[{"groups":["staff"],"accesses":[{"type":"select"}]}]}
+DENIED -1|{"user":"staff","resource":{"elements":{"database":"sales"}},"accessType":"select"}|{"id":1,"resources":{"database":{"values":["sales"]}},"policyItems":[{"groups":["staff"],"accesses":[{"type":"select"}]}]}
+DENIED -1|{"user":"bob","resource":{"elements":{"database":"sales"}},"accessType":"select","userGroups":["ann"]}|{"id":1,"resources":{"database":{"values":["sales"]}},"policyItems":[{"users":["ann"],"accesses":[{"type":"select"}]}]}
+ALLOWED 1|{"user":"zoe","resource":{"elements":{"database":"sales"}},"accessType":"select"}|{"id":1,"resources":{"database":{"values":["sales"]}},"policyItems":[{"groups":["public"],"accesses":[{"type":"select"}]}]}
+ALLOWED 1|{"user":"zoe","resource":{"elements":{"database":"sales"}},"accessType":"select"}|{"id":1,"resources":{"database":{"values":["sales"]}},"policyItems":[{"users":["{USER}"],"accesses":[{"type":"select"}]}]}
+ALLOWED 1|{"user":"zoe","resource":{"elements":{"database":"sales"},"ownerUser":"zoe"},"accessType":"select"}|{"id":1,"resources":{"database":{"values":["sales"]}},"policyItems":[{"users":["{OWNER}"],"accesses":[{"type":"select"}]}]}
+DENIED -1|{"user":"zoe","resource":{"elements":{"database":"sales"},"ownerUser":"ann"},"accessType":"select"}|{"id":1,"resources":{"database":{"values":["sales"]}},"policyItems":[{"users":["{OWNER}"],"accesses":[{"type":"select"}]}]}
+DENIED -1|{"user":"zoe","resource":{"elements":{"database":"sales"},"ownerUser":""},"accessType":"select"}|{"id":1,"resources":{"database":{"values":["sales"]}},"policyItems":[{"users":["{OWNER}"],"accesses":[{"type":"select"}]}]}
+DENIED -1|{"user":"zoe","resource":{"elements":{"database":"sales"}},"accessType":"select"}|{"id":1,"resources":{"database":{"values":["sales"]}},"policyItems":[{"users":["{OWNER}"],"accesses":[{"type":"select"}]}]}
+ALLOWED 1|{"user":"ann","resource":{"elements":{"database":"sales"}},"accessType":"drop"}|{"id":1,"resources":{"database":{"values":["sales"]}},"policyItems":[{"users":["ann"],"accesses":[{"type":"all"}]}]}
+DENIED -1|{"user":"ann","resource":{"elements":{"database":"sales"}},"accessType":"drop"}|{"id":1,"resources":{"database":{"values":["sales"]}},"policyItems":[{"users":["ann"],"accesses":[{"type":"every"}]}]}
+DENIED -1|{"user":"ann","resource":{"elements":{"database":"sales"}},"accessType":"fly"}|{"id":1,"resources":{"database":{"values":["sales"]}},"policyItems":[{"users":["ann"],"accesses":[{"type":"all"}]}]}
+ALLOWED 1|{"user":"ann","resource":{"elements":{"database":"sales"}},"accessType":"select","accessTime":1706745599}|{"id":1,"resources":{"database":{"values":["sales"]}},"policyItems":[{"users":["ann"],"accesses":[{"type":"select"}]}],"validitySchedules":[{"endTime":"2024/01/31 23:59:59","timeZone":"UTC"}]}
+DENIED -1|{"user":"ann","resource":{"elements":{"database":"sales"}},"accessType":"select","accessTime":1706745600}|{"id":1,"resources":{"database":{"values":["sales"]}},"policyItems":[{"users":["ann"],"accesses":[{"type":"select"}]}],"validitySchedules":[{"endTime":"2024/01/31 23:59:59","timeZone":"UTC"}]}
+DENIED -1|{"user":"ann","resource":{"elements":{"database":"sales"}},"accessType":"select","accessTime":1710055799}|{"id":1,"resources":{"database":{"values":["sales"]}},"policyItems":[{"users":["ann"],"accesses":[{"type":"select"}]}],"validitySchedules":[{"startTime":"2024/03/10 02:30:00","timeZone":"East"}]}|,"timeZones":[{"name":"East","rule":"EST5EDT,M3.2.0,M11.1.0"}]
+ALLOWED 1|{"user":"ann","resource":{"elements":{"database":"sales"}},"accessType":"select","accessTime":1710055800}|{"id":1,"resources":{"database":{"values":["sales"]}},"policyItems":[{"users":["ann"],"accesses":[{"type":"select"}]}],"validitySchedules":[{"startTime":"2024/03/10 02:30:00","timeZone":"East"}]}|,"timeZones":[{"name":"East","rule":"EST5EDT,M3.2.0,M11.1.0"}]
+ALLOWED 1|{"user":"ann","resource":{"elements":{"database":"sales"}},"accessType":"select","clientIPAddress":"10.0.0.7"}|{"id":1,"resources":{"database":{"values":["sales"]}},"policyItems":[{"users":["ann"],"accesses":[{"type":"select"}],"conditions":[{"type":"ip-range","values":["10.0.*"]}]}]}
+DENIED -1|{"user":"ann","resource":{"elements":{"database":"sales"}},"accessType":"select","clientIPAddress":"10.1.0.7"}|{"id":1,"resources":{"database":{"values":["sales"]}},"policyItems":[{"users":["ann"],"accesses":[{"type":"select"}],"conditions":[{"type":"ip-range","values":["10.0.*"]}]}]}
+DENIED -1|{"user":"ann","resource":{"elements":{"database":"sales"}},"accessType":"select"}|{"id":1,"resources":{"database":{"values":["sales"]}},"policyItems":[{"users":["ann"],"accesses":[{"type":"select"}],"conditions":[{"type":"ip-range","values":["10.0.*"]}]}]}
+ALLOWED 1|{"user":"ann","resource":{"elements":{"database":"sales"}},"accessType":"select","context":{"k":"v"}}|{"id":1,"resources":{"database":{"values":["sales"]}},"policyItems":[{"users":["ann"],"accesses":[{"type":"select"}]}],"conditions":[{"type":"ctx","values":["v"]}]}
+DENIED -1|{"user":"ann","resource":{"elements":{"database":"sales"}},"accessType":"select","context":{"k":"w"}}|{"id":1,"resources":{"database":{"values":["sales"]}},"policyItems":[{"users":["ann"],"accesses":[{"type":"select"}]}],"conditions":[{"type":"ctx","values":["v"]}]}
+DENIED -1|{"user":"ann","resource":{"elements":{"database":"sales"}},"accessType":"select"}|{"id":1,"resources":{"database":{"values":["sales"]}},"policyItems":[{"users":["ann"],"accesses":[{"type":"select"}]}],"conditions":[{"type":"ctx","values":["v"]}]}
+ALLOWED 1|{"user":"ann","resource":{"elements":{"database":"sales","table":"orders"}},"accessType":"select"}|{"id":1,"resources":{"database":{"values":["sales"]},"table":{"values":["orders"]},"column":{"values":["*"]}},"policyItems":[{"users":["ann"],"accesses":[{"type":"select"}]}]}
+DENIED -1|{"user":"ann","resource":{"elements":{"database":"sales","table":"orders","column":"id"}},"accessType":"select"}|{"id":1,"resources":{"database":{"values":["sales"]},"table":{"values":["orders"]}},"policyItems":[{"users":["ann"],"accesses":[{"type":"select"}]}]}
+DENIED -1|{"user":"ann","resource":{"elements":{"database":"sales"}},"accessType":"select"}|{"id":1,"resources":{"database":{"values":["sales"]},"table":{"values":["orders"]}},"policyItems":[{"users":["ann"],"accesses":[{"type":"select"}]}]}
+DENIED -1|{"user":"ann","resource":{"elements":{"database":"sales","table":"orders"}},"accessType":"select"}|{"id":1,"resources":{"database":{"values":["sales"]},"table":{"values":["orders"]},"column":{"values":["i*"]}},"policyItems":[{"users":["ann"],"accesses":[{"type":"select"}]}]}
+ALLOWED 1|{"user":"ann","resource":{"elements":{"database":"hr"}},"accessType":"select"}|{"id":1,"resources":{"database":{"values":["sales"],"isExcludes":true}},"policyItems":[{"users":["ann"],"accesses":[{"type":"select"}]}]}
+DENIED -1|{"user":"ann","resource":{"elements":{"database":"SALES"}},"accessType":"select"}|{"id":1,"resources":{"database":{"values":["sales"],"isExcludes":true}},"policyItems":[{"users":["ann"],"accesses":[{"type":"select"}]}]}
+ALLOWED 1|{"user":"ann","resource":{"elements":{"url":"/data/ann/x"}},"accessType":"select"}|{"id":1,"resources":{"url":{"values":["/data/{USER}"],"isRecursive":true}},"policyItems":[{"users":["ann"],"accesses":[{"type":"select"}]}]}
+ALLOWED 1|{"user":"ann","resource":{"elements":{"url":"/data/ann"}},"accessType":"select"}|{"id":1,"resources":{"url":{"values":["/data/{USER}"],"isRecursive":true}},"policyItems":[{"users":["ann"],"accesses":[{"type":"select"}]}]}
+DENIED -1|{"user":"ann","resource":{"elements":{"url":"/data/anna"}},"accessType":"select"}|{"id":1,"resources":{"url":{"values":["/data/{USER}"],"isRecursive":true}},"policyItems":[{"users":["ann"],"accesses":[{"type":"select"}]}]}
+ALLOWED 1|{"user":"ann","resource":{"elements":{"url":"/x"}},"accessType":"select"}|{"id":1,"resources":{"url":{"values":["/"],"isRecursive":true}},"policyItems":[{"users":["ann"],"accesses":[{"type":"select"}]}]}
+ALLOWED 1|{"user":"ann","resource":{"elements":{"database":"axbxb"}},"accessType":"select"}|{"id":1,"resources":{"database":{"values":["a*b"]}},"policyItems":[{"users":["ann"],"accesses":[{"type":"select"}]}]}
+DENIED -1|{"user":"ann","resource":{"elements":{"database":"axbx"}},"accessType":"select"}|{"id":1,"resources":{"database":{"values":["a*b"]}},"policyItems":[{"users":["ann"],"accesses":[{"type":"select"}]}]}
+DENIED -1|{"user":"ann","resource":{"elements":{"fixed":"ab"}},"accessType":"select"}|{"id":1,"resources":{"fixed":{"values":["a*"]}},"policyItems":[{"users":["ann"],"accesses":[{"type":"select"}]}]}
+ALLOWED 1|{"user":"ann","resource":{"elements":{"fixed":"a*"}},"accessType":"select"}|{"id":1,"resources":{"fixed":{"values":["a*"]}},"policyItems":[{"users":["ann"],"accesses":[{"type":"select"}]}]}
+DENIED -1|{"user":"ann","resource":{"elements":{}},"accessType":"select"}|{"id":1,"resources":{"database":{"values":["*"]}},"policyItems":[{"users":["ann"],"accesses":[{"type":"select"}]}]}
+DENIED -1|{"user":"ann","resource":{"elements":{"database":"a","url":"b"}},"accessType":"select"}|{"id":1,"resources":{"database":{"values":["*"]}},"policyItems":[{"users":["ann"],"accesses":[{"type":"select"}]}]}
+DENIED -1|{"user":"ann","resource":{"elements":{"nowhere":"a"}},"accessType":"select"}|{"id":1,"resources":{"database":{"values":["*"]}},"policyItems":[{"users":["ann"],"accesses":[{"type":"select"}]}]}"#;
+
+#[test]
+fn the_first_filled_cell_decides(rt: HostRuntime) -> Result<(), Fail> {
+    decide_all(&rt, rt.alloc(), CELLS)
+}
+
+#[test]
+fn the_flow_of_resource_policies(rt: HostRuntime) -> Result<(), Fail> {
+    decide_all(&rt, rt.alloc(), FLOW)
 }
 
 #[test]

@@ -1,4 +1,0 @@
--- The test for UTF-8 and the fact.
-use Rattle.std.proofs.lemmas.Str.{IsUtf8-from_is_utf8, is_utf8-from_IsUtf8}
-
-pub ruleset utf8_facts = (IsUtf8-from_is_utf8, is_utf8-from_IsUtf8)
