@@ -1,22 +1,58 @@
 #!/usr/bin/env bash
 # Times `rangerd replay`: a facts line of POLICIES policies and LINES decide lines.
-# usage: bench/replay.sh [POLICIES] [LINES]      (1000 and 100000 where not given)
+# usage: bench/replay.sh [CASE] [POLICIES] [LINES]      (plain, 1000 and 100000 where not given)
+# CASE is plain (one level, plain values), patterns (three levels with patterns), or mix (patterns, groups, deny items,
+# exceptions, priorities, conditions and schedules).
 # Prints the sizes, decide lines per second (best of three runs) and the peak of resident memory.
 set -eu
 cd "$(dirname "$0")/.."
-policies=${1:-1000} lines=${2:-100000}
+case=${1:-plain} policies=${2:-1000} lines=${3:-100000}
 folder=$(mktemp -d)
 trap 'rm -rf "$folder"' EXIT
 bin/rangerd replay </dev/null
 
-awk -v n="$policies" -v m="$lines" 'BEGIN {
-  printf "facts {\"service\":\"hive1\",\"serviceDef\":{\"name\":\"hive\",\"resources\":[{\"name\":\"database\"}],\"accessTypes\":[{\"name\":\"select\"}]},\"policies\":["
-  for (i = 1; i <= n; i++)
-    printf "%s{\"id\":%d,\"name\":\"p%d\",\"resources\":{\"database\":{\"values\":[\"db%d\"]}},\"policyItems\":[{\"users\":[\"u%d\"],\"accesses\":[{\"type\":\"select\"}]}]}", (i > 1 ? "," : ""), i, i, i % 50, i % 100
-  print "]}"
-  for (i = 1; i <= m; i++)
-    printf "decide {\"user\":\"u%d\",\"resource\":{\"elements\":{\"database\":\"db%d\"}},\"accessType\":\"select\",\"accessTime\":0}\n", (i * 7) % 100, (i * 13) % 50
-}' > "$folder/script"
+python3 - "$case" "$policies" "$lines" > "$folder/script" <<'P'
+import json, sys
+
+case, policies, lines = sys.argv[1], int(sys.argv[2]), int(sys.argv[3])
+levels = [{"name": "database", "level": 10}]
+if case != "plain":
+    levels += [{"name": "table", "level": 20, "parent": "database"}, {"name": "column", "level": 30, "parent": "table"}]
+definition = {"name": "hive", "resources": levels, "accessTypes": [{"name": "select"}, {"name": "all", "impliedGrants": ["select"]}],
+              "policyConditions": [{"name": "ip-range", "evaluator": "ip-range"}]}
+
+def item(n, access="select", **more):
+    return {"users": ["u%d" % (n % 100)], "accesses": [{"type": access}], **more}
+
+def policy(n):
+    made = {"id": n, "name": "p%d" % n, "resources": {"database": {"values": ["db%d" % (n % 50)]}}, "policyItems": [item(n)]}
+    if case != "plain":
+        made["resources"]["table"] = {"values": ["t%d*" % (n % 20), "*_%d" % n]}
+        made["resources"]["column"] = {"values": ["*"]}
+    if case == "mix":
+        made["policyPriority"] = int(n % 16 == 0)
+        made["policyItems"] += [{"groups": ["g%d" % (n % 10)], "accesses": [{"type": "all"}], "conditions": [{"type": "ip-range", "values": ["10.0.*"]}]}]
+        if n % 4 == 0:
+            made["denyPolicyItems"] = [item(n + 1)]
+            made["denyExceptions"] = [{"groups": ["g%d" % (n % 7)], "accesses": [{"type": "select"}]}]
+        if n % 5 == 0:
+            made["validitySchedules"] = [{"startTime": "2024/01/01 00:00:00", "endTime": "2034/01/01 00:00:00", "timeZone": "UTC"}]
+    return made
+
+def request(n):
+    elements = {"database": "db%d" % ((n * 13) % 50)}
+    if case != "plain":
+        elements.update(table="t%d_%d" % ((n * 3) % 20, n % 1000), column="c")
+    asked = {"user": "u%d" % ((n * 7) % 100), "resource": {"elements": elements}, "accessType": "select", "accessTime": 1730000000}
+    if case == "mix":
+        asked.update(userGroups=["g%d" % (n % 10), "staff"], clientIPAddress="10.%d.0.7" % (n % 2))
+    return asked
+
+compact = lambda value: json.dumps(value, separators=(",", ":"))
+print("facts " + compact({"service": "hive1", "serviceDef": definition, "policies": [policy(n) for n in range(1, policies + 1)]}))
+for n in range(1, lines + 1):
+    print("decide " + compact(request(n)))
+P
 
 program=crates/rangerd/out/rangerd
 best=
@@ -33,5 +69,5 @@ with open(sys.argv[2], "rb") as script:
 print(resource.getrusage(resource.RUSAGE_CHILDREN).ru_maxrss)
 P
 )
-echo "policies=$policies lines=$lines input=$(wc -c < "$folder/script") output=$(wc -c < "$folder/out")"
+echo "case=$case policies=$policies lines=$lines input=$(wc -c < "$folder/script") output=$(wc -c < "$folder/out") allowed=$(grep -c ALLOWED "$folder/out" || true)"
 awk -v m="$lines" -v ns="$best" -v kb="$peak" 'BEGIN { printf "seconds=%.3f lines_per_second=%d peak_kib=%d\n", ns / 1e9, m * 1e9 / ns, kb }'
