@@ -39,11 +39,13 @@ def policy(n):
             made["validitySchedules"] = [{"startTime": "2024/01/01 00:00:00", "endTime": "2034/01/01 00:00:00", "timeZone": "UTC"}]
     return made
 
+# every other request asks what a policy gives to another user
 def request(n):
-    elements = {"database": "db%d" % ((n * 13) % 50)}
+    about = n * 13 % 100
+    elements = {"database": "db%d" % (about % 50)}
     if case != "plain":
-        elements.update(table="t%d_%d" % ((n * 3) % 20, n % 1000), column="c")
-    asked = {"user": "u%d" % ((n * 7) % 100), "resource": {"elements": elements}, "accessType": "select", "accessTime": 1730000000}
+        elements.update(table="t%d_%d" % (about % 20, n % 1000), column="c")
+    asked = {"user": "u%d" % (about + n % 2), "resource": {"elements": elements}, "accessType": "select", "accessTime": 1730000000}
     if case == "mix":
         asked.update(userGroups=["g%d" % (n % 10), "staff"], clientIPAddress="10.%d.0.7" % (n % 2))
     return asked
