@@ -103,12 +103,20 @@ class Maker:
         return {"service": "s", "fallback": self.maybe(.3), "serviceDef": definition, "policyVersion": 3, "tagVersion": 4,
                 "policies": [self.policy(number, definition) for number in numbers]}
 
-    def request(self):
+    def request(self, facts):
+        """Half of them ask about levels, users and accesses of one policy."""
         names = self.pick(LEVEL_SETS) if self.maybe(.85) else self.pick(ODD_SETS)
+        users, access = USERS, self.pick(["select"] * 3 + ["drop", "all", "super", "fly"])
+        if self.maybe(.5):
+            policy = self.pick(facts["policies"])
+            item = self.pick([item for name in model.ITEM_LISTS for item in policy[name]] or [{"users": [], "accesses": []}])
+            names = policy["resources"]
+            users = [user for user in item["users"] if user in USERS] or USERS
+            access = self.pick([entry["type"] for entry in item["accesses"]] or [access])
         moments = [model.instant(text) + near for text in TIMES for near in (-1, 0, 1)]
-        return {"user": self.pick(USERS), "userGroups": self.some(lambda: self.pick(GROUPS), 2),
+        return {"user": self.pick(users), "userGroups": self.some(lambda: self.pick(GROUPS), 2),
                 "resource": {"elements": {name: self.pick(VALUES) for name in names}, "ownerUser": self.pick(["", "ann", "zoe", "bob"])},
-                "accessType": self.pick(["select"] * 3 + ["drop", "all", "super", "fly"]), "accessTime": self.pick(moments),
+                "accessType": access, "accessTime": self.pick(moments),
                 "clientIPAddress": self.pick(["", "10.0.0.7", "10.1.0.7"]), "context": self.pick([{}, {"k": "v"}, {"k": "w"}, {"j": "v"}])}
 
 
@@ -129,7 +137,8 @@ def main():
     subprocess.run([os.path.join(TOP, "bin", "rangerd"), "replay"], stdin=subprocess.DEVNULL, check=True)
     maker, counts = Maker(seed), {"refused": 0}
     for number in range(scripts):
-        facts, requests = maker.facts(), [maker.request() for _ in range(25)]
+        facts = maker.facts()
+        requests = [maker.request(facts) for _ in range(25)]
         script = "\n".join(["facts " + json.dumps(facts)] + ["decide " + json.dumps(request) for request in requests]) + "\n"
         text, status = wanted(facts, requests)
         ran = subprocess.run([PROGRAM, "replay"], input=script, capture_output=True, text=True)
