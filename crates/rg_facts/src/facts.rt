@@ -3,8 +3,10 @@ ghost use Rattle.std.specs.Prelude.{◌≡◌, IfOk};
 
 use rg_base::{NoMemory, Seq, Text, TryCopy, Version};
 use rg_defs::ServiceDef;
-use rg_policy::{Policy, TagRow, TimeZoneRow, ZoneRow};
+use rg_policy::{Policy, TimeZoneRow};
 use rg_roles::RoleRow;
+use rg_tags::TagRow;
+use rg_zones::ZoneRow;
 use std::alloc::Global;
 
 /// What is known of one service: its definition, policies, zones, roles and tags (Ranger's ServicePolicies with its

@@ -4,15 +4,13 @@
 mod policy;
 mod request;
 mod tags;
-mod zones;
 
 pub use policy::{
     AccessEntry, Item, MaskInfo, Policy, PolicyCondition, PolicyResource, ScheduleText, TimeZoneRow,
 };
 pub use request::{AccessRequest, Element, Resource};
 pub use rg_base::Pair;
-pub use tags::{Tag, TagRow};
-pub use zones::{Subjects, ZoneLevel, ZoneRow, ZoneService};
+pub use tags::Tag;
 
 #[cfg(test)]
 mod tests;

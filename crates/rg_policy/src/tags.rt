@@ -1,5 +1,4 @@
-// The records of tagged resources (Ranger's ServiceTags).
-use crate::policy::PolicyResource;
+// The record of a tag.
 use rg_base::{NoMemory, Pair, Seq, Text, TryCopy};
 use std::alloc::Global;
 
@@ -11,31 +10,11 @@ pub struct Tag {
     pub attributes: Seq<Pair>,
 }
 
-/// A resource with its tags (RangerServiceResource).
-#[derive(Drop)]
-pub struct TagRow {
-    pub id: i64,
-    pub service: Text,
-    pub resources: Seq<PolicyResource>,
-    pub tags: Seq<Tag>,
-}
-
 impl TryCopy for Tag {
     fn try_copy(&self, alloc: Global) -> Result<Tag, NoMemory> {
         Ok(Tag {
             kind: self.kind.try_copy(alloc)?,
             attributes: self.attributes.try_copy(alloc)?,
-        })
-    }
-}
-
-impl TryCopy for TagRow {
-    fn try_copy(&self, alloc: Global) -> Result<TagRow, NoMemory> {
-        Ok(TagRow {
-            id: self.id,
-            service: self.service.try_copy(alloc)?,
-            resources: self.resources.try_copy(alloc)?,
-            tags: self.tags.try_copy(alloc)?,
         })
     }
 }

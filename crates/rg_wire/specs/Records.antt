@@ -23,11 +23,11 @@ use Rattle.rg_defs.specs.declared.service_def.ServiceDef.{ServiceDef}
 use Rattle.rg_facts.specs.declared.facts.Facts.{Facts}
 use Rattle.rg_roles.specs.declared.row.RoleRow.{RoleRow}
 use Rattle.rg_policy.specs.declared.tags.Tag.{Tag}
-use Rattle.rg_policy.specs.declared.tags.TagRow.{TagRow}
-use Rattle.rg_policy.specs.declared.zones.Subjects.{Subjects}
-use Rattle.rg_policy.specs.declared.zones.ZoneLevel.{ZoneLevel}
-use Rattle.rg_policy.specs.declared.zones.ZoneRow.{ZoneRow}
-use Rattle.rg_policy.specs.declared.zones.ZoneService.{ZoneService}
+use Rattle.rg_tags.specs.declared.row.TagRow.{TagRow}
+use Rattle.rg_zones.specs.declared.row.Subjects.{Subjects}
+use Rattle.rg_zones.specs.declared.row.ZoneLevel.{ZoneLevel}
+use Rattle.rg_zones.specs.declared.row.ZoneRow.{ZoneRow}
+use Rattle.rg_zones.specs.declared.row.ZoneService.{ZoneService}
 use Rattle.rg_wire.specs.declared.key.Key.{Key}
 use Rattle.rg_wire.specs.declared.key.Key.TheVariants as key
 use Rattle.rg_wire.specs.Fields.{within, text_of, text_at, bool_at, truth_word_at, i64_at, u64_at, list_of, list_at, map_of, map_at, is_filled, optional_at, names_at}

@@ -11,7 +11,7 @@ use crate::lists::{FromJson, list_at, optional_at, record_at};
 use crate::rows::tag_row_for;
 use rg_base::{NoMemory, Seq, Text, TryCopy, Version};
 use rg_facts::Facts;
-use rg_policy::TagRow;
+use rg_tags::TagRow;
 use serde_json::Value;
 use std::alloc::Global;
 

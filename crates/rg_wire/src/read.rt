@@ -16,8 +16,10 @@ use crate::walk::fault_in;
 use rg_base::{Moment, Text};
 use rg_defs::ServiceDef;
 use rg_facts::Facts;
-use rg_policy::{AccessRequest, Policy, TagRow, ZoneRow};
+use rg_policy::{AccessRequest, Policy};
 use rg_roles::RoleRow;
+use rg_tags::TagRow;
+use rg_zones::ZoneRow;
 use serde_json::Value;
 use std::alloc::Global;
 

@@ -8,8 +8,10 @@ use crate::key::Key;
 use crate::lists::{FromJson, FromMember, list_at, list_in, map_at, map_in, names_at};
 use crate::policy::resources_at;
 use rg_base::{NoMemory, Seq, Text};
-use rg_policy::{Subjects, Tag, TagRow, TimeZoneRow, ZoneLevel, ZoneRow, ZoneService};
+use rg_policy::{Tag, TimeZoneRow};
 use rg_roles::RoleRow;
+use rg_tags::TagRow;
+use rg_zones::{Subjects, ZoneLevel, ZoneRow, ZoneService};
 use serde_json::Value;
 use std::alloc::Global;
 
