@@ -1,7 +1,5 @@
 // That copies succeed with ample memory. What they are is proved.
-use crate::{
-    AccessEntry, AccessRequest, Element, Item, Policy, PolicyResource, Resource, Tag,
-};
+use crate::{AccessEntry, AccessRequest, Element, Item, Policy, PolicyResource, Resource, Tag};
 use rg_base::{Moment, NoMemory, PolicyId, Seq, Text, TryCopy, Version};
 use std::alloc::Global;
 
