@@ -1,2 +1,4 @@
+pub mod Compiled
+pub mod Overlap
 pub mod Rules
 pub mod Zones

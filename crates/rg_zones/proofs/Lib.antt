@@ -1,0 +1,12 @@
+pub mod Deciding
+pub mod Finding
+pub mod Fitting
+pub mod Forms
+pub mod Found
+pub mod Joining
+pub mod Least
+pub mod Members
+pub mod Pairs
+pub mod Scalars
+pub mod Shown
+pub mod Stars

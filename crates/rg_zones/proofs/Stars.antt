@@ -1,0 +1,11 @@
+-- The character of `*`.
+use Rattle.std.proofs.Common.{◌≡◌, refl}
+use Rattle.std.specs.Prelude.{codes}
+use Rattle.std.specs.Str.{chars}
+use Rattle.rg_resmatch.specs.Tests.{star}
+
+pub star_chars : chars (codes "*") ≡ star
+unfolding chars
+star_chars = refl
+
+pub ruleset star_facts = (star_chars)
