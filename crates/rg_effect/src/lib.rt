@@ -2,9 +2,11 @@
 #![tactic(auto)]
 
 mod access;
+mod asked;
 mod effect;
 mod subjects;
 
 pub use access::any_grants;
+pub use asked::Asked;
 pub use effect::Effect;
 pub use subjects::names_asker;
