@@ -1,27 +1,27 @@
--- The first element with the least key, found by one pass.
-use Rattle.std.proofs.Common.{◌≡◌, ◌||◌, Bool, true, false, not, cond, List, [], ◌∷◌, Option, Some, None, refl, ap, sym, ◌∙◌, ℤ, int_lt, arith}
+-- The first element before which no other stands, found by one pass.
+use Rattle.std.proofs.Common.{◌≡◌, ◌||◌, ◌&&◌, Bool, true, false, not, cond, List, [], ◌∷◌, ◌++◌, Option, Some, None, refl, ap, sym, ◌∙◌, ℤ, int_lt, nat_lt, ℕ, arith}
 use Rattle.std.proofs.lemmas.Int.{ints}
-use Rattle.std.specs.List.{filter, find, list_any}
-use Rattle.rg_facts.specs.Flow.{is_least, least_of}
-use Rattle.rg_facts.specs.Cells.{lesser, offered}
-use Rattle.rg_policy.specs.declared.policy.Policy.{Policy}
+use Rattle.std.specs.List.{find, list_any}
+use Rattle.std.specs.Ordering.{int_eq}
+use Rattle.rg_facts.specs.Cells.{best_from, better}
+use Rattle.rg_facts.specs.Choices.{goes_before}
+use Rattle.rg_facts.specs.Firsts.{first_by, is_first}
+use Rattle.rg_facts.specs.Flow.{has_lesser_id}
 
--- the best of these, from the best so far
-abbrev pub best_from : Option Policy → List Policy → Option Policy
-best_from best [] = best
-best_from best (p ∷ ps) = best_from (Some (lesser best p)) ps
+-- what an order of keys has
+pub record IsOrder {X : Type 0} (before : X → X → Bool) : Type 0 where
+  pub not_self : (x : X) → before x x ≡ false
+  pub through : (x b p : X) → before x b ≡ true → before b p ≡ true → before x p ≡ true
+  pub on : (x b p : X) → before x b ≡ true → before p b ≡ false → before x p ≡ true
+  pub over : (x b p : X) → before x b ≡ false → before x p ≡ true → before b p ≡ true
 
-below_self : (z : ℤ) → int_lt z z ≡ false
-below_self z = grind (arith, ints)
-
-below_trans : (x b p : ℤ) → int_lt x b ≡ true → int_lt b p ≡ true → int_lt x p ≡ true
-below_trans x b p h k = grind (arith, ints)
-
-below_next : (x b p : ℤ) → int_lt x b ≡ true → int_lt p b ≡ false → int_lt x p ≡ true
-below_next x b p h k = grind (arith, ints)
-
-below_or : (x b p : ℤ) → int_lt x b ≡ false → int_lt x p ≡ true → int_lt b p ≡ true
-below_or x b p h k = grind (arith, ints)
+pub by_id : IsOrder has_lesser_id
+by_id = record {
+  not_self = λ x. let z : (z : ℤ) → int_lt z z ≡ false = λ z. grind (arith, ints) in z x.id.0;
+  through = λ x b p h k. let f : (x b p : ℤ) → int_lt x b ≡ true → int_lt b p ≡ true → int_lt x p ≡ true = λ x b p h k. grind (arith, ints) in f x.id.0 b.id.0 p.id.0 h k;
+  on = λ x b p h k. let f : (x b p : ℤ) → int_lt x b ≡ true → int_lt p b ≡ false → int_lt x p ≡ true = λ x b p h k. grind (arith, ints) in f x.id.0 b.id.0 p.id.0 h k;
+  over = λ x b p h k. let f : (x b p : ℤ) → int_lt x b ≡ false → int_lt x p ≡ true → int_lt b p ≡ true = λ x b p h k. grind (arith, ints) in f x.id.0 b.id.0 p.id.0 h k;
+}
 
 -- tests that agree find the same
 find_same : {X : Type 0} (f g : X → Bool) → ((x : X) → f x ≡ g x) → (xs : List X) → find f xs ≡ find g xs
@@ -50,16 +50,16 @@ neither false false h k = sym k
 one : (a c : Bool) → c ≡ true → not (a || c) ≡ false
 one a c h = ap (λ v. not (a || v)) h ∙ ap not (or_true a)
 
-abbrev some_below : Policy → List Policy → Bool
-some_below p ps = list_any (λ (q : Policy). int_lt q.id.0 p.id.0) ps
+abbrev some_before : {X : Type 0} → (X → X → Bool) → X → List X → Bool
+some_before before p xs = list_any (λ q. before q p) xs
 
--- what is below the lesser id is below the greater one
-below_more : (b p : Policy) (ps : List Policy) → int_lt p.id.0 b.id.0 ≡ false → some_below b ps ≡ true → some_below p ps ≡ true
-below_more b p [] h k = k
-below_more b p (q ∷ qs) h k =
-    elim (int_lt q.id.0 b.id.0) as (λ v. int_lt q.id.0 b.id.0 ≡ v → (v || some_below b qs) ≡ true → (int_lt q.id.0 p.id.0 || some_below p qs) ≡ true) [
-      | true ↦ λ e _. ap (λ v. v || some_below p qs) (below_next q.id.0 b.id.0 p.id.0 e h)
-      | false ↦ λ e rest. ap (λ v. int_lt q.id.0 p.id.0 || v) (below_more b p qs h rest) ∙ or_true (int_lt q.id.0 p.id.0)
+-- what stands before the earlier one stands before the later one
+before_more : {X : Type 0} (before : X → X → Bool) → IsOrder before → (b p : X) (xs : List X) → before p b ≡ false → some_before before b xs ≡ true → some_before before p xs ≡ true
+before_more before o b p [] h k = k
+before_more before o b p (q ∷ qs) h k =
+    elim (before q b) as (λ v. before q b ≡ v → (v || some_before before b qs) ≡ true → (before q p || some_before before p qs) ≡ true) [
+      | true ↦ λ e _. ap (λ v. v || some_before before p qs) (o.on q b p e h)
+      | false ↦ λ e rest. ap (λ v. before q p || v) (before_more before o b p qs h rest) ∙ or_true (before q p)
     ] refl k
 
 -- a choice between two, where the second fails if the first does
@@ -67,34 +67,58 @@ second_fails : {X : Type 0} (u v : Bool) (x y : Option X) (o : Option X) → (u 
 second_fails true v x y o k = refl
 second_fails false v x y o k = ap (λ c. cond c y o) (k refl)
 
--- an element that isn't below the first one is passed over
-passed_over : (b p : Policy) (ps : List Policy) → int_lt p.id.0 b.id.0 ≡ false → find (is_least (b ∷ ps)) (b ∷ p ∷ ps) ≡ find (is_least (b ∷ ps)) (b ∷ ps)
-passed_over b p ps h =
-    second_fails (is_least (b ∷ ps) b) (is_least (b ∷ ps) p) (Some b) (Some p) (find (is_least (b ∷ ps)) ps)
-    (λ e. one (int_lt b.id.0 p.id.0) (some_below p ps) (below_more b p ps h (neither (int_lt b.id.0 b.id.0) (some_below b ps) (below_self b.id.0) e)))
+-- an element that doesn't stand before the first one is passed over
+passed_over : {X : Type 0} (before : X → X → Bool) → IsOrder before → (b p : X) (xs : List X) → before p b ≡ false
+    → find (is_first before (b ∷ xs)) (b ∷ p ∷ xs) ≡ find (is_first before (b ∷ xs)) (b ∷ xs)
+passed_over before o b p xs h =
+    second_fails (is_first before (b ∷ xs) b) (is_first before (b ∷ xs) p) (Some b) (Some p) (find (is_first before (b ∷ xs)) xs)
+    (λ e. one (before b p) (some_before before p xs) (before_more before o b p xs h (neither (before b b) (some_before before b xs) (o.not_self b) e)))
 
-least_next : (b p : Policy) (ps : List Policy) (v : Bool) → int_lt p.id.0 b.id.0 ≡ v → least_of (cond v p b ∷ ps) ≡ least_of (b ∷ p ∷ ps)
-least_next b p ps true e =
-    sym (ap (λ w. cond w (Some b) (find (is_least (b ∷ p ∷ ps)) (p ∷ ps))) (one (int_lt b.id.0 b.id.0) (int_lt p.id.0 b.id.0 || some_below b ps) (ap (λ w. w || some_below b ps) e))
-    ∙ find_same (is_least (b ∷ p ∷ ps)) (is_least (p ∷ ps))
-    (λ x. ap not (or_left (int_lt b.id.0 x.id.0) (int_lt p.id.0 x.id.0) (some_below x ps) (below_trans p.id.0 b.id.0 x.id.0 e))) (p ∷ ps))
-least_next b p ps false e =
-    sym (find_same (is_least (b ∷ p ∷ ps)) (is_least (b ∷ ps))
-    (λ x. ap not (or_mid (int_lt b.id.0 x.id.0) (int_lt p.id.0 x.id.0) (some_below x ps) (below_or p.id.0 b.id.0 x.id.0 e))) (b ∷ p ∷ ps)
-    ∙ passed_over b p ps e)
+first_next : {X : Type 0} (before : X → X → Bool) → IsOrder before → (b p : X) (xs : List X) (v : Bool) → before p b ≡ v → first_by before (cond v p b ∷ xs) ≡ first_by before (b ∷ p ∷ xs)
+first_next before o b p xs true e =
+    sym (ap (λ w. cond w (Some b) (find (is_first before (b ∷ p ∷ xs)) (p ∷ xs))) (one (before b b) (before p b || some_before before b xs) (ap (λ w. w || some_before before b xs) e))
+    ∙ find_same (is_first before (b ∷ p ∷ xs)) (is_first before (p ∷ xs))
+    (λ x. ap not (or_left (before b x) (before p x) (some_before before x xs) (o.through p b x e))) (p ∷ xs))
+first_next before o b p xs false e =
+    sym (find_same (is_first before (b ∷ p ∷ xs)) (is_first before (b ∷ xs))
+    (λ x. ap not (or_mid (before b x) (before p x) (some_before before x xs) (o.over p b x e))) (b ∷ p ∷ xs)
+    ∙ passed_over before o b p xs e)
 
--- one pass that keeps the lesser id finds the first policy with the least one
-best_of_some : (b : Policy) (ps : List Policy) → best_from (Some b) ps ≡ least_of (b ∷ ps)
-best_of_some b [] = sym (ap (λ v. cond (not (v || false)) (Some b) None) (below_self b.id.0))
-best_of_some b (p ∷ ps) = best_of_some (lesser (Some b) p) ps ∙ least_next b p ps (int_lt p.id.0 b.id.0) refl
+-- one pass that keeps the better one finds the first before which no other stands
+best_of_some : {X : Type 0} (before : X → X → Bool) → IsOrder before → (b : X) (xs : List X) → best_from before (Some b) xs ≡ first_by before (b ∷ xs)
+best_of_some before o b [] = sym (ap (λ v. cond (not (v || false)) (Some b) None) (o.not_self b))
+best_of_some before o b (p ∷ xs) = best_of_some before o (better before (Some b) p) xs ∙ first_next before o b p xs (before p b) refl
 
-pub best_from_none : (ps : List Policy) → best_from None ps ≡ least_of ps
-best_from_none [] = refl
-best_from_none (p ∷ ps) = best_of_some p ps
+pub best_from_none : {X : Type 0} (before : X → X → Bool) → IsOrder before → (xs : List X) → best_from before None xs ≡ first_by before xs
+best_from_none before o [] = refl
+best_from_none before o (x ∷ xs) = best_of_some before o x xs
 
--- one more policy, which may stand in the cell
-pub best_next : (f : Policy → Bool) (best : Option Policy) (p : Policy) (ps : List Policy) → best_from best (filter f (p ∷ ps)) ≡ best_from (offered (f p) best p) (filter f ps)
-best_next f best p ps = elim (f p) as (λ b. best_from best (cond b (p ∷ filter f ps) (filter f ps)) ≡ best_from (cond b (Some (lesser best p)) best) (filter f ps)) [
-  | true ↦ refl
-  | false ↦ refl
-]
+-- the best of two lists, one after the other
+pub best_of_both : {X : Type 0} (before : X → X → Bool) (best : Option X) (xs ys : List X) → best_from before best (xs ++ ys) ≡ best_from before (best_from before best xs) ys
+best_of_both before best [] ys = refl
+best_of_both before best (x ∷ xs) ys = best_of_both before (Some (better before best x)) xs ys
+
+-- ---- choices: by the id of the policy, then by the place
+
+abbrev pair_before : ℤ → ℕ → ℤ → ℕ → Bool
+pair_before x n y m = int_lt x y || (int_eq x y && nat_lt n m)
+
+pair_self : (x : ℤ) (n : ℕ) → pair_before x n x n ≡ false
+pair_self x n = grind (arith, ints)
+
+pair_through : (x b p : ℤ) (k m n : ℕ) → pair_before x k b m ≡ true → pair_before b m p n ≡ true → pair_before x k p n ≡ true
+pair_through x b p k m n h i = grind (arith, ints)
+
+pair_on : (x b p : ℤ) (k m n : ℕ) → pair_before x k b m ≡ true → pair_before p n b m ≡ false → pair_before x k p n ≡ true
+pair_on x b p k m n h i = grind (arith, ints)
+
+pair_over : (x b p : ℤ) (k m n : ℕ) → pair_before x k b m ≡ false → pair_before x k p n ≡ true → pair_before b m p n ≡ true
+pair_over x b p k m n h i = grind (arith, ints)
+
+pub by_place : IsOrder goes_before
+by_place = record {
+  not_self = λ c. pair_self c.policy.id.0 c.place;
+  through = λ c d e h k. pair_through c.policy.id.0 d.policy.id.0 e.policy.id.0 c.place d.place e.place h k;
+  on = λ c d e h k. pair_on c.policy.id.0 d.policy.id.0 e.policy.id.0 c.place d.place e.place h k;
+  over = λ c d e h k. pair_over c.policy.id.0 d.policy.id.0 e.policy.id.0 c.place d.place e.place h k;
+}

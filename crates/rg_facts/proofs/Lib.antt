@@ -1,8 +1,16 @@
+pub mod After
+pub mod Asked
 pub mod Bests
+pub mod ByKind
 pub mod Distinct
 pub mod Idle
 pub mod Least
 pub mod Mapped
+pub mod Marks
+pub mod Numbered
 pub mod Order
 pub mod Soundness
+pub mod TagSide
+pub mod Values
+pub mod Words
 pub mod Zipped

@@ -1,5 +1,15 @@
+pub mod Asks
 pub mod Cells
+pub mod Choices
+pub mod Engines
+pub mod Firsts
 pub mod Flow
+pub mod Joining
 pub mod Order
 pub mod Plans
+pub mod PolicyRules
+pub mod RoleRules
 pub mod Sound
+pub mod TagRules
+pub mod Texts
+pub mod ZoneRules

@@ -1,92 +1,73 @@
--- When facts are sound: what `Plain` may be built of.
-use Rattle.std.specs.Prelude.{ℕ, pos, int_lt, ◌^◌, ◌&&◌, ◌||◌, not, nat_lt, nat_le, true, Bool, List, ◌++◌, length, Option, is_none, is_some}
-use Rattle.std.specs.List.{find, list_all}
+-- When facts are sound: what an engine may be built of.
+use Rattle.std.specs.Prelude.{pos, int_lt, ◌^◌, ◌&&◌, nat_le, true, false, Bool, List, [], ◌∷◌, ◌++◌, Option, Some, None, is_none}
+use Rattle.std.specs.List.{list_all}
 use Rattle.std.specs.Ordering.{int_eq}
 use Rattle.rg_base.specs.Texts.{all_distinct}
-use Rattle.rg_policy.specs.declared.policy.AccessEntry.{AccessEntry}
-use Rattle.rg_policy.specs.declared.policy.Item.{Item}
 use Rattle.rg_policy.specs.declared.policy.Policy.{Policy}
-use Rattle.rg_policy.specs.declared.policy.PolicyCondition.{PolicyCondition}
-use Rattle.rg_policy.specs.declared.policy.ScheduleText.{ScheduleText}
 use Rattle.rg_policy.specs.declared.policy.TimeZoneRow.{TimeZoneRow}
-use Rattle.rg_defs.specs.Grants.{access_type_of}
 use Rattle.rg_defs.specs.Rules.{def_fault}
 use Rattle.rg_defs.specs.declared.service_def.ServiceDef.{ServiceDef}
-use Rattle.rg_cond.specs.Kinds.{condition_fault}
-use Rattle.rg_cond.specs.Spans.{schedule_fault}
 use Rattle.rg_cond.specs.Zones.{bad_rule}
-use Rattle.rg_resmatch.specs.Rules.{levels_fit, values_fit}
 use Rattle.rg_roles.specs.Faults.{fault_of}
+use Rattle.rg_facts.specs.PolicyRules.{policy_sound}
+use Rattle.rg_facts.specs.RoleRules.{roles_exist}
+use Rattle.rg_facts.specs.TagRules.{tag_rows_sound}
+use Rattle.rg_facts.specs.ZoneRules.{is_tag_def, zone_names_sound, zones_sound}
 use Rattle.rg_facts.specs.declared.facts.Facts.{Facts}
 
 -- both versions are at most 2^62
 abbrev pub versions_fit : Facts → Bool
 versions_fit facts = nat_le facts.policy_version.0 (2 ^ 62) && nat_le facts.tag_version.0 (2 ^ 62)
 
--- V4: the priority is 0 or 1
-abbrev pub priority_rule : Policy → Bool
-priority_rule p = int_eq p.priority (pos 0) || int_eq p.priority (pos 1)
+-- the tag definition, where there is one, passes S1 to S8 and is named `tag`
+abbrev pub tag_def_sound : Option ServiceDef → Bool
+tag_def_sound None = true
+tag_def_sound (Some def) = is_none (def_fault def) && is_tag_def def
 
--- V8: the item has at least one access entry, and each names an access type of the definition
-abbrev pub entry_rule : ServiceDef → AccessEntry → Bool
-entry_rule def entry = is_some (access_type_of def entry.access)
+-- the definitions
+unfoldable pub defs_sound : Facts → Bool
+defs_sound facts = is_none (def_fault facts.def) && tag_def_sound facts.tag_def
 
-abbrev pub entries_rule : ServiceDef → List AccessEntry → Bool
-entries_rule def entries = nat_lt 0 (length entries) && list_all (entry_rule def) entries
-
--- V9: each condition compiles
-abbrev pub conditions_rule : ServiceDef → List PolicyCondition → Bool
-conditions_rule def conditions = list_all (λ (c : PolicyCondition). is_none (condition_fault def c)) conditions
-
-abbrev pub items_conditions_rule : ServiceDef → List Item → Bool
-items_conditions_rule def items = list_all (λ (i : Item). conditions_rule def i.conditions.items) items
-
--- V10: the item names at least one user, group or role
-abbrev pub subjects_rule : Item → Bool
-subjects_rule i = nat_lt 0 (length i.users.items) || (nat_lt 0 (length i.groups.items) || nat_lt 0 (length i.roles.items))
-
--- V12: each schedule reads, and none is recurring
-abbrev pub schedule_rule : List TimeZoneRow → ScheduleText → Bool
-schedule_rule rows s = not s.recurring && is_none (schedule_fault rows s)
-
-abbrev pub schedules_rule : List TimeZoneRow → List ScheduleText → Bool
-schedules_rule rows schedules = list_all (schedule_rule rows) schedules
-
--- the rules of an item
-abbrev pub item_sound : ServiceDef → Item → Bool
-item_sound def i = entries_rule def i.accesses.items && (conditions_rule def i.conditions.items && subjects_rule i)
-
-abbrev pub items_sound : ServiceDef → List Item → Bool
-items_sound def items = list_all (item_sound def) items
-
--- those of all items of a policy
-abbrev pub all_items_sound : ServiceDef → Policy → Bool
-all_items_sound def p = items_sound def p.items.items
-    && (items_sound def p.deny_items.items
-    && (items_sound def p.allow_exceptions.items
-    && (items_sound def p.deny_exceptions.items
-    && (items_sound def p.mask_items.items
-    && items_sound def p.filter_items.items))))
-
--- the id is at least 1, and the rules V4 to V6, V8 to V10 and V12 hold
-unfoldable pub policy_sound : ServiceDef → List TimeZoneRow → Policy → Bool
-policy_sound def rows p = int_lt (pos 0) p.id.0
-    && (priority_rule p
-    && (levels_fit def true p.resources.items
-    && (values_fit def p.resources.items
-    && (conditions_rule def p.conditions.items
-    && (schedules_rule rows p.schedules.items
-    && all_items_sound def p)))))
+-- all policies, those of the tag service last
+abbrev pub all_policies : Facts → List Policy
+all_policies facts = facts.policies.items ++ facts.tag_policies.items
 
 -- the policies have one id
 abbrev pub same_id : Policy → Policy → Bool
 same_id p q = int_eq p.id.0 q.id.0
 
--- versions, the definition, time zones, roles, and each policy
+-- ids are at least 1, and distinct over all policies
+unfoldable pub ids_sound : List Policy → Bool
+ids_sound policies = list_all (λ (p : Policy). int_lt (pos 0) p.id.0) policies && all_distinct same_id policies
+
+abbrev pub is_no_policy : List Policy → Bool
+is_no_policy [] = true
+is_no_policy (p ∷ policies) = false
+
+-- tag policies pass the rules under the tag definition, and there are none without it
+abbrev pub tag_policies_sound : Option ServiceDef → List TimeZoneRow → List Policy → Bool
+tag_policies_sound None rows policies = is_no_policy policies
+tag_policies_sound (Some def) rows policies = list_all (policy_sound def rows) policies
+
+-- the rule of each time zone reads, and each policy passes its rules
+unfoldable pub policies_sound : Facts → Bool
+policies_sound facts = is_none (bad_rule facts.time_zones.items)
+    && (list_all (policy_sound facts.def facts.time_zones.items) facts.policies.items
+    && tag_policies_sound facts.tag_def facts.time_zones.items facts.tag_policies.items)
+
+-- the roles have distinct names, name roles that are there and go in no circle, and each role that a policy names exists
+unfoldable pub roles_sound : Facts → Bool
+roles_sound facts = is_none (fault_of facts.roles.items)
+    && (list_all (roles_exist facts.roles.items) facts.policies.items
+    && list_all (roles_exist facts.roles.items) facts.tag_policies.items)
+
+-- versions, definitions, ids, roles, zones, tag rows, and each policy
 unfoldable pub sound : Facts → Bool
 sound facts = versions_fit facts
-    && (is_none (def_fault facts.def)
-    && (is_none (bad_rule facts.time_zones.items)
-    && (is_none (fault_of facts.roles.items)
-    && (all_distinct same_id facts.policies.items
-    && list_all (policy_sound facts.def facts.time_zones.items) facts.policies.items))))
+    && (defs_sound facts
+    && (ids_sound (all_policies facts)
+    && (roles_sound facts
+    && (zone_names_sound facts
+    && (zones_sound facts
+    && (tag_rows_sound facts.def facts.tag_rows.items
+    && policies_sound facts))))))

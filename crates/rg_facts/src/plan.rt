@@ -1,5 +1,5 @@
 // What is compiled of a policy, once, so that deciding takes no memory.
-ghost use Rattle.std.specs.Prelude.{◌≡◌, true, None, IfOk, map};
+ghost use Rattle.std.specs.Prelude.{◌≡◌, ◌<◌, ◌^◌, true, None, IfOk, OnOk, length, map};
 ghost use Rattle.std.specs.List.{list_all};
 ghost use Rattle.rg_base.specs.Listed.{listed};
 ghost use Rattle.rg_policy.specs.declared.policy.Item.{Item};
@@ -9,7 +9,7 @@ ghost use Rattle.rg_cond.specs.Kinds.{condition_fault, rule_of};
 ghost use Rattle.rg_cond.specs.Spans.{schedule_fault, span_of};
 ghost use Rattle.rg_defs.specs.Rules.{def_fault};
 ghost use Rattle.rg_facts.specs.Plans.{IsPlan, item_rules, rules_of};
-ghost use Rattle.rg_facts.specs.Sound.{conditions_rule, items_conditions_rule, policy_sound, schedules_rule};
+ghost use Rattle.rg_facts.specs.PolicyRules.{conditions_rule, items_conditions_rule, policy_sound, schedules_rule};
 
 use rg_base::{NoMemory, Seq};
 use rg_cond::{Condition, Schedule, Span, TimeZones, compile_condition};
@@ -29,6 +29,8 @@ pub(crate) struct Plan {
     pub deny_items: Seq<Seq<Condition>>,
     pub allow_exceptions: Seq<Seq<Condition>>,
     pub deny_exceptions: Seq<Seq<Condition>>,
+    pub mask_items: Seq<Seq<Condition>>,
+    pub filter_items: Seq<Seq<Condition>>,
 }
 
 fn compile_one(
@@ -83,6 +85,22 @@ fn compile_items(
     Ok(compiled)
 }
 
+/// As `compile_items`, of items whose places are numbers of 32 bits; more of them find no memory.
+fn compile_placed(
+    alloc: Global,
+    def: &ServiceDef,
+    items: &[Item],
+) -> Result<Seq<Seq<Condition>>, NoMemory>
+    requires { items_conditions_rule def.now items.now ≡ true }
+    ensures rules { IfOk result (λ list. list ≡ item_rules def.now items.now) }
+    ensures few { OnOk result (length items.now < 2 ^ 32) }
+{
+    if items.len() > u32::MAX as usize {
+        return Err(NoMemory);
+    }
+    compile_items(alloc, def, items)
+}
+
 fn read_span(schedule: &ScheduleText, zones: &TimeZones) -> Result<Span, NoMemory>
     requires { schedule_fault zones.now schedule.now ≡ None }
     ensures { IfOk result (λ span. span ≡ span_of zones.now schedule.now) }
@@ -131,5 +149,7 @@ pub(crate) fn compile_plan(
         deny_items: compile_items(alloc, def, policy.deny_items.as_slice())?,
         allow_exceptions: compile_items(alloc, def, policy.allow_exceptions.as_slice())?,
         deny_exceptions: compile_items(alloc, def, policy.deny_exceptions.as_slice())?,
+        mask_items: compile_placed(alloc, def, policy.mask_items.as_slice())?,
+        filter_items: compile_placed(alloc, def, policy.filter_items.as_slice())?,
     })
 }

@@ -1,26 +1,24 @@
 // Whether facts are sound.
-ghost use Rattle.std.specs.Prelude.{◌≡◌, true, false, None, IfOk, MatchOption, is_none, map};
+ghost use Rattle.std.specs.Prelude.{◌≡◌, true, false, None, IfOk, MatchOption, is_none};
 ghost use Rattle.std.specs.List.{list_all};
-ghost use Rattle.rg_base.specs.Listed.{listed};
-ghost use Rattle.rg_base.specs.Texts.{all_distinct};
-ghost use Rattle.rg_policy.specs.declared.policy.TimeZoneRow.{TimeZoneRow};
-ghost use Rattle.rg_defs.specs.PathTests.{paths_of};
 ghost use Rattle.rg_defs.specs.Rules.{def_fault};
-ghost use Rattle.rg_cond.specs.Kinds.{condition_fault};
-ghost use Rattle.rg_cond.specs.Spans.{schedule_fault};
 ghost use Rattle.rg_cond.specs.Zones.{bad_rule};
 ghost use Rattle.rg_roles.specs.Faults.{fault_of};
-ghost use Rattle.rg_facts.specs.Sound.{all_items_sound, conditions_rule, entries_rule, entry_rule, item_sound, items_sound, policy_sound, priority_rule, same_id, schedule_rule, schedules_rule, sound, subjects_rule, versions_fit};
+ghost use Rattle.rg_facts.specs.PolicyRules.{policy_sound};
+ghost use Rattle.rg_facts.specs.Sound.{defs_sound, is_no_policy, policies_sound, roles_sound, sound, tag_def_sound, tag_policies_sound, versions_fit};
 
 use crate::facts::Facts;
-use rg_base::{NoMemory, Seq};
-use rg_cond::{Schedule, ScheduleFault, TimeZoneFault, TimeZones, condition_fault};
-use rg_defs::{DefFault, ServiceDef, access_type_of, check_def, paths};
-use rg_policy::{AccessEntry, Item, Policy, PolicyCondition, ScheduleText, TimeZoneRow};
-use rg_resmatch::{levels_fit, values_fit};
+use crate::ids::ids_sound;
+use crate::policy_rules::{Against, all_pass};
+use crate::role_rules::all_roles_exist;
+use crate::tag_rules::tag_rows_sound;
+use crate::zone_rules::{is_tag_def, zone_names_sound, zones_sound};
+use rg_base::NoMemory;
+use rg_cond::{TimeZoneFault, TimeZones};
+use rg_defs::{DefFault, ServiceDef, check_def, paths};
+use rg_policy::{Policy, TimeZoneRow};
 use rg_roles::{RoleFault, RoleRow, Roles};
 use std::alloc::Global;
-use std::collections::BTreeSet;
 
 /// The greatest version that facts may have.
 const LAST_VERSION: u64 = 1 << 62;
@@ -29,133 +27,6 @@ fn versions_fit(facts: &Facts) -> bool
     ensures { result ≡ versions_fit facts.now }
 {
     facts.policy_version.0 <= LAST_VERSION && facts.tag_version.0 <= LAST_VERSION
-}
-
-fn priority_rule(policy: &Policy) -> bool
-    ensures { result ≡ priority_rule policy.now }
-{
-    policy.priority == 0 || policy.priority == 1
-}
-
-fn entries_rule(def: &ServiceDef, entries: &[AccessEntry]) -> bool
-    ensures { result ≡ entries_rule def.now entries.now }
-{
-    !entries.is_empty() && are_access_types(def, entries)
-}
-
-fn are_access_types(def: &ServiceDef, entries: &[AccessEntry]) -> bool
-    ensures { result ≡ list_all (entry_rule def.now) entries.now }
-{
-    entries.iter().all(|entry| access_type_of(def, entry.access.as_str()).is_some())
-}
-
-fn conditions_rule(def: &ServiceDef, conditions: &[PolicyCondition]) -> bool
-    ensures { result ≡ conditions_rule def.now conditions.now }
-{
-    conditions
-        .iter()
-        .all(|condition| condition_fault(def, condition).is_none())
-}
-
-fn subjects_rule(item: &Item) -> bool
-    ensures { result ≡ subjects_rule item.now }
-{
-    !item.users.is_empty() || (!item.groups.is_empty() || !item.roles.is_empty())
-}
-
-fn item_sound(def: &ServiceDef, item: &Item) -> bool
-    ensures { result ≡ item_sound def.now item.now }
-{
-    entries_rule(def, item.accesses.as_slice())
-        && (conditions_rule(def, item.conditions.as_slice()) && subjects_rule(item))
-}
-
-fn items_sound(def: &ServiceDef, items: &[Item]) -> bool
-    ensures { result ≡ items_sound def.now items.now }
-{
-    items.iter().all(|item| item_sound(def, item))
-}
-
-fn all_items_sound(def: &ServiceDef, policy: &Policy) -> bool
-    ensures { result ≡ all_items_sound def.now policy.now }
-{
-    items_sound(def, policy.items.as_slice())
-        && (items_sound(def, policy.deny_items.as_slice())
-            && (items_sound(def, policy.allow_exceptions.as_slice())
-                && (items_sound(def, policy.deny_exceptions.as_slice())
-                    && (items_sound(def, policy.mask_items.as_slice())
-                        && items_sound(def, policy.filter_items.as_slice())))))
-}
-
-fn reads(schedule: &ScheduleText, zones: &TimeZones) -> bool
-    ensures { result ≡ is_none (schedule_fault zones.now schedule.now) }
-{
-    Schedule::read(schedule, zones).is_ok()
-}
-
-fn schedule_rule(schedule: &ScheduleText, zones: &TimeZones) -> bool
-    ensures { result ≡ schedule_rule zones.now schedule.now }
-{
-    !schedule.recurring && reads(schedule, zones)
-}
-
-fn schedules_rule(schedules: &[ScheduleText], zones: &TimeZones) -> bool
-    ensures { result ≡ schedules_rule zones.now schedules.now }
-{
-    schedules
-        .iter()
-        .all(|schedule| schedule_rule(schedule, zones))
-}
-
-/// What the rules of a policy are asked against.
-#[derive(Drop)]
-struct Against<'a> {
-    def: &'a ServiceDef,
-    paths: &'a [Seq<u32>],
-    zones: &'a TimeZones,
-}
-
-#[tactic(auto, unfolding(crate::specs::Sound::policy_sound))]
-fn policy_sound(against: &Against, policy: &Policy) -> bool
-    requires { against.now.paths.now ≡ map listed (paths_of against.now.def.now.levels.items) }
-    ensures { result ≡ policy_sound against.now.def.now against.now.zones.now policy.now }
-{
-    let def = against.def;
-    let resources = policy.resources.as_slice();
-    0 < policy.id.0
-        && (priority_rule(policy)
-            && (levels_fit(def, against.paths, true, resources)
-                && (values_fit(def, resources)
-                    && (conditions_rule(def, policy.conditions.as_slice())
-                        && (schedules_rule(policy.schedules.as_slice(), against.zones)
-                            && all_items_sound(def, policy))))))
-}
-
-fn policies_sound(against: &Against, policies: &[Policy]) -> bool
-    requires { against.now.paths.now ≡ map listed (paths_of against.now.def.now.levels.items) }
-    ensures { result ≡ list_all (policy_sound against.now.def.now against.now.zones.now) policies.now }
-{
-    for policy in policies {
-        if !policy_sound(against, policy) {
-            return false;
-        }
-    }
-    true
-}
-
-/// Whether no two policies have one id.
-fn ids_distinct(alloc: Global, policies: &[Policy]) -> Result<bool, NoMemory>
-    ensures { IfOk result (λ distinct. distinct ≡ all_distinct same_id policies.now) }
-{
-    let mut seen = BTreeSet::new(alloc);
-    for at in (0..policies.len()).rev() {
-        match seen.insert(policies[at].id.0) {
-            Ok(true) => {}
-            Ok(false) => return Ok(false),
-            Err(_) => return Err(NoMemory),
-        }
-    }
-    Ok(true)
 }
 
 /// Whether the definition passes its rules.
@@ -167,6 +38,30 @@ fn def_sound(alloc: Global, def: &ServiceDef) -> Result<bool, NoMemory>
         Err(DefFault::Rule(_)) => Ok(false),
         Err(DefFault::NoMemory) => Err(NoMemory),
     }
+}
+
+fn tag_def_sound(alloc: Global, facts: &Facts) -> Result<bool, NoMemory>
+    ensures { IfOk result (λ sound. sound ≡ tag_def_sound facts.now.tag_def) }
+{
+    match &facts.tag_def {
+        Some(def) => {
+            if !def_sound(alloc, def)? {
+                return Ok(false);
+            }
+            Ok(is_tag_def(def))
+        }
+        None => Ok(true),
+    }
+}
+
+#[tactic(auto, unfolding(crate::specs::Sound::defs_sound))]
+fn defs_sound(alloc: Global, facts: &Facts) -> Result<bool, NoMemory>
+    ensures { IfOk result (λ sound. sound ≡ defs_sound facts.now) }
+{
+    if !def_sound(alloc, &facts.def)? {
+        return Ok(false);
+    }
+    tag_def_sound(alloc, facts)
 }
 
 /// The time zones, None where a rule doesn't read.
@@ -181,7 +76,7 @@ fn time_zones(alloc: Global, rows: &[TimeZoneRow]) -> Result<Option<TimeZones>, 
 }
 
 /// Whether the roles have distinct names, name roles that are there, and go in no circle.
-fn roles_sound(alloc: Global, rows: &[RoleRow]) -> Result<bool, NoMemory>
+fn roles_build(alloc: Global, rows: &[RoleRow]) -> Result<bool, NoMemory>
     ensures { IfOk result (λ sound. sound ≡ is_none (fault_of rows.now)) }
 {
     match Roles::build(alloc, rows) {
@@ -191,36 +86,90 @@ fn roles_sound(alloc: Global, rows: &[RoleRow]) -> Result<bool, NoMemory>
     }
 }
 
-/// Whether each policy passes its rules. The definition has passed its own.
-fn all_policies_sound(alloc: Global, facts: &Facts, zones: &TimeZones) -> Result<bool, NoMemory>
-    requires { def_fault facts.now.def ≡ None }
-    ensures { IfOk result (λ s. s ≡ list_all (policy_sound facts.now.def zones.now) facts.now.policies.items) }
+#[tactic(auto, unfolding(crate::specs::Sound::roles_sound))]
+fn roles_sound(alloc: Global, facts: &Facts) -> Result<bool, NoMemory>
+    ensures { IfOk result (λ sound. sound ≡ roles_sound facts.now) }
 {
-    let paths = paths(alloc, &facts.def)?;
+    let roles = facts.roles.as_slice();
+    if !roles_build(alloc, roles)? {
+        return Ok(false);
+    }
+    Ok(
+        all_roles_exist(roles, facts.policies.as_slice())
+            && all_roles_exist(roles, facts.tag_policies.as_slice()),
+    )
+}
+
+/// Whether each policy passes its rules under the definition, which has passed its own.
+fn pass_under(
+    alloc: Global,
+    def: &ServiceDef,
+    zones: &TimeZones,
+    policies: &[Policy],
+) -> Result<bool, NoMemory>
+    requires { def_fault def.now ≡ None }
+    ensures { IfOk result (λ s. s ≡ list_all (policy_sound def.now zones.now) policies.now) }
+{
+    let paths = paths(alloc, def)?;
     let against = Against {
-        def: &facts.def,
+        def,
         paths: paths.as_slice(),
         zones,
     };
-    Ok(policies_sound(&against, facts.policies.as_slice()))
+    Ok(all_pass(&against, policies))
 }
 
-/// Whether the facts are sound. It takes memory for the ids of the policies, the paths, the time zones and the roles.
-#[tactic(auto, unfolding(crate::specs::Sound::sound))]
-pub fn is_sound(alloc: Global, facts: &Facts) -> Result<bool, NoMemory>
-    ensures { IfOk result (λ is_sound. is_sound ≡ sound facts.now) }
+fn is_no_policy(policies: &[Policy]) -> bool
+    ensures { result ≡ is_no_policy policies.now }
 {
-    if !versions_fit(facts) || !def_sound(alloc, &facts.def)? {
-        return Ok(false);
+    match policies {
+        [] => true,
+        _ => false,
     }
+}
+
+fn tag_policies_sound(alloc: Global, facts: &Facts, zones: &TimeZones) -> Result<bool, NoMemory>
+    requires { tag_def_sound facts.now.tag_def ≡ true }
+    ensures { IfOk result (λ s. s ≡ tag_policies_sound facts.now.tag_def zones.now facts.now.tag_policies.items) }
+{
+    let policies = facts.tag_policies.as_slice();
+    match &facts.tag_def {
+        Some(def) => pass_under(alloc, def, zones, policies),
+        None => Ok(is_no_policy(policies)),
+    }
+}
+
+/// The definitions have passed their own rules.
+#[tactic(auto, using(crate::proofs::Soundness::lawful_def, crate::proofs::Soundness::tag_def_of), unfolding(crate::specs::Sound::policies_sound))]
+fn policies_sound(alloc: Global, facts: &Facts) -> Result<bool, NoMemory>
+    requires { defs_sound facts.now ≡ true }
+    ensures { IfOk result (λ sound. sound ≡ policies_sound facts.now) }
+{
     let Some(zones) = time_zones(alloc, facts.time_zones.as_slice())? else {
         return Ok(false);
     };
-    if !roles_sound(alloc, facts.roles.as_slice())? {
+    if !pass_under(alloc, &facts.def, &zones, facts.policies.as_slice())? {
         return Ok(false);
     }
-    if !ids_distinct(alloc, facts.policies.as_slice())? {
+    tag_policies_sound(alloc, facts, &zones)
+}
+
+/// Whether the facts are sound. It takes memory for the ids, the paths, the time zones, the roles and patterns.
+#[tactic(auto, using(crate::proofs::Soundness::lawful_def), unfolding(crate::specs::Sound::sound))]
+pub fn is_sound(alloc: Global, facts: &Facts) -> Result<bool, NoMemory>
+    ensures { IfOk result (λ is_sound. is_sound ≡ sound facts.now) }
+{
+    if !versions_fit(facts) || !defs_sound(alloc, facts)? {
         return Ok(false);
     }
-    all_policies_sound(alloc, facts, &zones)
+    if !ids_sound(alloc, facts)? || !roles_sound(alloc, facts)? {
+        return Ok(false);
+    }
+    if !zone_names_sound(facts) || !zones_sound(alloc, facts)? {
+        return Ok(false);
+    }
+    if !tag_rows_sound(alloc, &facts.def, facts.tag_rows.as_slice())? {
+        return Ok(false);
+    }
+    policies_sound(alloc, facts)
 }

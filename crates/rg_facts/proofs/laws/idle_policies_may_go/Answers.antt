@@ -1,16 +1,19 @@
-use Rattle.std.proofs.Common.{◌∷◌, [], pos, refl, map, unwrap_or}
-use Rattle.rg_policy.specs.declared.policy.Policy.{Policy}
-use Rattle.rg_effect.specs.declared.effect.Effect.TheVariants.{Allow, Deny}
-use Rattle.rg_facts.specs.declared.decision.Access.TheVariants.{Allowed, Denied}
-use Rattle.rg_facts.specs.Flow.{decided_in, effect_in, eval, first_some, undecided}
-use Rattle.rg_facts.proofs.Idle.{cell_without}
+use Rattle.std.proofs.Common.{◌∷◌, ◌++◌, None, ◌∙◌, sym}
+use Rattle.rg_base.specs.Listed.{listed}
+use Rattle.rg_facts.specs.Asks.{ask_of, tags_of}
+use Rattle.rg_facts.specs.Cells.{judged}
+use Rattle.rg_facts.proofs.Asked.{flow_by, resource_bests, tag_ask, tag_bests}
+use Rattle.rg_facts.proofs.Idle.{resource_without, tagged_without}
 use Rattle.rg_facts.proofs.laws.idle_policies_may_go.Goals as goal
 
-pub returns : goal.returns
-unfolding eval effect_in
-returns c = λ facts q p before after idle.
-    λ i. unwrap_or (first_some (map decided_in (
-    (Denied, cell_without facts q p before after (pos 1) Deny refl idle i)
-    ∷ (Allowed, cell_without facts q p before after (pos 1) Allow refl idle i)
-    ∷ (Denied, cell_without facts q p before after (pos 0) Deny refl idle i)
-    ∷ (Allowed, cell_without facts q p before after (pos 0) Allow refl idle i) ∷ []))) (undecided facts)
+pub returns-clause-policies : goal.returns-clause-policies
+returns-clause-policies c = λ facts q p before after idle.
+    flow_by facts (listed (before ++ p ∷ after)) facts.tag_policies facts.tag_rows q
+    ∙ (λ i. judged facts.fallback (tag_bests facts.tag_policies.items (tag_ask facts q) (tags_of facts q)) (resource_without (ask_of facts q None) p before after idle i))
+    ∙ sym (flow_by facts (listed (before ++ after)) facts.tag_policies facts.tag_rows q)
+
+pub returns-clause-tag_policies : goal.returns-clause-tag_policies
+returns-clause-tag_policies c = λ facts q p before after idle.
+    flow_by facts facts.policies (listed (before ++ p ∷ after)) facts.tag_rows q
+    ∙ (λ i. judged facts.fallback (tagged_without (tag_ask facts q) (tags_of facts q) p before after idle i) (resource_bests facts.policies.items (ask_of facts q None)))
+    ∙ sym (flow_by facts facts.policies (listed (before ++ after)) facts.tag_rows q)

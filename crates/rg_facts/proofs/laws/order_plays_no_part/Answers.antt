@@ -1,15 +1,27 @@
-use Rattle.std.proofs.Common.{◌∷◌, [], pos, ap, unwrap_or, option_map}
-use Rattle.rg_effect.specs.declared.effect.Effect.TheVariants.{Allow, Deny}
-use Rattle.rg_facts.specs.declared.decision.Access.TheVariants.{Allowed, Denied}
-use Rattle.rg_facts.specs.Flow.{decided, effect_in, eval, first_some, stands_in, undecided}
-use Rattle.rg_facts.proofs.Order.{least_same}
+use Rattle.std.proofs.Common.{None, refl, sym, ◌∙◌}
+use Rattle.rg_base.specs.Listed.{listed}
+use Rattle.rg_facts.specs.Asks.{ask_of, tags_in, tags_of}
+use Rattle.rg_facts.specs.Cells.{judged}
+use Rattle.rg_facts.proofs.Asked.{flow_by, resource_bests, tag_ask, tag_bests}
+use Rattle.rg_facts.proofs.Order.{resource_reordered, tag_policies_reordered, tags_reordered}
 use Rattle.rg_facts.proofs.laws.order_plays_no_part.Goals as goal
 
-pub returns : goal.returns
-unfolding eval effect_in
-returns c = λ facts q these those distinct same.
-    λ i. unwrap_or (first_some (
-    option_map (decided Denied) (least_same (stands_in facts q (pos 1) Deny) these those distinct same i)
-    ∷ option_map (decided Allowed) (least_same (stands_in facts q (pos 1) Allow) these those distinct same i)
-    ∷ option_map (decided Denied) (least_same (stands_in facts q (pos 0) Deny) these those distinct same i)
-    ∷ option_map (decided Allowed) (least_same (stands_in facts q (pos 0) Allow) these those distinct same i) ∷ [])) (undecided facts)
+pub returns-clause-policies : goal.returns-clause-policies
+returns-clause-policies c = λ facts q these those distinct same.
+    flow_by facts (listed these) facts.tag_policies facts.tag_rows q
+    ∙ (λ i. judged facts.fallback (tag_bests facts.tag_policies.items (tag_ask facts q) (tags_of facts q)) (resource_reordered (ask_of facts q None) these those distinct same i))
+    ∙ sym (flow_by facts (listed those) facts.tag_policies facts.tag_rows q)
+
+pub returns-clause-tag_policies : goal.returns-clause-tag_policies
+returns-clause-tag_policies c = λ facts q these those distinct same.
+    flow_by facts facts.policies (listed these) facts.tag_rows q
+    ∙ (λ i. judged facts.fallback (tag_policies_reordered (tag_ask facts q) (tags_of facts q) these those (λ tag. refl) distinct same i)
+    (resource_bests facts.policies.items (ask_of facts q None)))
+    ∙ sym (flow_by facts facts.policies (listed those) facts.tag_rows q)
+
+pub returns-clause-tags : goal.returns-clause-tags
+returns-clause-tags c = λ facts q these those distinct same.
+    flow_by facts facts.policies facts.tag_policies (listed these) q
+    ∙ (λ i. judged facts.fallback (tags_reordered (tag_ask facts q) (tags_in facts q these) (tags_in facts q those) facts.tag_policies.items (λ tag. refl) distinct same i)
+    (resource_bests facts.policies.items (ask_of facts q None)))
+    ∙ sym (flow_by facts facts.policies facts.tag_policies (listed those) q)

@@ -1,6 +1,6 @@
-use Rattle.std.proofs.Common.{arith, rules}
+use Rattle.std.proofs.Common.{arith}
 use Rattle.rg_facts.specs.Plans.{IsPlan}
-use Rattle.rg_facts.specs.Sound.{policy_sound}
+use Rattle.rg_facts.specs.PolicyRules.{policy_sound}
 use Rattle.rg_facts.proofs.Zipped.{zip_more, left_more}
 use Rattle.rg_facts.proofs.plain.plans_of.Goals as goal
 

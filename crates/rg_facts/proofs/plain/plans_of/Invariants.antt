@@ -1,7 +1,7 @@
 use Rattle.std.proofs.Common.{◌≡◌, true, take, drop}
 use Rattle.std.specs.List.{AllZip, list_all}
 use Rattle.rg_facts.specs.Plans.{IsPlan}
-use Rattle.rg_facts.specs.Sound.{policy_sound}
+use Rattle.rg_facts.specs.PolicyRules.{policy_sound}
 use Rattle.rg_facts.proofs.plain.plans_of.Given as goal
 
 -- the plans so far, and the policies to come are sound

@@ -1,6 +1,6 @@
 use Rattle.std.proofs.Common.{◌≡◌, true, take, drop}
 use Rattle.rg_facts.specs.Plans.{rules_of}
-use Rattle.rg_facts.specs.Sound.{conditions_rule}
+use Rattle.rg_facts.specs.PolicyRules.{conditions_rule}
 use Rattle.rg_facts.proofs.plan.compile_conditions.Given as goal
 
 -- the rules so far, and the conditions to come compile

@@ -1,6 +1,6 @@
 use Rattle.std.proofs.Common.{◌≡◌, true, take, drop}
 use Rattle.rg_facts.specs.Plans.{item_rules}
-use Rattle.rg_facts.specs.Sound.{items_conditions_rule}
+use Rattle.rg_facts.specs.PolicyRules.{items_conditions_rule}
 use Rattle.rg_facts.proofs.plan.compile_items.Given as goal
 
 -- the rules so far, and the conditions of the items to come compile

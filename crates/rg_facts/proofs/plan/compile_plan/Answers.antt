@@ -24,3 +24,9 @@ compile_items-requires-3 c = rw c.as_slice-6.ensures (parts_of c.args.def.now c.
 
 pub compile_items-requires-4 : goal.compile_items-requires-4
 compile_items-requires-4 c = rw c.as_slice-7.ensures (parts_of c.args.def.now c.args.zones.now c.args.policy.now c.requires.policy).deny_exceptions
+
+pub compile_placed-requires : goal.compile_placed-requires
+compile_placed-requires c = rw c.as_slice-8.ensures (parts_of c.args.def.now c.args.zones.now c.args.policy.now c.requires.policy).mask_items
+
+pub compile_placed-requires-2 : goal.compile_placed-requires-2
+compile_placed-requires-2 c = rw c.as_slice-9.ensures (parts_of c.args.def.now c.args.zones.now c.args.policy.now c.requires.policy).filter_items

@@ -1,7 +1,7 @@
 use Rattle.std.proofs.Common.{◌≡◌, true, map, take, drop}
 use Rattle.rg_base.specs.Listed.{listed}
 use Rattle.rg_cond.specs.Spans.{span_of}
-use Rattle.rg_facts.specs.Sound.{schedules_rule}
+use Rattle.rg_facts.specs.PolicyRules.{schedules_rule}
 use Rattle.rg_facts.proofs.plan.read_spans.Given as goal
 
 -- the spans so far, and the schedules to come read
