@@ -1,4 +1,3 @@
-pub mod Built
 pub mod Limits
 pub mod Line
 pub mod LineEnds

@@ -10,7 +10,6 @@ use Rattle.rg_wire.specs.Records.{facts_of, request_of}
 use Rattle.rg_wire.specs.Shapes.{facts_shape, request_shape}
 use Rattle.rangerd.specs.declared.line.Line.{Line}
 use Rattle.rangerd.specs.declared.line.Line.TheVariants as line
-use Rattle.rangerd.specs.Built.{text_built}
 
 -- what follows a word at the front of a line
 unfoldable pub after_word : List ℕ → List ℕ → Option (List ℕ)
@@ -27,13 +26,13 @@ abbrev pub is_blank : List ℕ → Bool
 is_blank [] = true
 is_blank (b ∷ bs) = b == 35
 
--- facts that read and are built
-abbrev pub facts_from : Bool → Result Facts Fault → Option Line
-facts_from built (Ok facts) = if built then Some (line.Facts facts) else None
-facts_from built (Err fault) = None
+-- facts that read
+abbrev pub facts_from : Result Facts Fault → Option Line
+facts_from (Ok facts) = Some (line.Facts facts)
+facts_from (Err fault) = None
 
 abbrev pub facts_line : List ℕ → Option Line
-facts_line json = facts_from (text_built json) (reading facts_shape facts_of json)
+facts_line json = facts_from (reading facts_shape facts_of json)
 
 -- a request that reads
 abbrev pub request_from : Result AccessRequest Fault → Option Line

@@ -3,10 +3,10 @@ use Rattle.std.specs.Prelude.{ℕ, ◌+◌, ◌++◌, List, [], ◌∷◌, Bool,
 use Rattle.rg_base.specs.declared.numbers.Moment.{Moment}
 use Rattle.rg_policy.specs.declared.request.AccessRequest.{AccessRequest}
 use Rattle.rg_facts.specs.declared.decision.Decision.{Decision}
-use Rattle.rg_facts.specs.declared.decision.Verdict.{Verdict}
 use Rattle.rg_facts.specs.declared.facts.Facts.{Facts}
 use Rattle.rg_facts.specs.Flow.{eval}
 use Rattle.rg_facts.specs.Sound.{sound}
+use Rattle.rg_facts.specs.Texts.{decision_of}
 use Rattle.rg_wire.specs.Printing.{decision_text}
 use Rattle.rangerd.specs.declared.line.Line.{Line}
 use Rattle.rangerd.specs.declared.line.Line.TheVariants as line
@@ -38,22 +38,9 @@ quiet published = record { text = []; published = published; goes_on = true }
 unfoldable pub publication_of : Facts → Option Publication
 publication_of facts = if sound facts then Some (record { serial = record { 0 = 1 }; engine = facts }) else None
 
--- a decision is the written flow over the publication
-abbrev pub decided : Publication → Verdict → Decision
-decided p v = record {
-  access = v.access;
-  policy = v.policy;
-  audited = v.audited;
-  filter = None;
-  mask = None;
-  serial = p.serial;
-  policy_version = p.engine.policy_version;
-  tag_version = p.engine.tag_version;
-  path = [];
-}
-
-abbrev pub decision_of : Publication → AccessRequest → Decision
-decision_of p q = decided p (eval p.engine q)
+-- a decision is the written flow over the publication, with its texts
+abbrev pub decision_by : Publication → AccessRequest → Decision
+decision_by p q = decision_of p.engine q p.serial (eval p.engine q)
 
 -- its text, and an LF
 unfoldable pub decision_line : Decision → List ℕ
@@ -71,7 +58,7 @@ facts_outcome (Some p) n facts = bad_line (Some p) n
 -- requests come after the facts
 unfoldable pub decide_outcome : Option Publication → ℕ → AccessRequest → Outcome
 decide_outcome None n q = bad_line None n
-decide_outcome (Some p) n q = record { text = decision_line (decision_of p q); published = Some p; goes_on = true }
+decide_outcome (Some p) n q = record { text = decision_line (decision_by p q); published = Some p; goes_on = true }
 
 abbrev pub worked : Option Publication → ℕ → Option Line → Outcome
 worked published n None = bad_line published n

@@ -2,7 +2,6 @@
 ghost use Rattle.std.specs.Prelude.{◌≡◌, Some, None, IfOk, option_map};
 ghost use Rattle.rangerd.specs.Line.{after_word, decide_line, facts_line, is_blank, line_of, request_line};
 
-use crate::built::text_built;
 use rg_base::Moment;
 use rg_facts::Facts;
 use rg_policy::AccessRequest;
@@ -23,7 +22,7 @@ pub(crate) enum Line {
 /// Why a line isn't read.
 #[derive(Clone, Copy, Debug, PartialEq, Eq)]
 pub(crate) enum LineFault {
-    /// It is of no form, its JSON doesn't read, or it uses what is not built yet.
+    /// It is of no form, or its JSON doesn't read.
     Bad,
     NoMemory,
 }
@@ -55,15 +54,8 @@ fn facts_line(alloc: Global, json: &[u8]) -> Result<Line, LineFault>
     ensures ok { IfOk result (λ line. facts_line json.now ≡ Some line) }
     ensures bad { result ≡ Err LineFault.Bad → facts_line json.now ≡ None }
 {
-    let Ok(built) = text_built(alloc, json) else {
-        return Err(LineFault::NoMemory);
-    };
     match read_facts(alloc, json) {
-        Ok(facts) => if built {
-            Ok(Line::Facts(facts))
-        } else {
-            Err(LineFault::Bad)
-        },
+        Ok(facts) => Ok(Line::Facts(facts)),
         Err(WireFault::Bad { .. }) => Err(LineFault::Bad),
         Err(WireFault::NoMemory) => Err(LineFault::NoMemory),
     }

@@ -1,7 +1,6 @@
 // rangerd: Apache Ranger's policy administration and its enforcing plugin in one program.
 #![tactic(auto)]
 
-mod built;
 mod line;
 mod lines;
 mod program;

@@ -4,11 +4,11 @@ ghost use Rattle.rg_base.specs.declared.numbers.Moment.{Moment};
 ghost use Rattle.rg_facts.specs.Sound.{sound};
 ghost use Rattle.rangerd.specs.Lines.{lines_of};
 ghost use Rattle.rangerd.specs.Moments.{Gave};
-ghost use Rattle.rangerd.specs.Script.{Output, bad_line_text, decide_outcome, decision_line, decision_of, facts_outcome, outcome_of, publication_of, script};
+ghost use Rattle.rangerd.specs.Script.{Output, bad_line_text, decide_outcome, decision_line, facts_outcome, outcome_of, publication_of, script};
 
 use crate::line::{Line, LineFault, read_line};
 use crate::lines::split_line;
-use rg_base::{Moment, NoMemory, Serial, Text};
+use rg_base::{Moment, NoMemory, Serial};
 use rg_facts::{Decision, Facts, Plain, is_sound};
 use rg_policy::AccessRequest;
 use rg_ports::Clock;
@@ -91,25 +91,6 @@ fn publish(
     }
 }
 
-/// The decision of a request. Row filters and masks are not built yet, and nothing names the path of the resource.
-fn decision(alloc: Global, publication: &Publication, request: &AccessRequest) -> Decision
-    ensures { result ≡ decision_of publication.now request.now }
-{
-    let facts = publication.engine.facts();
-    let verdict = publication.engine.scan(request);
-    Decision {
-        access: verdict.access,
-        policy: verdict.policy,
-        audited: verdict.audited,
-        filter: None,
-        mask: None,
-        serial: publication.serial,
-        policy_version: facts.policy_version,
-        tag_version: facts.tag_version,
-        path: Text::empty(alloc),
-    }
-}
-
 /// Adds the decision line.
 #[tactic(auto, unfolding(crate::specs::Script::decision_line))]
 fn add_decision(alloc: Global, text: &mut String, decision: &Decision) -> Result<(), NoMemory>
@@ -138,7 +119,9 @@ fn decide(
     match &published.current {
         None => bad_line(text, number),
         Some(publication) => {
-            let decision = decision(alloc, publication, request);
+            let decision = publication
+                .engine
+                .decide(alloc, request, publication.serial)?;
             add_decision(alloc, text, &decision)?;
             Ok(true)
         }

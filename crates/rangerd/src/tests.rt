@@ -13,6 +13,10 @@ use std::test::Fail;
 const HEAD: &str =
     r#"facts {"service":"s","serviceDef":{"name":"d","resources":[{"name":"database","level":10,"excludesSupported":true},{"name":"url","level":10,"recursiveSupported":true,"matcherOptions":{"ignoreCase":"false"}},{"name":"table","level":20,"parent":"database","excludesSupported":true},{"name":"column","level":30,"parent":"table"},{"name":"fixed","level":10,"matcherOptions":{"wildCard":false}}],"accessTypes":[{"name":"select"},{"name":"drop"},{"name":"all","impliedGrants":["select","drop"]},{"name":"every","impliedGrants":["all"]}],"policyConditions":[{"name":"ip-range"},{"name":"script","evaluator":"js"},{"name":"ctx","evaluator":"context-value-in","evaluatorOptions":{"attributeName":"k"}}]},"policies":["#;
 
+/// Hive's definition with masks and row filters, and a tag definition.
+const HIVE: &str =
+    r#"facts {"service":"hive1","serviceDef":{"name":"hive","resources":[{"name":"database","level":10,"excludesSupported":true},{"name":"url","level":10,"recursiveSupported":true,"matcherOptions":{"ignoreCase":false}},{"name":"table","level":20,"parent":"database","excludesSupported":true},{"name":"udf","level":20,"parent":"database","excludesSupported":true},{"name":"column","level":30,"parent":"table","excludesSupported":true}],"accessTypes":[{"name":"select"},{"name":"update"},{"name":"all","impliedGrants":["select","update"]}],"policyConditions":[{"name":"resources-accessed-together","evaluator":"RangerHiveResourcesAccessedTogetherCondition"},{"name":"ip-range","evaluator":"ip-range"}],"dataMaskDef":{"maskTypes":[{"name":"MASK","transformer":"mask({col})"},{"name":"MASK_SHOW_LAST_4","transformer":"mask_show_last_n({col}, 4, 'x', 'x', 'x', -1, '1')"},{"name":"MASK_NONE","transformer":""},{"name":"CUSTOM","transformer":""}],"accessTypes":[{"name":"select"}],"resources":[{"name":"database"},{"name":"table"},{"name":"column"}]},"rowFilterDef":{"accessTypes":[{"name":"select"}],"resources":[{"name":"database"},{"name":"table"}]}},"tagServiceDef":{"name":"tag","resources":[{"name":"tag","level":1}],"accessTypes":[{"name":"hive:select"},{"name":"hive:update"},{"name":"hive:all","impliedGrants":["hive:select","hive:update"]}],"policyConditions":[{"name":"accessed-after-expiry"}],"dataMaskDef":{"maskTypes":[{"name":"HASH","transformer":"hash({col})"}],"accessTypes":[{"name":"hive:select"}]}}"#;
+
 const USAGE: &str = "usage: rangerd replay | serve ADDRESS LINKS | drill SEED POLICIES REQUESTS\n";
 
 /// Policy 1, by which ann may select from database sales.
@@ -101,15 +105,31 @@ fn script(alloc: Global, policies: &str, request: &str) -> Result<String, Fail> 
     Ok(text)
 }
 
-/// The decision line with this access, policy and truth value of audited.
+/// The decision line with this access, policy and truth value of audited, without row filter and mask.
 fn line(alloc: Global, access: &str, audited: &str, policy: &str) -> Result<String, Fail> {
+    line_with(alloc, access, audited, policy, "null", "null")
+}
+
+/// The same with this mask and this row filter.
+fn line_with(
+    alloc: Global,
+    access: &str,
+    audited: &str,
+    policy: &str,
+    mask: &str,
+    filter: &str,
+) -> Result<String, Fail> {
     let mut text = String::from_str(alloc, r#"{"access":""#)?;
     text.push_str(access)?;
     text.push_str(r#"","audited":"#)?;
     text.push_str(audited)?;
-    text.push_str(r#","mask":null,"policyId":"#)?;
+    text.push_str(r#","mask":"#)?;
+    text.push_str(mask)?;
+    text.push_str(r#","policyId":"#)?;
     text.push_str(policy)?;
-    text.push_str(",\"policyVersion\":1,\"rowFilter\":null,\"serial\":1,\"tagVersion\":1}\n")?;
+    text.push_str(r#","policyVersion":1,"rowFilter":"#)?;
+    text.push_str(filter)?;
+    text.push_str(",\"serial\":1,\"tagVersion\":1}\n")?;
     Ok(text)
 }
 
@@ -168,6 +188,45 @@ fn decides(rt: &impl Abort, alloc: Global, row: &str) -> Result<(), Fail> {
 fn decide_all(rt: &impl Abort, alloc: Global, table: &str) -> Result<(), Fail> {
     for row in table.lines() {
         decides(rt, alloc, row)?;
+    }
+    Ok(())
+}
+
+/// One line of a table: access, policy id, mask and row filter with `;` between, a request, and keys of the facts beside
+/// the definitions of `HIVE`, with `|` between.
+fn gives(rt: &impl Abort, alloc: Global, row: &str) -> Result<(), Fail> {
+    let mut parts = row.split('|');
+    let mut wanted = parts.next().unwrap_or("").split(';');
+    let request = parts.next().unwrap_or("");
+    let mut script = String::from_str(alloc, HIVE)?;
+    script.push_str(parts.next().unwrap_or(""))?;
+    script.push_str("}\ndecide ")?;
+    script.push_str(request)?;
+    let printed = line_with(
+        alloc,
+        wanted.next().unwrap_or(""),
+        "true",
+        wanted.next().unwrap_or(""),
+        wanted.next().unwrap_or("null"),
+        wanted.next().unwrap_or("null"),
+    )?;
+    check(rt, alloc, script.as_bytes(), 0, printed.as_str())
+}
+
+fn give_all(rt: &impl Abort, alloc: Global, table: &str) -> Result<(), Fail> {
+    for row in table.lines() {
+        gives(rt, alloc, row)?;
+    }
+    Ok(())
+}
+
+/// Facts over the definitions of `HIVE` that aren't sound.
+fn refuse_all(rt: &impl Abort, alloc: Global, table: &str) -> Result<(), Fail> {
+    for keys in table.lines() {
+        let mut script = String::from_str(alloc, HIVE)?;
+        script.push_str(keys)?;
+        script.push_str("}\n")?;
+        check(rt, alloc, script.as_bytes(), 2, "bad line 1\n")?;
     }
     Ok(())
 }
@@ -269,27 +328,105 @@ fn facts_that_are_not_sound(rt: HostRuntime) -> Result<(), Fail> {
     Ok(())
 }
 
+/// Tag policies beside resource policies: priorities, implied grants, what lies below, one tag of several, expiry dates.
+const TAGS: &str =
+    r#"ALLOWED;1|{"user":"ann","resource":{"elements":{"database":"sales"}},"accessType":"select","accessTime":0}|,"policies":[{"id":1,"resources":{"database":{"values":["sales"]}},"policyItems":[{"users":["ann"],"accesses":[{"type":"select"}]}],"policyPriority":1}],"tagPolicies":[{"id":2,"service":"tags1","resources":{"tag":{"values":["PII"]}},"denyPolicyItems":[{"groups":["public"],"accesses":[{"type":"hive:select"}]}]}],"resources":[{"id":1,"resourceElements":{"database":{"values":["sales"]}},"tags":[{"type":"PII"}]}]
+DENIED;2|{"user":"ann","resource":{"elements":{"database":"sales"}},"accessType":"select","accessTime":0}|,"policies":[{"id":1,"resources":{"database":{"values":["sales"]}},"policyItems":[{"users":["ann"],"accesses":[{"type":"select"}]}]}],"tagPolicies":[{"id":2,"service":"tags1","resources":{"tag":{"values":["PII"]}},"denyPolicyItems":[{"groups":["public"],"accesses":[{"type":"hive:select"}]}]}],"resources":[{"id":1,"resourceElements":{"database":{"values":["sales"]}},"tags":[{"type":"PII"}]}]
+DENIED;2|{"user":"ann","resource":{"elements":{"database":"sales"}},"accessType":"select","accessTime":0}|,"policies":[{"id":1,"resources":{"database":{"values":["sales"]}},"policyItems":[{"users":["ann"],"accesses":[{"type":"select"}]}],"policyPriority":1}],"tagPolicies":[{"id":2,"service":"tags1","resources":{"tag":{"values":["PII"]}},"denyPolicyItems":[{"groups":["public"],"accesses":[{"type":"hive:select"}]}],"policyPriority":1}],"resources":[{"id":1,"resourceElements":{"database":{"values":["sales"]}},"tags":[{"type":"PII"}]}]
+DENIED;1|{"user":"ann","resource":{"elements":{"database":"sales"}},"accessType":"select","accessTime":0}|,"policies":[{"id":1,"resources":{"database":{"values":["sales"]}},"denyPolicyItems":[{"users":["ann"],"accesses":[{"type":"select"}]}]}],"tagPolicies":[{"id":2,"service":"tags1","resources":{"tag":{"values":["PII"]}},"policyItems":[{"groups":["public"],"accesses":[{"type":"hive:select"}]}]}],"resources":[{"id":1,"resourceElements":{"database":{"values":["sales"]}},"tags":[{"type":"PII"}]}]
+ALLOWED;2|{"user":"ann","resource":{"elements":{"database":"sales"}},"accessType":"select","accessTime":0}|,"tagPolicies":[{"id":2,"service":"tags1","resources":{"tag":{"values":["PII"]}},"policyItems":[{"groups":["public"],"accesses":[{"type":"hive:select"}]}]}],"resources":[{"id":1,"resourceElements":{"database":{"values":["sales"]}},"tags":[{"type":"PII"}]}]
+ALLOWED;2|{"user":"ann","resource":{"elements":{"database":"sales"}},"accessType":"select","accessTime":0}|,"tagPolicies":[{"id":2,"service":"tags1","resources":{"tag":{"values":["P*"]}},"policyItems":[{"groups":["public"],"accesses":[{"type":"hive:all"}]}]}],"resources":[{"id":1,"resourceElements":{"database":{"values":["sales"]}},"tags":[{"type":"PII"}]}]
+DENIED;-1|{"user":"ann","resource":{"elements":{"database":"sales"}},"accessType":"select","accessTime":0}|,"tagPolicies":[{"id":2,"service":"tags1","resources":{"tag":{"values":["PII"]}},"policyItems":[{"groups":["public"],"accesses":[{"type":"hive:update"}]}]}],"resources":[{"id":1,"resourceElements":{"database":{"values":["sales"]}},"tags":[{"type":"PII"}]}]
+DENIED;2|{"user":"ann","resource":{"elements":{"database":"sales"}},"accessType":"select","accessTime":0}|,"tagPolicies":[{"id":2,"service":"tags1","resources":{"tag":{"values":["PII"]}},"policyItems":[],"isDenyAllElse":true}],"resources":[{"id":1,"resourceElements":{"database":{"values":["sales"]}},"tags":[{"type":"PII"}]}]
+ALLOWED;2|{"user":"ann","resource":{"elements":{"database":"sales","table":"t"}},"accessType":"select","accessTime":0}|,"tagPolicies":[{"id":2,"service":"tags1","resources":{"tag":{"values":["PII"]}},"policyItems":[{"groups":["public"],"accesses":[{"type":"hive:select"}]}]}],"resources":[{"id":1,"resourceElements":{"database":{"values":["sales"]}},"tags":[{"type":"PII"}]}]
+DENIED;-1|{"user":"ann","resource":{"elements":{"database":"hr"}},"accessType":"select","accessTime":0}|,"tagPolicies":[{"id":2,"service":"tags1","resources":{"tag":{"values":["PII"]}},"policyItems":[{"groups":["public"],"accesses":[{"type":"hive:select"}]}]}],"resources":[{"id":1,"resourceElements":{"database":{"values":["sales"]}},"tags":[{"type":"PII"}]}]
+DENIED;2|{"user":"ann","resource":{"elements":{"database":"sales"}},"accessType":"select","accessTime":0}|,"tagPolicies":[{"id":2,"service":"tags1","resources":{"tag":{"values":["*"]}},"policyItems":[{"groups":["public"],"accesses":[{"type":"hive:select"}]}],"denyPolicyItems":[{"groups":["public"],"accesses":[{"type":"hive:select"}],"conditions":[{"type":"accessed-after-expiry","values":["yes"]}]}]}],"resources":[{"id":1,"resourceElements":{"database":{"values":["sales"]}},"tags":[{"type":"A"},{"type":"B","attributes":{"expiry_date":"1969/12/31"}}]}]
+DENIED;2|{"user":"ann","resource":{"elements":{"database":"sales"}},"accessType":"select","accessTime":0}|,"tagPolicies":[{"id":2,"service":"tags1","resources":{"tag":{"values":["*"]}},"policyItems":[{"groups":["public"],"accesses":[{"type":"hive:select"}]}],"denyPolicyItems":[{"groups":["public"],"accesses":[{"type":"hive:select"}],"conditions":[{"type":"accessed-after-expiry","values":["yes"]}]}]}],"resources":[{"id":1,"resourceElements":{"database":{"values":["sales"]}},"tags":[{"type":"B","attributes":{"expiry_date":"1969/12/31"}},{"type":"A"}]}]
+ALLOWED;1|{"user":"ann","resource":{"elements":{"database":"hr","table":"emp"}},"accessType":"select","accessTime":1706659200}|,"policies":[{"id":1,"resources":{"database":{"values":["hr"]},"table":{"values":["emp"]},"column":{"values":["*"]}},"policyItems":[{"users":["ann"],"accesses":[{"type":"select"}]}]}],"tagPolicies":[{"id":3,"service":"tags1","resources":{"tag":{"values":["EXPIRES_ON"]}},"denyPolicyItems":[{"groups":["public"],"accesses":[{"type":"hive:select"}]}],"conditions":[{"type":"accessed-after-expiry","values":["yes"]}]}],"resources":[{"id":1,"resourceElements":{"database":{"values":["hr"]},"table":{"values":["emp"]}},"tags":[{"type":"EXPIRES_ON","attributes":{"expiry_date":"2024/01/31"}}]}]
+DENIED;3|{"user":"ann","resource":{"elements":{"database":"hr","table":"emp"}},"accessType":"select","accessTime":1706659201}|,"policies":[{"id":1,"resources":{"database":{"values":["hr"]},"table":{"values":["emp"]},"column":{"values":["*"]}},"policyItems":[{"users":["ann"],"accesses":[{"type":"select"}]}]}],"tagPolicies":[{"id":3,"service":"tags1","resources":{"tag":{"values":["EXPIRES_ON"]}},"denyPolicyItems":[{"groups":["public"],"accesses":[{"type":"hive:select"}]}],"conditions":[{"type":"accessed-after-expiry","values":["yes"]}]}],"resources":[{"id":1,"resourceElements":{"database":{"values":["hr"]},"table":{"values":["emp"]}},"tags":[{"type":"EXPIRES_ON","attributes":{"expiry_date":"2024/01/31"}}]}]"#;
+
 #[test]
-fn keys_that_are_not_built(rt: HostRuntime) -> Result<(), Fail> {
-    let alloc = rt.alloc();
-    for key in r#""policyType":1|"policyType":2|"zoneName":""|"dataMaskPolicyItems":[]|"rowFilterPolicyItems":[]|"policyItems":[{"users":["u"],"accesses":[{"type":"select"}],"roles":[]}]|"denyExceptions":[{"users":["u"],"accesses":[{"type":"select"}],"roles":["r"]}]"#.split(
-        '|',
-    ) {
-        let mut policy = String::from_str(
-            alloc,
-            r#"{"id":1,"resources":{"database":{"values":["a"]}},"#,
-        )?;
-        policy.push_str(key)?;
-        policy.push_str("}")?;
-        refuses(&rt, alloc, policy.as_str())?;
-    }
-    for key in "tagServiceDef|tagPolicies|zones|roles|resources".split('|') {
-        let mut policy = String::from_str(alloc, r#"],""#)?;
-        policy.push_str(key)?;
-        policy.push_str(r#"":["#)?;
-        refuses(&rt, alloc, policy.as_str())?;
-    }
-    Ok(())
+fn tag_policies_fill_their_cells(rt: HostRuntime) -> Result<(), Fail> {
+    give_all(&rt, rt.alloc(), TAGS)
+}
+
+/// Zones choose the policies, also those of tags; roles of roles are subjects.
+const ZONES: &str =
+    r#"DENIED;-1|{"user":"ann","resource":{"elements":{"database":"finance"}},"accessType":"select","accessTime":0}|,"policies":[{"id":1,"resources":{"database":{"values":["*"]}},"policyItems":[{"users":["ann"],"accesses":[{"type":"select"}]}]}],"zones":[{"name":"fin","services":{"hive1":{"resources":[{"database":["finance"]}]}}}]
+ALLOWED;2|{"user":"ann","resource":{"elements":{"database":"finance"}},"accessType":"select","accessTime":0}|,"policies":[{"id":1,"resources":{"database":{"values":["*"]}},"policyItems":[{"users":["ann"],"accesses":[{"type":"select"}]}]},{"id":2,"resources":{"database":{"values":["finance"]}},"policyItems":[{"users":["ann"],"accesses":[{"type":"select"}]}],"zoneName":"fin"}],"zones":[{"name":"fin","services":{"hive1":{"resources":[{"database":["finance"]}]}}}]
+ALLOWED;1|{"user":"ann","resource":{"elements":{"database":"sales"}},"accessType":"select","accessTime":0}|,"policies":[{"id":1,"resources":{"database":{"values":["*"]}},"policyItems":[{"users":["ann"],"accesses":[{"type":"select"}]}]},{"id":2,"resources":{"database":{"values":["finance"]}},"policyItems":[{"users":["ann"],"accesses":[{"type":"select"}]}],"zoneName":"fin"}],"zones":[{"name":"fin","services":{"hive1":{"resources":[{"database":["finance"]}]}}}]
+ALLOWED;2|{"user":"ann","resource":{"elements":{"database":"finance"}},"accessType":"select","accessTime":0}|,"policies":[{"id":2,"resources":{"database":{"values":["finance"]}},"policyItems":[{"users":["ann"],"accesses":[{"type":"select"}]}],"zoneName":"fin"}],"zones":[{"name":"fin","services":{"hive1":{"resources":[{"database":["finance"]}]}}}]
+DENIED;-1|{"user":"ann","resource":{"elements":{"database":"finance","table":"t"}},"accessType":"select","accessTime":0}|,"policies":[{"id":1,"resources":{"database":{"values":["*"]}},"policyItems":[{"users":["ann"],"accesses":[{"type":"select"}]}]},{"id":2,"resources":{"database":{"values":["finance"]}},"policyItems":[{"users":["ann"],"accesses":[{"type":"select"}]}],"zoneName":"fin"}],"zones":[{"name":"fin","services":{"hive1":{"resources":[{"database":["finance"]}]}}}]
+DENIED;2|{"user":"ann","resource":{"elements":{"database":"finance"}},"accessType":"select","accessTime":0}|,"policies":[{"id":1,"resources":{"database":{"values":["finance"]}},"policyItems":[{"users":["ann"],"accesses":[{"type":"select"}]}],"zoneName":"fin"}],"tagPolicies":[{"id":2,"service":"tags1","resources":{"tag":{"values":["PII"]}},"denyPolicyItems":[{"groups":["public"],"accesses":[{"type":"hive:select"}]}]}],"zones":[{"name":"fin","services":{"hive1":{"resources":[{"database":["finance"]}]}}}],"resources":[{"id":1,"resourceElements":{"database":{"values":["finance"]}},"tags":[{"type":"PII"}]}]
+ALLOWED;1|{"user":"ann","resource":{"elements":{"database":"finance"}},"accessType":"select","accessTime":0}|,"policies":[{"id":1,"resources":{"database":{"values":["finance"]}},"policyItems":[{"users":["ann"],"accesses":[{"type":"select"}]}],"zoneName":"fin"}],"tagPolicies":[{"id":2,"service":"tags1","resources":{"tag":{"values":["PII"]}},"denyPolicyItems":[{"groups":["public"],"accesses":[{"type":"hive:select"}]}]}],"zones":[{"name":"fin","services":{"hive1":{"resources":[{"database":["finance"]}]}},"tagServices":["tags1"]}],"resources":[{"id":1,"resourceElements":{"database":{"values":["finance"]}},"tags":[{"type":"PII"}]}]
+DENIED;2|{"user":"ann","resource":{"elements":{"database":"finance"}},"accessType":"select","accessTime":0}|,"policies":[{"id":1,"resources":{"database":{"values":["finance"]}},"policyItems":[{"users":["ann"],"accesses":[{"type":"select"}]}],"zoneName":"fin"}],"tagPolicies":[{"id":2,"service":"tags1","resources":{"tag":{"values":["PII"]}},"denyPolicyItems":[{"groups":["public"],"accesses":[{"type":"hive:select"}]}],"zoneName":"fin"}],"zones":[{"name":"fin","services":{"hive1":{"resources":[{"database":["finance"]}]}},"tagServices":["tags1"]}],"resources":[{"id":1,"resourceElements":{"database":{"values":["finance"]}},"tags":[{"type":"PII"}]}]
+ALLOWED;1|{"user":"ann","resource":{"elements":{"database":"finance"}},"accessType":"select","accessTime":0}|,"policies":[{"id":1,"resources":{"database":{"values":["finance"]}},"policyItems":[{"users":["ann"],"accesses":[{"type":"select"}]}],"zoneName":"fin"}],"tagPolicies":[{"id":2,"service":"tags1","resources":{"tag":{"values":["PII"]}},"denyPolicyItems":[{"groups":["public"],"accesses":[{"type":"hive:select"}]}],"zoneName":"fin"}],"zones":[{"name":"fin","services":{"hive1":{"resources":[{"database":["finance"]}]}}}],"resources":[{"id":1,"resourceElements":{"database":{"values":["finance"]}},"tags":[{"type":"PII"}]}]
+ALLOWED;1|{"user":"ann","resource":{"elements":{"database":"d","table":"a"}},"accessType":"select","accessTime":0}|,"policies":[{"id":1,"resources":{"database":{"values":["d"]},"table":{"values":["*"]}},"policyItems":[{"users":["ann"],"accesses":[{"type":"select"}]}],"zoneName":"one"},{"id":2,"resources":{"database":{"values":["d"]},"table":{"values":["*"]}},"policyItems":[{"users":["ann"],"accesses":[{"type":"select"}]}],"zoneName":"two"},{"id":3,"resources":{"database":{"values":["d"]},"table":{"values":["*"]}},"policyItems":[{"users":["ann"],"accesses":[{"type":"select"}]}]}],"zones":[{"name":"one","services":{"hive1":{"resources":[{"database":["d"],"table":["a"]}]}}},{"name":"two","services":{"hive1":{"resources":[{"database":["d"],"table":["b"]}]}}}]
+ALLOWED;2|{"user":"ann","resource":{"elements":{"database":"d","table":"b"}},"accessType":"select","accessTime":0}|,"policies":[{"id":1,"resources":{"database":{"values":["d"]},"table":{"values":["*"]}},"policyItems":[{"users":["ann"],"accesses":[{"type":"select"}]}],"zoneName":"one"},{"id":2,"resources":{"database":{"values":["d"]},"table":{"values":["*"]}},"policyItems":[{"users":["ann"],"accesses":[{"type":"select"}]}],"zoneName":"two"},{"id":3,"resources":{"database":{"values":["d"]},"table":{"values":["*"]}},"policyItems":[{"users":["ann"],"accesses":[{"type":"select"}]}]}],"zones":[{"name":"one","services":{"hive1":{"resources":[{"database":["d"],"table":["a"]}]}}},{"name":"two","services":{"hive1":{"resources":[{"database":["d"],"table":["b"]}]}}}]
+ALLOWED;3|{"user":"ann","resource":{"elements":{"database":"d","table":"c"}},"accessType":"select","accessTime":0}|,"policies":[{"id":1,"resources":{"database":{"values":["d"]},"table":{"values":["*"]}},"policyItems":[{"users":["ann"],"accesses":[{"type":"select"}]}],"zoneName":"one"},{"id":2,"resources":{"database":{"values":["d"]},"table":{"values":["*"]}},"policyItems":[{"users":["ann"],"accesses":[{"type":"select"}]}],"zoneName":"two"},{"id":3,"resources":{"database":{"values":["d"]},"table":{"values":["*"]}},"policyItems":[{"users":["ann"],"accesses":[{"type":"select"}]}]}],"zones":[{"name":"one","services":{"hive1":{"resources":[{"database":["d"],"table":["a"]}]}}},{"name":"two","services":{"hive1":{"resources":[{"database":["d"],"table":["b"]}]}}}]
+ALLOWED;2|{"user":"ann","resource":{"elements":{"url":"/data/x"}},"accessType":"select","accessTime":0}|,"policies":[{"id":1,"resources":{"url":{"values":["/"],"isRecursive":true}},"policyItems":[{"users":["ann"],"accesses":[{"type":"select"}]}]},{"id":2,"zoneName":"lake","resources":{"url":{"values":["/data"],"isRecursive":true}},"policyItems":[{"users":["ann"],"accesses":[{"type":"select"}]}]}],"zones":[{"name":"lake","services":{"hive1":{"resources":[{"url":["/data"]}]}}}]
+ALLOWED;1|{"user":"ann","resource":{"elements":{"url":"/database"}},"accessType":"select","accessTime":0}|,"policies":[{"id":1,"resources":{"url":{"values":["/"],"isRecursive":true}},"policyItems":[{"users":["ann"],"accesses":[{"type":"select"}]}]},{"id":2,"zoneName":"lake","resources":{"url":{"values":["/data"],"isRecursive":true}},"policyItems":[{"users":["ann"],"accesses":[{"type":"select"}]}]}],"zones":[{"name":"lake","services":{"hive1":{"resources":[{"url":["/data"]}]}}}]
+ALLOWED;2|{"user":"ann","resource":{"elements":{"url":"/data"}},"accessType":"select","accessTime":0}|,"policies":[{"id":1,"resources":{"url":{"values":["/"],"isRecursive":true}},"policyItems":[{"users":["ann"],"accesses":[{"type":"select"}]}]},{"id":2,"zoneName":"lake","resources":{"url":{"values":["/data"],"isRecursive":true}},"policyItems":[{"users":["ann"],"accesses":[{"type":"select"}]}]}],"zones":[{"name":"lake","services":{"hive1":{"resources":[{"url":["/data"]}]}}}]
+ALLOWED;1|{"user":"ann","resource":{"elements":{"database":"sales"}},"accessType":"select","accessTime":0,"userGroups":["eng"]}|,"policies":[{"id":1,"resources":{"database":{"values":["sales"]}},"policyItems":[{"roles":["c"],"accesses":[{"type":"select"}]}]}],"roles":[{"name":"a","groups":["eng"]},{"name":"b","roles":["a"]},{"name":"c","roles":[{"name":"b"}]}]
+DENIED;-1|{"user":"ann","resource":{"elements":{"database":"sales"}},"accessType":"select","accessTime":0}|,"policies":[{"id":1,"resources":{"database":{"values":["sales"]}},"policyItems":[{"roles":["c"],"accesses":[{"type":"select"}]}]}],"roles":[{"name":"a","groups":["eng"]},{"name":"b","roles":["a"]},{"name":"c","roles":[{"name":"b"}]}]"#;
+
+#[test]
+fn zones_choose_and_roles_hold(rt: HostRuntime) -> Result<(), Fail> {
+    give_all(&rt, rt.alloc(), ZONES)
+}
+
+/// Row filters and masks: beside Allowed alone, by priority, tag before resource, id and place.
+const MASKS: &str =
+    r#"ALLOWED;12;{"expr":"mask_show_last_n(ssn, 4, 'x', 'x', 'x', -1, '1')","type":"MASK_SHOW_LAST_4"};null|{"user":"ann","resource":{"elements":{"database":"hr","table":"emp","column":"ssn"}},"accessType":"select","accessTime":0,"userGroups":["analysts"]}|,"policies":[{"id":100,"resources":{"database":{"values":["d0"]}},"policyItems":[{"users":["u"],"accesses":[{"type":"select"}]}]},{"id":101,"resources":{"database":{"values":["d1"]}},"policyItems":[{"users":["u"],"accesses":[{"type":"select"}]}]},{"id":102,"resources":{"database":{"values":["d2"]}},"policyItems":[{"users":["u"],"accesses":[{"type":"select"}]}]},{"id":11,"policyType":2,"resources":{"database":{"values":["hr"]},"table":{"values":["emp"]}},"rowFilterPolicyItems":[{"groups":["analysts"],"accesses":[{"type":"select"}],"rowFilterInfo":{"filterExpr":"dept = 'sales'"}}]},{"id":12,"resources":{"database":{"values":["hr"]},"table":{"values":["emp"]},"column":{"values":["*"]}},"policyItems":[{"groups":["analysts"],"accesses":[{"type":"select"}]}]},{"id":10,"policyType":1,"resources":{"database":{"values":["hr"]},"table":{"values":["emp"]},"column":{"values":["ssn"]}},"dataMaskPolicyItems":[{"groups":["analysts"],"accesses":[{"type":"select"}],"dataMaskInfo":{"dataMaskType":"MASK_SHOW_LAST_4"}}]}]
+ALLOWED;12;null;"dept = 'sales'"|{"user":"ann","resource":{"elements":{"database":"hr","table":"emp"}},"accessType":"select","accessTime":0,"userGroups":["analysts"]}|,"policies":[{"id":100,"resources":{"database":{"values":["d0"]}},"policyItems":[{"users":["u"],"accesses":[{"type":"select"}]}]},{"id":101,"resources":{"database":{"values":["d1"]}},"policyItems":[{"users":["u"],"accesses":[{"type":"select"}]}]},{"id":102,"resources":{"database":{"values":["d2"]}},"policyItems":[{"users":["u"],"accesses":[{"type":"select"}]}]},{"id":11,"policyType":2,"resources":{"database":{"values":["hr"]},"table":{"values":["emp"]}},"rowFilterPolicyItems":[{"groups":["analysts"],"accesses":[{"type":"select"}],"rowFilterInfo":{"filterExpr":"dept = 'sales'"}}]},{"id":12,"resources":{"database":{"values":["hr"]},"table":{"values":["emp"]},"column":{"values":["*"]}},"policyItems":[{"groups":["analysts"],"accesses":[{"type":"select"}]}]},{"id":10,"policyType":1,"resources":{"database":{"values":["hr"]},"table":{"values":["emp"]},"column":{"values":["ssn"]}},"dataMaskPolicyItems":[{"groups":["analysts"],"accesses":[{"type":"select"}],"dataMaskInfo":{"dataMaskType":"MASK_SHOW_LAST_4"}}]}]
+ALLOWED;12;{"expr":"left(ssn, 2)","type":"CUSTOM"}|{"user":"ann","resource":{"elements":{"database":"hr","table":"emp","column":"ssn"}},"accessType":"select","accessTime":0,"userGroups":["analysts"]}|,"policies":[{"id":100,"resources":{"database":{"values":["d0"]}},"policyItems":[{"users":["u"],"accesses":[{"type":"select"}]}]},{"id":101,"resources":{"database":{"values":["d1"]}},"policyItems":[{"users":["u"],"accesses":[{"type":"select"}]}]},{"id":102,"resources":{"database":{"values":["d2"]}},"policyItems":[{"users":["u"],"accesses":[{"type":"select"}]}]},{"id":11,"policyType":2,"resources":{"database":{"values":["hr"]},"table":{"values":["emp"]}},"rowFilterPolicyItems":[{"groups":["analysts"],"accesses":[{"type":"select"}],"rowFilterInfo":{"filterExpr":"dept = 'sales'"}}]},{"id":12,"resources":{"database":{"values":["hr"]},"table":{"values":["emp"]},"column":{"values":["*"]}},"policyItems":[{"groups":["analysts"],"accesses":[{"type":"select"}]}]},{"id":10,"policyType":1,"resources":{"database":{"values":["hr"]},"table":{"values":["emp"]},"column":{"values":["ssn"]}},"dataMaskPolicyItems":[{"groups":["analysts"],"accesses":[{"type":"select"}],"dataMaskInfo":{"dataMaskType":"CUSTOM","valueExpr":"left({col}, 2)"}}]}]
+DENIED;-1|{"user":"ann","resource":{"elements":{"database":"hr","table":"emp","column":"ssn"}},"accessType":"select","accessTime":0}|,"policies":[{"id":100,"resources":{"database":{"values":["d0"]}},"policyItems":[{"users":["u"],"accesses":[{"type":"select"}]}]},{"id":101,"resources":{"database":{"values":["d1"]}},"policyItems":[{"users":["u"],"accesses":[{"type":"select"}]}]},{"id":102,"resources":{"database":{"values":["d2"]}},"policyItems":[{"users":["u"],"accesses":[{"type":"select"}]}]},{"id":11,"policyType":2,"resources":{"database":{"values":["hr"]},"table":{"values":["emp"]}},"rowFilterPolicyItems":[{"groups":["analysts"],"accesses":[{"type":"select"}],"rowFilterInfo":{"filterExpr":"dept = 'sales'"}}]},{"id":12,"resources":{"database":{"values":["hr"]},"table":{"values":["emp"]},"column":{"values":["*"]}},"policyItems":[{"groups":["analysts"],"accesses":[{"type":"select"}]}]},{"id":10,"policyType":1,"resources":{"database":{"values":["hr"]},"table":{"values":["emp"]},"column":{"values":["ssn"]}},"dataMaskPolicyItems":[{"groups":["analysts"],"accesses":[{"type":"select"}],"dataMaskInfo":{"dataMaskType":"MASK_SHOW_LAST_4"}}]}]
+DENIED;5|{"user":"ann","resource":{"elements":{"database":"hr","table":"emp","column":"ssn"}},"accessType":"select","accessTime":0,"userGroups":["analysts"]}|,"policies":[{"id":100,"resources":{"database":{"values":["d0"]}},"policyItems":[{"users":["u"],"accesses":[{"type":"select"}]}]},{"id":101,"resources":{"database":{"values":["d1"]}},"policyItems":[{"users":["u"],"accesses":[{"type":"select"}]}]},{"id":102,"resources":{"database":{"values":["d2"]}},"policyItems":[{"users":["u"],"accesses":[{"type":"select"}]}]},{"id":11,"policyType":2,"resources":{"database":{"values":["hr"]},"table":{"values":["emp"]}},"rowFilterPolicyItems":[{"groups":["analysts"],"accesses":[{"type":"select"}],"rowFilterInfo":{"filterExpr":"dept = 'sales'"}}]},{"id":12,"resources":{"database":{"values":["hr"]},"table":{"values":["emp"]},"column":{"values":["*"]}},"policyItems":[{"groups":["analysts"],"accesses":[{"type":"select"}]}]},{"id":10,"policyType":1,"resources":{"database":{"values":["hr"]},"table":{"values":["emp"]},"column":{"values":["ssn"]}},"dataMaskPolicyItems":[{"groups":["analysts"],"accesses":[{"type":"select"}],"dataMaskInfo":{"dataMaskType":"MASK_SHOW_LAST_4"}}]},{"id":5,"resources":{"database":{"values":["hr"]},"table":{"values":["*"]},"column":{"values":["*"]}},"denyPolicyItems":[{"users":["ann"],"accesses":[{"type":"select"}]}]}]
+ALLOWED;12|{"user":"ann","resource":{"elements":{"database":"hr","table":"emp","column":"ssn"}},"accessType":"select","accessTime":0,"userGroups":["analysts"]}|,"policies":[{"id":100,"resources":{"database":{"values":["d0"]}},"policyItems":[{"users":["u"],"accesses":[{"type":"select"}]}]},{"id":101,"resources":{"database":{"values":["d1"]}},"policyItems":[{"users":["u"],"accesses":[{"type":"select"}]}]},{"id":102,"resources":{"database":{"values":["d2"]}},"policyItems":[{"users":["u"],"accesses":[{"type":"select"}]}]},{"id":11,"policyType":2,"resources":{"database":{"values":["hr"]},"table":{"values":["emp"]}},"rowFilterPolicyItems":[{"groups":["analysts"],"accesses":[{"type":"select"}],"rowFilterInfo":{"filterExpr":"dept = 'sales'"}}]},{"id":12,"resources":{"database":{"values":["hr"]},"table":{"values":["emp"]},"column":{"values":["*"]}},"policyItems":[{"groups":["analysts"],"accesses":[{"type":"select"}]}]},{"id":9,"policyType":1,"resources":{"database":{"values":["hr"]},"table":{"values":["emp"]},"column":{"values":["ssn"]}},"dataMaskPolicyItems":[{"groups":["analysts"],"accesses":[{"type":"select"}],"dataMaskInfo":{"dataMaskType":"MASK_NONE"}},{"groups":["analysts"],"accesses":[{"type":"select"}],"dataMaskInfo":{"dataMaskType":"MASK"}}]},{"id":10,"policyType":1,"resources":{"database":{"values":["hr"]},"table":{"values":["emp"]},"column":{"values":["ssn"]}},"dataMaskPolicyItems":[{"groups":["analysts"],"accesses":[{"type":"select"}],"dataMaskInfo":{"dataMaskType":"MASK_SHOW_LAST_4"}}]}]
+ALLOWED;12;{"expr":"mask(ssn)","type":"MASK"}|{"user":"ann","resource":{"elements":{"database":"hr","table":"emp","column":"ssn"}},"accessType":"select","accessTime":0,"userGroups":["analysts"]}|,"policies":[{"id":100,"resources":{"database":{"values":["d0"]}},"policyItems":[{"users":["u"],"accesses":[{"type":"select"}]}]},{"id":101,"resources":{"database":{"values":["d1"]}},"policyItems":[{"users":["u"],"accesses":[{"type":"select"}]}]},{"id":102,"resources":{"database":{"values":["d2"]}},"policyItems":[{"users":["u"],"accesses":[{"type":"select"}]}]},{"id":11,"policyType":2,"resources":{"database":{"values":["hr"]},"table":{"values":["emp"]}},"rowFilterPolicyItems":[{"groups":["analysts"],"accesses":[{"type":"select"}],"rowFilterInfo":{"filterExpr":"dept = 'sales'"}}]},{"id":12,"resources":{"database":{"values":["hr"]},"table":{"values":["emp"]},"column":{"values":["*"]}},"policyItems":[{"groups":["analysts"],"accesses":[{"type":"select"}]}]},{"id":9,"policyType":1,"resources":{"database":{"values":["hr"]},"table":{"values":["emp"]},"column":{"values":["ssn"]}},"dataMaskPolicyItems":[{"groups":["analysts"],"accesses":[{"type":"select"}],"dataMaskInfo":{"dataMaskType":"MASK_SHOW_LAST_4"}}]},{"id":10,"policyType":1,"resources":{"database":{"values":["hr"]},"table":{"values":["emp"]},"column":{"values":["ssn"]}},"dataMaskPolicyItems":[{"groups":["analysts"],"accesses":[{"type":"select"}],"dataMaskInfo":{"dataMaskType":"MASK"}}],"policyPriority":1}]
+ALLOWED;12;{"expr":"mask_show_last_n(ssn, 4, 'x', 'x', 'x', -1, '1')","type":"MASK_SHOW_LAST_4"}|{"user":"ann","resource":{"elements":{"database":"hr","table":"emp","column":"ssn"}},"accessType":"select","accessTime":0,"userGroups":["analysts"]}|,"policies":[{"id":100,"resources":{"database":{"values":["d0"]}},"policyItems":[{"users":["u"],"accesses":[{"type":"select"}]}]},{"id":101,"resources":{"database":{"values":["d1"]}},"policyItems":[{"users":["u"],"accesses":[{"type":"select"}]}]},{"id":102,"resources":{"database":{"values":["d2"]}},"policyItems":[{"users":["u"],"accesses":[{"type":"select"}]}]},{"id":11,"policyType":2,"resources":{"database":{"values":["hr"]},"table":{"values":["emp"]}},"rowFilterPolicyItems":[{"groups":["analysts"],"accesses":[{"type":"select"}],"rowFilterInfo":{"filterExpr":"dept = 'sales'"}}]},{"id":12,"resources":{"database":{"values":["hr"]},"table":{"values":["emp"]},"column":{"values":["*"]}},"policyItems":[{"groups":["analysts"],"accesses":[{"type":"select"}]}]},{"id":10,"policyType":1,"resources":{"database":{"values":["hr"]},"table":{"values":["emp"]},"column":{"values":["ssn"]}},"dataMaskPolicyItems":[{"groups":["analysts"],"accesses":[{"type":"select"}],"dataMaskInfo":{"dataMaskType":"MASK"}}]},{"id":9,"policyType":1,"resources":{"database":{"values":["hr"]},"table":{"values":["emp"]},"column":{"values":["ssn"]}},"dataMaskPolicyItems":[{"groups":["analysts"],"accesses":[{"type":"select"}],"dataMaskInfo":{"dataMaskType":"MASK_SHOW_LAST_4"}}]}]
+ALLOWED;12;{"expr":"mask(ssn)","type":"MASK"}|{"user":"ann","resource":{"elements":{"database":"hr","table":"emp","column":"ssn"}},"accessType":"select","accessTime":0,"userGroups":["analysts"]}|,"policies":[{"id":100,"resources":{"database":{"values":["d0"]}},"policyItems":[{"users":["u"],"accesses":[{"type":"select"}]}]},{"id":101,"resources":{"database":{"values":["d1"]}},"policyItems":[{"users":["u"],"accesses":[{"type":"select"}]}]},{"id":102,"resources":{"database":{"values":["d2"]}},"policyItems":[{"users":["u"],"accesses":[{"type":"select"}]}]},{"id":11,"policyType":2,"resources":{"database":{"values":["hr"]},"table":{"values":["emp"]}},"rowFilterPolicyItems":[{"groups":["analysts"],"accesses":[{"type":"select"}],"rowFilterInfo":{"filterExpr":"dept = 'sales'"}}]},{"id":12,"resources":{"database":{"values":["hr"]},"table":{"values":["emp"]},"column":{"values":["*"]}},"policyItems":[{"groups":["analysts"],"accesses":[{"type":"select"}]}]},{"id":9,"policyType":1,"resources":{"database":{"values":["hr"]},"table":{"values":["emp"]},"column":{"values":["ssn"]}},"dataMaskPolicyItems":[{"groups":["analysts"],"accesses":[{"type":"select"}],"dataMaskInfo":{"dataMaskType":"MASK"}},{"groups":["analysts"],"accesses":[{"type":"select"}],"dataMaskInfo":{"dataMaskType":"MASK_SHOW_LAST_4"}}]}]
+ALLOWED;12;{"expr":"f(ssn, ssn)","type":"CUSTOM"}|{"user":"ann","resource":{"elements":{"database":"hr","table":"emp","column":"ssn"}},"accessType":"select","accessTime":0,"userGroups":["analysts"]}|,"policies":[{"id":100,"resources":{"database":{"values":["d0"]}},"policyItems":[{"users":["u"],"accesses":[{"type":"select"}]}]},{"id":101,"resources":{"database":{"values":["d1"]}},"policyItems":[{"users":["u"],"accesses":[{"type":"select"}]}]},{"id":102,"resources":{"database":{"values":["d2"]}},"policyItems":[{"users":["u"],"accesses":[{"type":"select"}]}]},{"id":11,"policyType":2,"resources":{"database":{"values":["hr"]},"table":{"values":["emp"]}},"rowFilterPolicyItems":[{"groups":["analysts"],"accesses":[{"type":"select"}],"rowFilterInfo":{"filterExpr":"dept = 'sales'"}}]},{"id":12,"resources":{"database":{"values":["hr"]},"table":{"values":["emp"]},"column":{"values":["*"]}},"policyItems":[{"groups":["analysts"],"accesses":[{"type":"select"}]}]},{"id":10,"policyType":1,"resources":{"database":{"values":["hr"]},"table":{"values":["emp"]},"column":{"values":["ssn"]}},"dataMaskPolicyItems":[{"groups":["analysts"],"accesses":[{"type":"select"}],"dataMaskInfo":{"dataMaskType":"CUSTOM","valueExpr":"f({col}, {col})"}}]}]
+ALLOWED;12;{"expr":"hash(ssn)","type":"HASH"}|{"user":"ann","resource":{"elements":{"database":"hr","table":"emp","column":"ssn"}},"accessType":"select","accessTime":0,"userGroups":["analysts"]}|,"policies":[{"id":12,"resources":{"database":{"values":["hr"]},"table":{"values":["emp"]},"column":{"values":["*"]}},"policyItems":[{"groups":["analysts"],"accesses":[{"type":"select"}]}]},{"id":9,"policyType":1,"resources":{"database":{"values":["hr"]},"table":{"values":["emp"]},"column":{"values":["ssn"]}},"dataMaskPolicyItems":[{"groups":["analysts"],"accesses":[{"type":"select"}],"dataMaskInfo":{"dataMaskType":"MASK_SHOW_LAST_4"}}]}],"tagPolicies":[{"id":20,"service":"tags1","policyType":1,"resources":{"tag":{"values":["PII"]}},"dataMaskPolicyItems":[{"groups":["analysts"],"accesses":[{"type":"hive:select"}],"dataMaskInfo":{"dataMaskType":"HASH"}}]}],"resources":[{"id":1,"resourceElements":{"database":{"values":["hr"]},"table":{"values":["emp"]},"column":{"values":["ssn"]}},"tags":[{"type":"PII"}]}]
+ALLOWED;12;{"expr":"mask_show_last_n(ssn, 4, 'x', 'x', 'x', -1, '1')","type":"MASK_SHOW_LAST_4"}|{"user":"ann","resource":{"elements":{"database":"hr","table":"emp","column":"ssn"}},"accessType":"select","accessTime":0,"userGroups":["analysts"]}|,"policies":[{"id":12,"resources":{"database":{"values":["hr"]},"table":{"values":["emp"]},"column":{"values":["*"]}},"policyItems":[{"groups":["analysts"],"accesses":[{"type":"select"}]}]},{"id":9,"policyType":1,"resources":{"database":{"values":["hr"]},"table":{"values":["emp"]},"column":{"values":["ssn"]}},"dataMaskPolicyItems":[{"groups":["analysts"],"accesses":[{"type":"select"}],"dataMaskInfo":{"dataMaskType":"MASK_SHOW_LAST_4"}}],"policyPriority":1}],"tagPolicies":[{"id":20,"service":"tags1","policyType":1,"resources":{"tag":{"values":["PII"]}},"dataMaskPolicyItems":[{"groups":["analysts"],"accesses":[{"type":"hive:select"}],"dataMaskInfo":{"dataMaskType":"HASH"}}]}],"resources":[{"id":1,"resourceElements":{"database":{"values":["hr"]},"table":{"values":["emp"]},"column":{"values":["ssn"]}},"tags":[{"type":"PII"}]}]"#;
+
+#[test]
+fn masks_and_row_filters_are_chosen(rt: HostRuntime) -> Result<(), Fail> {
+    give_all(&rt, rt.alloc(), MASKS)
+}
+
+/// Each line breaks one rule on zones, roles, types of policies, tag policies or tagged resources.
+const UNSOUND_PARTS: &str =
+    r#","policies":[{"id":1,"resources":{"database":{"values":["sales"]}},"policyItems":[{"users":["ann"],"accesses":[{"type":"select"}]}],"zoneName":"fin"}]
+,"policies":[{"id":1,"resources":{"database":{"values":["sales"]}},"policyItems":[{"users":["ann"],"accesses":[{"type":"select"}]}],"zoneName":"fin"}],"zones":[{"name":"fin","services":{"other":{"resources":[{"database":["sales"]}]}}}]
+,"zones":[{"name":"a","services":{"hive1":{"resources":[{"database":["fin*"]}]}}},{"name":"b","services":{"hive1":{"resources":[{"database":["*nce"]}]}}}]
+,"zones":[{"name":"a","services":{"hive1":{"resources":[]}}}]
+,"zones":[{"name":"a","services":{"hive1":{"resources":[{"database":["{USER}"]}]}}}]
+,"zones":[{"name":"a","services":{"hive1":{"resources":[{"database":["a"],"url":["/"]}]}}}]
+,"zones":[{"name":"a","tagServices":["hive1"]}]
+,"zones":[{"name":"a","adminRoles":["nobody"]}]
+,"roles":[{"name":"a","roles":["b"]},{"name":"b","roles":["a"]}]
+,"policies":[{"id":1,"resources":{"database":{"values":["a"]}},"policyItems":[{"roles":["r"],"accesses":[{"type":"select"}]}]}]
+,"policies":[{"id":1,"resources":{"database":{"values":["sales"]}},"policyItems":[{"users":["ann"],"accesses":[{"type":"select"}]}]}],"tagPolicies":[{"id":1,"service":"tags1","resources":{"tag":{"values":["PII"]}},"denyPolicyItems":[{"groups":["public"],"accesses":[{"type":"hive:select"}]}]}]
+,"tagPolicies":[{"id":1,"service":"tags1","resources":{"tag":{"values":["PII"]}},"denyPolicyItems":[{"groups":["public"],"accesses":[{"type":"select"}]}]}]
+,"policies":[{"id":1,"policyType":1,"resources":{"database":{"values":["hr"]},"table":{"values":["emp"]},"column":{"values":["ssn"]}},"dataMaskPolicyItems":[{"groups":["analysts"],"accesses":[{"type":"select"}],"dataMaskInfo":{"dataMaskType":"HASH"}}]}]
+,"policies":[{"id":1,"policyType":1,"resources":{"database":{"values":["hr"]},"table":{"values":["emp"]},"column":{"values":["ssn"]}},"dataMaskPolicyItems":[{"groups":["analysts"],"accesses":[{"type":"select"}],"dataMaskInfo":{"dataMaskType":"CUSTOM"}}]}]
+,"policies":[{"id":1,"policyType":1,"resources":{"database":{"values":["hr"]},"table":{"values":["emp"]},"column":{"values":["ssn"]}},"dataMaskPolicyItems":[{"groups":["analysts"],"accesses":[{"type":"select"}],"dataMaskInfo":{"dataMaskType":"MASK_SHOW_LAST_4"}}],"policyItems":[{"users":["u"],"accesses":[{"type":"select"}]}]}]
+,"policies":[{"id":1,"policyType":1,"resources":{"database":{"values":["hr"]},"table":{"values":["emp"]},"column":{"values":["ssn"]}},"dataMaskPolicyItems":[{"groups":["analysts"],"accesses":[{"type":"select"}],"dataMaskInfo":{"dataMaskType":"MASK_SHOW_LAST_4"}}],"isDenyAllElse":true}]
+,"policies":[{"id":1,"policyType":1,"resources":{"url":{"values":["/"]}},"dataMaskPolicyItems":[{"groups":["analysts"],"accesses":[{"type":"select"}],"dataMaskInfo":{"dataMaskType":"MASK_SHOW_LAST_4"}}]}]
+,"policies":[{"id":1,"policyType":2,"resources":{"database":{"values":["hr"]},"table":{"values":["emp"]},"column":{"values":["ssn"]}},"rowFilterPolicyItems":[{"groups":["analysts"],"accesses":[{"type":"select"}],"rowFilterInfo":{"filterExpr":"x"}}]}]
+,"policies":[{"id":1,"policyType":2,"resources":{"database":{"values":["hr"]},"table":{"values":["emp"]}},"rowFilterPolicyItems":[{"groups":["analysts"],"accesses":[{"type":"select"}],"rowFilterInfo":{"filterExpr":""}}]}]
+,"policies":[{"id":1,"resources":{"database":{"values":["sales"]}},"policyItems":[{"users":["ann"],"accesses":[{"type":"select"}]}],"policyType":3}]
+,"policies":[{"id":1,"resources":{"database":{"values":["sales"]}},"policyItems":[{"users":["ann"],"accesses":[{"type":"select"}]}],"dataMaskPolicyItems":[{"users":["u"],"accesses":[{"type":"select"}]}]}]
+,"tagPolicies":[{"id":2,"policyType":2,"resources":{"tag":{"values":["PII"]}},"rowFilterPolicyItems":[{"groups":["analysts"],"accesses":[{"type":"select"}],"rowFilterInfo":{"filterExpr":"x"}}]}]
+,"resources":[{"id":1,"resourceElements":{"database":{"values":["{USER}"]}}}]
+,"resources":[{"id":1,"resourceElements":{"database":{"values":["a"]}}},{"id":1,"resourceElements":{"database":{"values":["b"]}}}]
+,"resources":[{"id":1,"resourceElements":{"database":{"values":["a"]}},"tags":[{"type":""}]}]
+,"resources":[{"id":1}]"#;
+
+#[test]
+fn parts_that_are_not_sound(rt: HostRuntime) -> Result<(), Fail> {
+    refuse_all(&rt, rt.alloc(), UNSOUND_PARTS)
 }
 
 #[test]
