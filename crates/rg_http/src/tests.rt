@@ -48,8 +48,12 @@ GET / HTTP/1.1~~%||0||GET / - [] open, bad 400
 ^x||0||bad 400
 GET / HTTP/1.1^x||0||bad 400
 GET / HTTP/1.1~a: b^c~~||0||bad 400
+GET / HTTP/1.1^^||0||bad 400
 GET / HTTP/1.1~a: b~ c: d~~||0||bad 400
+GET / HTTP/1.1~a: b~\tc: d~~||0||bad 400
+GET / HTTP/1.1~ a: b~~||0||bad 400
 GET / HTTP/1.1~a: %~~||0||bad 400
+GET / HTTP/1.1~a%: b~~||0||bad 400
 GET / HTTP/1.1~a : b~~||0||bad 400
 GET / HTTP/1.1~a b: c~~||0||bad 400
 GET / HTTP/1.1~: b~~||0||bad 400
@@ -69,14 +73,17 @@ PUT / HTTP/1.1~Content-Length: -1~~||0||bad 400
 PUT / HTTP/1.1~Content-Length: 1x~~a||0||bad 400
 PUT / HTTP/1.1~Content-Length: 1 1~~a||0||bad 400
 PUT / HTTP/1.1~Content-Length: 1, 1~~a||0||bad 400
+PUT / HTTP/1.1~Content-Length: 1,1~~a||0||bad 400
 PUT / HTTP/1.1~Content-Length: 1~Content-length: 1~~a||0||bad 400
 GET / HTTP/1.1~Content-Length: 0000000000000000001~~a||0||GET / - [a] open, ended
 GET / HTTP/1.1~Content-Length: 00000000000000000001~~a||0||bad 400
 GET / HTTP/1.1~Content-Length: 9999999999999999999~~a||0||bad 413
-GET / HTTP/1.1~Content-Length: 1048577~~|b|1048577||bad 413
-GET / HTTP/1.1~Content-Length: 1048576~~|b|1048576|GET / HTTP/1.1~~|GET / - 1048576 open, GET / - [] open, ended
-GET / HTTP/1.1~Content-Length: 1048576~~|b|1048575||cut
 POST / HTTP/1.1~Transfer-Encoding: chunked~~||0|0~~|bad 501
+PUT / HTTP/1.1~Content-Length: 1~Transfer-Encoding: identity~~a||0||bad 501
+GET / HTTP/1.0~Transfer-Encoding: chunked~Connection: close~~||0||bad 501
+POST / HTTP/1.1~TRANSFER-ENCODING: gzip~Content-Length: 1048577~~||0||bad 501
+GET / HTTP/1.1~Transfer-Encoding: chunked~a : b~~||0||bad 400
+GET / HTTP/1.1~Transfer-Encoding: chunked~||0||cut
 GET / HTTP/1.1~transfer-encoding:~Content-Length: 1~Content-Length: x~~||0||bad 501
 PUT / HTTP/1.1~Content-Encoding: gzip~Content-Length: 1048577~~||0||bad 501
 GET / HTTP/1.1~|a:~|64|~|GET / - [] open, ended
@@ -84,25 +91,44 @@ GET / HTTP/1.1~|a:~|65|~|bad 431
 GET / HTTP/1.1~Transfer-Encoding: chunked~|a:~|64|~|bad 431
 GET / HTTP/1.1~|a:~|70|a~|bad 400
 GET / HTTP/1.1~|a:~|70||cut
+GET / HTTP/1.1~Content-Length: 3~~ab||0||cut";
+
+/// Streams whose heads are about as long as a head may be. The columns are the same.
+const LONG_HEADS: &str = "\
 A / HTTP/1.1$|a:$|5456|$$|bad 431
 GET / HTTP/1.1~a:|x|16362|~~|GET / - [] open, ended
 GET / HTTP/1.1~a:|x|16363|~~|bad 431
+GET / HTTP/1.1~Transfer-Encoding:|x|16346|~~|bad 501
+GET / HTTP/1.1~Transfer-Encoding:|x|16347|~~|bad 431
 GET / HTTP/1.1~a:|x|16365||cut
 GET / HTTP/1.1~a:|x|16366||bad 431
 GET / HTTP/1.1~a:|x|16365|%|bad 400
 GET / HTTP/1.1~a:|x|16366|%|bad 431
 $GET / HTTP/1.1~a:|x|16361|~~|GET / - [] open, ended
 $GET / HTTP/1.1~a:|x|16362|~~|bad 431
+POST / HTTP/1.1~Content-Length: 2~~hiGET / HTTP/1.1~a:|x|16362|~~|POST / - [hi] open, GET / - [] open, ended
+POST / HTTP/1.1~Content-Length: 2~~hiGET / HTTP/1.1~a:|x|16363|~~|POST / - [hi] open, bad 431
 |~|8191||cut
 |~|8192||bad 431
 |~|8192|%|bad 431
+|$|16383||cut
+|$|16384||bad 431
+|$|16384|GET / HTTP/1.1~~|bad 431
 |A|16383||cut
 |A|16384||bad 431
 GET /|x|16378||cut
 GET /|x|16379||bad 431
 GET /%|x|16378||bad 431
-GET /%|x|16377| |bad 400
-GET / HTTP/1.1~Content-Length: 3~~ab||0||cut";
+GET /%|x|16377| |bad 400";
+
+/// Streams whose bodies are about as long as a body may be. The columns are the same.
+const LONG_BODIES: &str = "\
+GET / HTTP/1.1~Content-Length: 1048577~~|b|1048577||bad 413
+GET / HTTP/1.1~Content-Length: 1048576~~|b|1048576|GET / HTTP/1.1~~|GET / - 1048576 open, GET / - [] open, ended
+GET / HTTP/1.1~Content-Length: 1048576~~|b|1048575||cut";
+
+/// The most bytes that one read brings, so that a stream comes whole as far as it can.
+const WHOLE: u32 = 4096;
 
 /// Status, body, whether it closes; then the bytes.
 const RESPONSES: &str = "\
@@ -218,25 +244,13 @@ fn stream<'r>(alloc: Global, row: &'r str) -> Result<(Vec<u8>, &'r str), Fail> {
     Ok((bytes, fields.next().unwrap_or("no answer")))
 }
 
-/// Gives the bytes in pieces of this size; long ones only from a hundred bytes before the limit of a head on, since with each piece
-/// the whole head is judged anew.
-fn slow_link(alloc: Global, bytes: &[u8], size: u32) -> Result<MemLink, AllocError>
-    requires { 0 < size }
-{
-    if bytes.len() < 2000 {
-        link(alloc, bytes, &[size], &[])
-    } else {
-        link(alloc, bytes, &[4096, 4096, 4096, 3996, size], &[])
-    }
-}
-
-fn check_stream(rt: &impl Abort, alloc: Global, row: &str) -> Result<(), Fail> {
+fn check_pieces(rt: &impl Abort, alloc: Global, row: &str) -> Result<(), Fail> {
     let (bytes, want) = stream(alloc, row)?;
     let whole = tell(alloc, link(alloc, bytes.as_slice(), &[], &[])?)?;
     assert_eq!(rt; whole.as_str(), want, "{row}");
-    let sevens = tell(alloc, slow_link(alloc, bytes.as_slice(), 7)?)?;
+    let sevens = tell(alloc, link(alloc, bytes.as_slice(), &[7], &[])?)?;
     assert_eq!(rt; sevens.as_str(), want, "{row}");
-    let ones = tell(alloc, slow_link(alloc, bytes.as_slice(), 1)?)?;
+    let ones = tell(alloc, link(alloc, bytes.as_slice(), &[1], &[])?)?;
     assert_eq!(rt; ones.as_str(), want, "{row}");
     Ok(())
 }
@@ -244,37 +258,94 @@ fn check_stream(rt: &impl Abort, alloc: Global, row: &str) -> Result<(), Fail> {
 #[test]
 fn pieces_play_no_part(rt: HostRuntime) -> Result<(), Fail> {
     for row in STREAMS.lines() {
-        check_stream(&rt, rt.alloc(), row)?;
+        check_pieces(&rt, rt.alloc(), row)?;
     }
     Ok(())
 }
 
-/// Fails each of the first calls in turn, and gives how many of them were made: at such a one the messages before it are told.
-fn failed_calls(rt: &impl Abort, alloc: Global, bytes: &[u8], want: &str) -> Result<u64, Fail> {
+#[test]
+fn pieces_play_no_part_in_long_heads(rt: HostRuntime) -> Result<(), Fail> {
+    for row in LONG_HEADS.lines() {
+        check_pieces(&rt, rt.alloc(), row)?;
+    }
+    Ok(())
+}
+
+#[test]
+fn pieces_play_no_part_in_long_bodies(rt: HostRuntime) -> Result<(), Fail> {
+    for row in LONG_BODIES.lines() {
+        check_pieces(&rt, rt.alloc(), row)?;
+    }
+    Ok(())
+}
+
+/// Fails one call, and gives whether it was made: then what is told before it is what is told of the bytes that came.
+fn is_failed(
+    rt: &impl Abort,
+    alloc: Global,
+    bytes: &[u8],
+    want: &str,
+    size: u32,
+    call: u64,
+) -> Result<bool, Fail>
+    requires { 0 < size }
+{
+    let told = tell(alloc, link(alloc, bytes, &[size], &[call])?)?;
+    let Some(before) = told.as_str().strip_suffix("failed") else {
+        assert_eq!(rt; told.as_str(), want, "at {call}");
+        return Ok(false);
+    };
+    assert!(rt; want.starts_with(before), "{want} at {call}");
+    let came = call.saturating_sub(1).saturating_mul(u64::from(size)) as usize;
+    let front = bytes.split_at(came.min(bytes.len())).0;
+    let broken_off = tell(alloc, link(alloc, front, &[], &[])?)?;
+    let end = broken_off.as_str().strip_prefix(before);
+    assert!(rt;
+        end == Some("ended") || end == Some("cut"),
+        "{want} at {call}"
+    );
+    Ok(true)
+}
+
+/// Fails the first call, and from there each that is `stride` further, and gives how many of them were made.
+fn failed_calls(
+    rt: &impl Abort,
+    alloc: Global,
+    bytes: &[u8],
+    want: &str,
+    size: u32,
+    stride: u64,
+) -> Result<u64, Fail>
+    requires { 0 < size }
+{
     let mut made = 0;
-    for call in 1..60 {
-        let told = tell(alloc, link(alloc, bytes, &[7], &[call])?)?;
-        match told.as_str().strip_suffix("failed") {
-            Some(before) => {
-                assert!(rt; want.starts_with(before), "{want} at {call}");
-                made = call;
-            }
-            None => assert_eq!(rt; told.as_str(), want),
+    for turn in 0..20000 {
+        let call = stride.saturating_mul(turn).saturating_add(1);
+        if !is_failed(rt, alloc, bytes, want, size, call)? {
+            return Ok(made);
         }
+        made = turn + 1;
     }
     Ok(made)
 }
 
 // Where the link is read to its end, each piece takes a call, and the end one more.
-fn check_failures(rt: &impl Abort, alloc: Global, row: &str) -> Result<(), Fail> {
+fn check_failures(
+    rt: &impl Abort,
+    alloc: Global,
+    row: &str,
+    size: u32,
+    stride: u64,
+) -> Result<(), Fail>
+    requires size { 0 < size }
+    requires stride { 0 < stride }
+{
     let (bytes, want) = stream(alloc, row)?;
-    if bytes.len() >= 150 {
-        return Ok(());
-    }
-    let made = failed_calls(rt, alloc, bytes.as_slice(), want)?;
+    let made = failed_calls(rt, alloc, bytes.as_slice(), want, size, stride)?;
     assert!(rt; 0 < made, "{row}");
     if want.ends_with("open, ended") || want.ends_with("cut") {
-        assert_eq!(rt; made, bytes.len().div_ceil(7) as u64 + 1, "{row}");
+        let calls = (bytes.len().div_ceil(size as usize) as u64).saturating_add(1);
+        assert_eq!(rt; made, calls.div_ceil(stride), "{row}");
     }
     Ok(())
 }
@@ -282,7 +353,29 @@ fn check_failures(rt: &impl Abort, alloc: Global, row: &str) -> Result<(), Fail>
 #[test]
 fn a_failed_call_is_a_fault(rt: HostRuntime) -> Result<(), Fail> {
     for row in STREAMS.lines() {
-        check_failures(&rt, rt.alloc(), row)?;
+        check_failures(&rt, rt.alloc(), row, WHOLE, 1)?;
+        check_failures(&rt, rt.alloc(), row, 7, 1)?;
+        check_failures(&rt, rt.alloc(), row, 1, 1)?;
+    }
+    Ok(())
+}
+
+// With so many calls before each that fails, all those of a long stream in pieces of 7 would take minutes.
+#[test]
+fn a_failed_call_is_a_fault_in_long_heads(rt: HostRuntime) -> Result<(), Fail> {
+    for row in LONG_HEADS.lines() {
+        check_failures(&rt, rt.alloc(), row, WHOLE, 1)?;
+        check_failures(&rt, rt.alloc(), row, 64, 1)?;
+        check_failures(&rt, rt.alloc(), row, 7, 61)?;
+    }
+    Ok(())
+}
+
+#[test]
+fn a_failed_call_is_a_fault_in_long_bodies(rt: HostRuntime) -> Result<(), Fail> {
+    for row in LONG_BODIES.lines() {
+        check_failures(&rt, rt.alloc(), row, WHOLE, 1)?;
+        check_failures(&rt, rt.alloc(), row, 7, 1009)?;
     }
     Ok(())
 }
