@@ -22,7 +22,7 @@ import spoils
 
 TOP = os.path.dirname(os.path.dirname(os.path.abspath(__file__)))
 PROGRAM = os.path.join(TOP, "crates", "rangerd", "out", "rangerd")
-BUILT = "roles,zones,tags,masks"
+BUILT = "roles,zones,tags,masks,maps"
 REQUESTS = 25
 
 

@@ -8,7 +8,7 @@ import random
 
 import model
 
-PARTS = ("roles", "zones", "tags", "masks")
+PARTS = ("roles", "zones", "tags", "masks", "maps")
 
 LEVELS = [("database", 10, ""), ("url", 10, ""), ("table", 20, "database"), ("udf", 20, "database"), ("column", 30, "table")]
 LEVEL_SETS = [("database",), ("url",), ("database", "table"), ("database", "table", "column")]
@@ -38,6 +38,10 @@ TIMES = ["2024/01/31 23:59:59", "2024/02/29 00:00:00", "2023/06/01 12:00:00", "2
 EXPIRIES = TIMES + ["2024/01/31", "2024/02/29", "2023/02/29", "soon", "", "2024/1/31", "2024/01/31 24:00:00"]
 TIME_ZONES = [("New York", "EST5EDT,M3.2.0,M11.1.0"), ("Berlin", "CET-1CEST,M3.5.0,M10.5.0/3"), ("Kolkata", "IST-5:30"),
               ("UTC", "CET-1"), ("Berlin", "EST5")]
+
+
+def maps_of(policy):
+    return [policy["resources"]] + policy.get("additionalResources", [])
 
 
 class Maker:
@@ -182,6 +186,8 @@ class Maker:
                 "conditions": self.some(lambda: self.condition(is_tag), 1) if self.maybe(.1) else [],
                 "validitySchedules": self.some(self.schedule, 2) if self.maybe(.15) else [],
                 "isEnabled": self.maybe(.93), "isAuditEnabled": self.maybe(.8)}
+        if "maps" in self.parts and self.maybe(.4):
+            made["additionalResources"] = self.some(lambda: self.resources(definition, pattern, sets), self.pick([1, 1, 2, 3]), 1)
         made.update(self.items(facts, definition, kind, TAG_ACCESSES if is_tag else ACCESSES))
         made.update(self.place(facts, is_tag))
         return made if is_tag else self.moved(made, facts, kind)
@@ -193,13 +199,14 @@ class Maker:
             policy["resources"] = copy.deepcopy(self.pick(like))
         maps = [levels for zone in facts.get("zones", []) if zone["name"] == policy.get("zoneName")
                 for levels in zone["services"].get("s", {}).get("resources", [])]
-        if maps and self.maybe(.8):
-            for name, values in self.pick(maps).items():
-                if name in policy["resources"]:
-                    policy["resources"][name].update(values=values, isExcludes=False)
-        for resource in policy["resources"].values():
-            if kind and self.maybe(.6):
-                resource.update(values=["*"], isExcludes=False)
+        for levels in maps_of(policy):
+            if maps and self.maybe(.8):
+                for name, values in self.pick(maps).items():
+                    if name in levels:
+                        levels[name].update(values=values, isExcludes=False)
+            for resource in levels.values():
+                if kind and self.maybe(.6):
+                    resource.update(values=["*"], isExcludes=False)
         return policy
 
     def items(self, facts, definition, kind, accesses):
@@ -313,7 +320,7 @@ class Maker:
         subjects = {kind: [one for holder in [item] + roles for one in holder[kind] if isinstance(one, str)] for kind in ("users", "groups")}
         users = [user for user in subjects["users"] if user in USERS] or USERS
         groups = [group for group in subjects["groups"] if group != "public"] or GROUPS
-        levels = policy["resources"]
+        levels = self.pick(maps_of(policy))
         if levels.keys() == {"tag"} and facts["serviceDef"]["name"] == "d" or self.maybe(.1):
             levels = self.pick(self.places(facts) or [levels])
         access = self.pick([entry["type"].split(":")[-1] for entry in item["accesses"]] or ["select"])

@@ -205,6 +205,10 @@ def lies(definition, resources, elements, user, down=False):
     return down or all(name in resources for name in elements)
 
 
+def maps_of_policy(policy):
+    return [policy["resources"]] + policy["additionalResources"]
+
+
 # ---- conditions
 
 def kind_of(condition):
@@ -440,7 +444,13 @@ def type_is_known(definition, policy):
 
 def levels_are_listed(definition, policy):
     listed = names(part_of(definition, policy)["resources"])
-    return not listed or all(name in listed for name in policy["resources"])
+    return not listed or all(name in listed for resources in maps_of_policy(policy) for name in resources)
+
+
+def maps_fit(definition, policy):
+    """At most 15 maps beside the first, each of levels of the definition that lie together."""
+    return len(policy["additionalResources"]) <= 15 and all(
+        levels_fit(definition, resources) and has_mandatory(definition, resources) for resources in maps_of_policy(policy))
 
 
 def has_its_items_alone(policy):
@@ -480,8 +490,8 @@ def zone_is_known(facts, policy, is_tag):
 RULES_OF_A_POLICY = {
     "V3": lambda f, d, p, is_tag: type_is_known(d, p),
     "V4": lambda f, d, p, is_tag: p["policyPriority"] in (0, 1),
-    "V5": lambda f, d, p, is_tag: (levels_fit(d, p["resources"]) and has_mandatory(d, p["resources"]) and levels_are_listed(d, p)),
-    "V6": lambda f, d, p, is_tag: values_fit(d, p["resources"]),
+    "V5": lambda f, d, p, is_tag: maps_fit(d, p) and levels_are_listed(d, p),
+    "V6": lambda f, d, p, is_tag: all(values_fit(d, resources) for resources in maps_of_policy(p)),
     "V7": lambda f, d, p, is_tag: has_its_items_alone(p),
     "V8": lambda f, d, p, is_tag: all(entries_fit(d, p, item) for item in items_of(p)),
     "V9": lambda f, d, p, is_tag: all(compiles(d, c) for holder in [p] + items_of(p) for c in holder["conditions"]),
@@ -527,7 +537,7 @@ RULES_OF_A_TAG_ROW = {
 def faults(facts):
     """What makes the facts unsound, in an order in which each question can be asked."""
     definition, tag_definition = facts["serviceDef"], facts["tagServiceDef"]
-    if max(facts["policyVersion"], facts["tagVersion"]) > 2 ** 62:
+    if max(facts["policyVersion"], facts["tagVersion"], facts["roleVersion"]) > 2 ** 62:
         yield "versions"
     yield first_broken(RULES_OF_A_DEFINITION, definition)
     if tag_definition:
@@ -583,10 +593,11 @@ def asked_policies(facts, request):
 
 
 def fits_resource(asked, request):
-    user = request["user"]
+    """One of the policy's maps does."""
+    user, maps = request["user"], maps_of_policy(asked.policy)
     if asked.side == "tag":
-        return is_hit(named(asked.definition["resources"], "tag"), asked.policy["resources"]["tag"], asked.tag["type"], user)
-    return lies(asked.definition, asked.policy["resources"], request["resource"]["elements"], user)
+        return any(is_hit(named(asked.definition["resources"], "tag"), resources["tag"], asked.tag["type"], user) for resources in maps)
+    return any(lies(asked.definition, resources, request["resource"]["elements"], user) for resources in maps)
 
 
 def in_play(facts, asked, request):

@@ -91,6 +91,16 @@ def resources():
     assert [answer(but_sales, {"database": name}) for name in ("hr", "sales", "SALES")] == ["ALLOWED 1", "DENIED -1", "DENIED -1"]
 
 
+def additional_maps():
+    everything = {"database": "hr", "table": "emp", "column": "*"}
+    policy = {**allows(1, at(database="sales")), "additionalResources": [at(**everything)]}
+    both = facts(policy)
+    assert [answer(both, asked) for asked in ({"database": "sales"}, {**everything, "column": "ssn"}, {"database": "hr"})] == [
+        "ALLOWED 1", "ALLOWED 1", "DENIED -1"]
+    many = lambda count: model.first_fault(facts({**policy, "additionalResources": [at(database="hr")] * count}))
+    assert (many(15), many(16)) == (None, "V5")
+
+
 def schedules_and_conditions():
     asked = {"database": "sales"}
     in_time = lambda **one: facts(allows(1, at(database="sales"), validitySchedules=[one]),
@@ -219,7 +229,7 @@ def masks_and_filters():
     assert model.first_fault(facts({**select, "conditions": unsupported})) == "V9"
 
 
-EXAMPLES = (resource_policies, resources, schedules_and_conditions, roles, zones, tags, eight_cells, two_tags, tags_in_zones,
+EXAMPLES = (resource_policies, resources, additional_maps, schedules_and_conditions, roles, zones, tags, eight_cells, two_tags, tags_in_zones,
             masks_and_filters)
 for example in EXAMPLES:
     example()

@@ -52,12 +52,13 @@ def item(given):
 
 
 def policy(given):
-    whole = filled(given, id=0, guid="", version=1, service="", name="", policyType=0, policyPriority=0, resources={}, conditions=[],
+    whole = filled(given, id=0, guid="", version=1, service="", name="", policyType=0, policyPriority=0, resources={}, additionalResources=[],
+                   conditions=[],
                    validitySchedules=[], zoneName="", isDenyAllElse=False, isEnabled=True, isAuditEnabled=True,
                    **{name: [] for name in ITEM_LISTS})
     schedules = [filled(one, startTime="", endTime="", timeZone="", recurrences=[]) for one in whole["validitySchedules"]]
-    return {**whole, "resources": resources(whole["resources"]), "conditions": conditions(whole["conditions"]),
-            "validitySchedules": schedules, **{name: each(item, whole[name]) for name in ITEM_LISTS}}
+    return {**whole, "resources": resources(whole["resources"]), "additionalResources": each(resources, whole["additionalResources"]),
+            "conditions": conditions(whole["conditions"]), "validitySchedules": schedules, **{name: each(item, whole[name]) for name in ITEM_LISTS}}
 
 
 def role(given):
@@ -80,7 +81,7 @@ def tag_row(given):
 
 def facts(given):
     whole = filled(given, fallback=False, tagServiceDef=None, policies=[], tagPolicies=[], zones=[], roles=[], resources=[],
-                   timeZones=[], policyVersion=1, tagVersion=1)
+                   timeZones=[], policyVersion=1, tagVersion=1, roleVersion=0)
     tag_definition = whole["tagServiceDef"]
     return {**whole, "serviceDef": definition(whole["serviceDef"]),
             "tagServiceDef": None if tag_definition is None else definition(tag_definition),

@@ -27,7 +27,11 @@ def an_item(maker, facts):
 
 
 def a_level(maker, facts):
-    return maker.pick([(name, level) for policy in all_policies(facts) for name, level in policy["resources"].items()])[1]
+    return maker.pick([(name, level) for policy in all_policies(facts) for levels in maps_of(policy) for name, level in levels.items()])[1]
+
+
+def maps_of(policy):
+    return [policy["resources"]] + policy.get("additionalResources", [])
 
 
 def of_type(maker, facts, kind):
@@ -192,9 +196,19 @@ def bad_policy_levels(maker, facts):
     policy["resources"] = {name: {"values": ["*"]} for name in maker.pick([(), ("nowhere",), ("database", "url"), ("table", "udf"), ("tag", "database")])}
 
 
+def bad_levels_of_an_additional_map(maker, facts):
+    policy = maker.pick([policy for policy in all_policies(facts) if policy.get("additionalResources")])
+    maker.pick(policy["additionalResources"]).update({"nowhere": {"values": ["*"]}})
+
+
+def too_many_maps(maker, facts):
+    policy = a_policy(maker, facts)
+    policy["additionalResources"] = [copy.deepcopy(policy["resources"]) for _ in range(maker.pick([15, 16]))]
+
+
 def without_mandatory(maker, facts):
-    policy = maker.pick([policy for policy in facts["policies"] if "table" in policy["resources"]])
-    policy["resources"].pop("database", None)
+    levels = maker.pick([levels for policy in facts["policies"] for levels in maps_of(policy) if "table" in levels])
+    levels.pop("database", None)
     facts["serviceDef"]["resources"][0]["mandatory"] = True
 
 
@@ -298,7 +312,7 @@ def tag_row_twice(maker, facts):
 
 
 def bad_versions(maker, facts):
-    facts[maker.pick(["policyVersion", "tagVersion"])] = maker.pick([2 ** 62 + 1, 2 ** 64 - 1])
+    facts[maker.pick(["policyVersion", "tagVersion", "roleVersion"])] = maker.pick([2 ** 62 + 1, 2 ** 64 - 1])
 
 
 ALWAYS = (bad_definition_name, bad_levels, bad_parent, bad_access_types, bad_grant, bad_conditions, bad_parts, service_of_tags,
@@ -310,6 +324,7 @@ BY_PART = {
               zones_that_overlap, zones_that_meet_above, zones_that_meet_above, zones_that_meet_above, unknown_zone, zone_that_lists_others),
     "tags": (tag_definition_of_levels, tag_definition_of_another_name, no_tag_definition, bad_tag_row_levels, bad_tag_row_values,
              unsupported_flag_of_a_tag_row, bad_tags, tag_row_twice, shared_id),
+    "maps": (bad_levels_of_an_additional_map, too_many_maps),
     "masks": (unknown_type, type_without_part, unlisted_level, items_of_another_type, deny_all_else_of_a_mask, bad_mask, bad_mask, bad_filter),
 }
 

@@ -1,11 +1,11 @@
--- Texts with their ASCII letters folded.
-use Rattle.std.proofs.Common.{◌≡◌, ◌<◌, ◌≤◌, ◌+◌, ◌/◌, ◌%◌, ℕ, List, [], ◌∷◌, ◌++◌, map, Bool, true, false, cond, nat_lt, refl, sym, ap, ◌∙◌, arith, ◌⊎◌, inl, inr}
+-- Folded texts, as characters and as bytes.
+use Rattle.std.proofs.Common.{◌≡◌, ◌<◌, ◌≤◌, ◌+◌, ◌/◌, ◌%◌, ℕ, List, [], ◌∷◌, ◌++◌, map, Bool, true, false, cond, nat_lt, length, take, refl, sym, ap, ◌∙◌, arith, ◌⊎◌, inl, inr}
 use Rattle.std.proofs.lemmas.Bool.Decides.{nat_tests}
-use Rattle.std.proofs.lemmas.List.{map-append}
-use Rattle.std.proofs.lemmas.Str.{encode_ascii, encodes-chars, encodes_same}
+use Rattle.std.proofs.lemmas.List.{length-map, map-append, map-id, take-map}
+use Rattle.std.proofs.lemmas.Str.{encode_ascii}
 use Rattle.std.proofs.Math.Utf8.{encode, encodes}
 use Rattle.std.specs.Char.{to_ascii_lowercase}
-use Rattle.std.specs.Str.{IsUtf8, chars}
+use Rattle.rg_base.specs.Folding.{folded, folded_char}
 
 high_stays : (b : ℕ) → 91 ≤ b → to_ascii_lowercase b ≡ b
 high_stays b h = grind (arith, nat_tests)
@@ -39,17 +39,25 @@ encode_fold c = elim (low_or_high c) [
   | inr h ↦ ap encode (high_stays c (omega arith)) ∙ sym (encode_high c h)
 ]
 
-pub encodes_fold : (cs : List ℕ) → encodes (map to_ascii_lowercase cs) ≡ map to_ascii_lowercase (encodes cs)
-encodes_fold [] = refl
-encodes_fold (c ∷ cs) = ap (λ xs. xs ++ encodes (map to_ascii_lowercase cs)) (encode_fold c) ∙ ap (λ xs. map to_ascii_lowercase (encode c) ++ xs) (encodes_fold cs)
+-- nothing is folded where that isn't asked
+pub folded_off : (text : List ℕ) → folded false text ≡ text
+folded_off text = map-id text
+
+pub length-folded : (fold : Bool) (text : List ℕ) → length (folded fold text) ≡ length text
+length-folded fold text = length-map text (folded_char fold)
+
+pub folded-append : (fold : Bool) (a b : List ℕ) → folded fold (a ++ b) ≡ folded fold a ++ folded fold b
+folded-append fold a b = map-append (folded_char fold) a b
+
+pub take-folded : (fold : Bool) (n : ℕ) (text : List ℕ) → take n (folded fold text) ≡ folded fold (take n text)
+take-folded fold n text = take-map (folded_char fold) n text
+
+lower_bytes : (cs : List ℕ) → encodes (map to_ascii_lowercase cs) ≡ map to_ascii_lowercase (encodes cs)
+lower_bytes [] = refl
+lower_bytes (c ∷ cs) = ap (λ xs. xs ++ encodes (map to_ascii_lowercase cs)) (encode_fold c) ∙ ap (λ xs. map to_ascii_lowercase (encode c) ++ xs) (lower_bytes cs)
     ∙ sym (map-append to_ascii_lowercase (encode c) (encodes cs))
 
-pub bytes_from_chars : (a b : List ℕ) → IsUtf8 a → IsUtf8 b → map to_ascii_lowercase (chars a) ≡ map to_ascii_lowercase (chars b) → map to_ascii_lowercase a ≡ map to_ascii_lowercase b
-bytes_from_chars a b ua ub e = sym (folded a ua) ∙ ap encodes e ∙ folded b ub where
-  folded : (t : List ℕ) → IsUtf8 t → encodes (map to_ascii_lowercase (chars t)) ≡ map to_ascii_lowercase t
-  folded t u = encodes_fold (chars t) ∙ ap (map to_ascii_lowercase) (encodes-chars t u)
-
-pub chars_from_bytes : (a b : List ℕ) → IsUtf8 a → IsUtf8 b → map to_ascii_lowercase a ≡ map to_ascii_lowercase b → map to_ascii_lowercase (chars a) ≡ map to_ascii_lowercase (chars b)
-chars_from_bytes a b ua ub e = encodes_same _ _ (folded a ua ∙ e ∙ sym (folded b ub)) where
-  folded : (t : List ℕ) → IsUtf8 t → encodes (map to_ascii_lowercase (chars t)) ≡ map to_ascii_lowercase t
-  folded t u = encodes_fold (chars t) ∙ ap (map to_ascii_lowercase) (encodes-chars t u)
+-- the bytes of a folded text are its bytes, folded
+pub encodes-folded : (fold : Bool) (cs : List ℕ) → encodes (folded fold cs) ≡ folded fold (encodes cs)
+encodes-folded true cs = lower_bytes cs
+encodes-folded false cs = ap encodes (folded_off cs) ∙ sym (folded_off (encodes cs))

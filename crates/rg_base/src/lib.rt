@@ -2,6 +2,7 @@
 #![tactic(auto)]
 
 mod copies;
+mod name_index;
 mod named;
 mod numbers;
 mod pair;
@@ -11,13 +12,14 @@ mod tally;
 mod text;
 
 pub use copies::TryCopy;
-pub use named::{Named, find_named, is_named, names_distinct, place_named};
+pub use name_index::NameIndex;
+pub use named::{Named, all_names_distinct, find_named, is_named, names_distinct, place_named};
 pub use numbers::{Failed, Moment, NoMemory, PolicyId, Serial, Version};
 pub use pair::{Pair, value_of};
 pub use seq::Seq;
 pub use steps::{Counted, Ledger, Silent, StepKind, Steps};
 pub use tally::Tally;
-pub use text::{Text, alike, char_count, is_among, is_name, same_folded, same_text, split_char};
+pub use text::{Text, char_count, folded_char, is_among, is_empty, is_name, same_text, split_char};
 
 #[cfg(test)]
 mod tests;

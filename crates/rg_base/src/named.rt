@@ -1,10 +1,13 @@
 // Things with names, in lists.
-ghost use Rattle.std.specs.Prelude.{◌≡◌, ◌<◌, IfSome, length, option_map, position};
+ghost use Rattle.std.specs.Prelude.{◌≡◌, ◌<◌, IfOk, IfSome, length, option_map, position};
 ghost use Rattle.std.specs.List.{find, list_any};
 ghost use Rattle.std.specs.Str.{bytes_eq, chars};
 ghost use Rattle.rg_base.specs.Texts.{all_distinct};
 
+use crate::name_index::NameIndex;
+use crate::numbers::NoMemory;
 use crate::text::{Text, same_text};
+use std::alloc::Global;
 
 /// A thing with a name.
 pub trait Named {
@@ -56,7 +59,7 @@ pub fn place_named<T: Named>(things: &[T], name: &str) -> Option<usize>
         .position(|thing| same_text(thing.name(), name))
 }
 
-/// Whether no two of the things have one name. The work is quadratic in their number.
+/// Whether no two of the things have one name. The work is quadratic in their number: for short lists.
 pub fn names_distinct<T: Named>(things: &[T]) -> bool
     ensures { result ≡ all_distinct (λ x y. bytes_eq (T.named y) (T.named x)) things.now }
 {
@@ -68,4 +71,12 @@ pub fn names_distinct<T: Named>(things: &[T]) -> bool
         rest = later;
     }
     true
+}
+
+/// As `names_distinct`, by an index of the names: for long lists.
+pub fn all_names_distinct<T: Named>(alloc: Global, things: &[T]) -> Result<bool, NoMemory>
+    ensures { IfOk result (λ distinct. distinct ≡ all_distinct (λ x y. bytes_eq (T.named y) (T.named x)) things.now) }
+{
+    let index = NameIndex::build(alloc, things)?;
+    Ok(index.are_distinct())
 }

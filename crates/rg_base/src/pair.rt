@@ -4,8 +4,9 @@ ghost use Rattle.std.specs.Str.{chars};
 ghost use Rattle.rg_base.specs.Pairs.{value_of};
 
 use crate::copies::TryCopy;
+use crate::named::{Named, find_named};
 use crate::numbers::NoMemory;
-use crate::text::{Text, same_text};
+use crate::text::Text;
 use std::alloc::Global;
 
 /// A key with its value.
@@ -24,14 +25,20 @@ impl TryCopy for Pair {
     }
 }
 
+impl Named for Pair {
+    ghost named = { λ p. p.key };
+
+    fn name(&self) -> &str {
+        self.key.as_str()
+    }
+}
+
 /// The value of the first pair with this key, None where there is none.
 pub fn value_of<'a>(pairs: &'a [Pair], key: &str) -> Option<&'a Text>
     ensures { option_map (λ t. t.now) result ≡ value_of (chars key.now) pairs.now }
 {
-    for pair in pairs {
-        if same_text(pair.key.as_str(), key) {
-            return Some(&pair.value);
-        }
+    match find_named(pairs, key) {
+        Some(pair) => Some(&pair.value),
+        None => None,
     }
-    None
 }

@@ -70,19 +70,29 @@ impl<T> Seq<T> {
         }
     }
 
+    /// Adds an item at the end. The item is dropped where memory is refused, and the list stays as it is.
+    pub fn add(&mut self, item: T) -> Result<(), NoMemory>
+    where
+        T: Drop,
+        ensures ok { OnOk result (self.new ≡ added self.old item) }
+        ensures err { OnErr result (self.new ≡ self.old) }
+        ensures spare { 0 < self.old.spare → IsOk result }
+    {
+        match self.push(item) {
+            Ok(()) => Ok(()),
+            Err(_) => Err(NoMemory),
+        }
+    }
+
     /// Sees to it that the next push succeeds.
     pub fn reserve(&mut self) -> Result<(), NoMemory>
         ensures items { self.new.items ≡ self.old.items }
         ensures ok { OnOk result (self.new.spare ≡ max self.old.spare 1) }
         ensures err { OnErr result (self.new ≡ self.old) }
     {
-        match self.held.try_reserve(1) {
-            Ok(()) => {
-                self.ready = true;
-                Ok(())
-            }
-            Err(_) => Err(NoMemory),
-        }
+        self.held.try_reserve(1)?;
+        self.ready = true;
+        Ok(())
     }
 
     /// How many items there are.
@@ -111,10 +121,7 @@ impl<T: TryCopy + Drop> TryCopy for Seq<T> {
     fn try_copy(&self, alloc: Global) -> Result<Seq<T>, NoMemory> {
         let mut copy = Seq::new(alloc);
         for item in self.as_slice() {
-            let again = item.try_copy(alloc)?;
-            if copy.push(again).is_err() {
-                return Err(NoMemory);
-            }
+            copy.add(item.try_copy(alloc)?)?;
         }
         if self.ready {
             copy.reserve()?;

@@ -1,7 +1,8 @@
 // That calls succeed with ample memory, and what they then give.
 use crate::{
-    NoMemory, Pair, Seq, Silent, Steps, Text, TryCopy, char_count, find_named, is_among, is_named,
-    names_distinct, place_named, same_folded, same_text, split_char, value_of,
+    NoMemory, Pair, Seq, Silent, Steps, Text, TryCopy, all_names_distinct, char_count, find_named,
+    folded_char, is_among, is_empty, is_named, names_distinct, place_named, same_text, split_char,
+    value_of,
 };
 use std::alloc::Global;
 
@@ -17,16 +18,16 @@ fn text_grows_by_characters(rt: HostRuntime) {
 
 #[test]
 fn only_ascii_letters_are_folded(rt: HostRuntime) {
-    for (a, b, same, folded) in [
-        ("sales", "sales", true, true),
-        ("sales", "SaLeS", false, true),
-        ("sales", "sale", false, false),
-        ("[", "{", false, false),
-        ("\u{e9}", "\u{c9}", false, false),
-        ("k", "\u{212a}", false, false),
+    for (c, folded) in [
+        ('A', 'a'),
+        ('Z', 'z'),
+        ('k', 'k'),
+        ('[', '['),
+        ('\u{c9}', '\u{c9}'),
+        ('\u{212a}', '\u{212a}'),
     ] {
-        assert_eq!(rt; same_text(a, b), same, "{a} {b}");
-        assert_eq!(rt; same_folded(a, b), folded, "{a} {b}");
+        assert_eq!(rt; folded_char(true, c), folded);
+        assert_eq!(rt; folded_char(false, c), c);
     }
 }
 
@@ -35,6 +36,9 @@ fn the_first_character_is_split_off(rt: HostRuntime) {
     assert_eq!(rt; split_char("\u{1f600}ab"), Some(('\u{1f600}', "ab")));
     assert_eq!(rt; split_char("a"), Some(('a', "")));
     assert_eq!(rt; split_char(""), None);
+    assert!(rt; is_empty(""));
+    assert!(rt; !is_empty("a"));
+    assert!(rt; !same_text("a", "A"));
 }
 
 /// Copied as itself.
@@ -53,7 +57,7 @@ fn lists_grow_at_the_end(rt: HostRuntime) {
     let mut list = Seq::from_vec(items);
     list.reserve().expect(&rt, "ample memory");
     list.push(Mark(3)).expect(&rt, "a spare place");
-    list.push(Mark(4)).expect(&rt, "ample memory");
+    list.add(Mark(4)).expect(&rt, "ample memory");
     assert_eq!(rt; list.len(), 4);
     assert!(rt; !list.is_empty());
     let copy = list.try_copy(rt.alloc()).expect(&rt, "ample memory");
@@ -117,6 +121,7 @@ fn things_are_found_by_name(rt: HostRuntime) {
         things.push(text).expect(&rt, "ample memory");
     }
     assert!(rt; names_distinct(things.as_slice()));
+    assert_eq!(rt; all_names_distinct(rt.alloc(), things.as_slice()), Ok(true));
     assert!(rt; is_among("b", things.as_slice()));
     assert_eq!(rt; place_named(things.as_slice(), "ab"), Some(2));
     assert_eq!(rt; place_named(things.as_slice(), "B"), None);
@@ -125,6 +130,10 @@ fn things_are_found_by_name(rt: HostRuntime) {
     assert!(rt; is_named(things.as_slice(), text.as_str()));
     things.push(text).expect(&rt, "ample memory");
     assert!(rt; !names_distinct(things.as_slice()));
+    assert_eq!(rt;
+        all_names_distinct(rt.alloc(), things.as_slice()),
+        Ok(false)
+    );
     let found = find_named(things.as_slice(), "ab").expect(&rt, "there");
     assert_eq!(rt; found.as_str(), "ab");
 }

@@ -1,8 +1,8 @@
 // Text, seen as its list of characters.
-ghost use Rattle.std.specs.Prelude.{◌≡◌, ◌∷◌, ◌++◌, [], IfOk, OnOk, OnErr, MatchOption, map, length, string_bytes};
-ghost use Rattle.std.specs.Char.{to_ascii_lowercase};
+ghost use Rattle.std.specs.Prelude.{◌≡◌, ◌∷◌, ◌++◌, [], IfOk, OnOk, OnErr, MatchOption, length, string_bytes};
 ghost use Rattle.std.specs.Str.{bytes_eq, chars, encode_utf8_all};
-ghost use Rattle.rg_base.specs.Texts.{alike, is_among, is_name};
+ghost use Rattle.rg_base.specs.Folding.{folded_char};
+ghost use Rattle.rg_base.specs.Texts.{is_among, is_empty, is_name};
 
 use crate::copies::TryCopy;
 use crate::numbers::NoMemory;
@@ -39,10 +39,8 @@ impl Text {
     pub fn copy_of(alloc: Global, text: &str) -> Result<Text, NoMemory>
         ensures { IfOk result (λ t. t ≡ chars text.now) }
     {
-        match String::from_str(alloc, text) {
-            Ok(held) => Ok(Text { held }),
-            Err(_) => Err(NoMemory),
-        }
+        let held = String::from_str(alloc, text)?;
+        Ok(Text { held })
     }
 
     /// This text. It takes no memory.
@@ -57,9 +55,7 @@ impl Text {
         ensures ok { OnOk result (self.new ≡ self.old ++ c ∷ []) }
         ensures err { OnErr result (self.new ≡ self.old) }
     {
-        if self.held.push(c).is_err() {
-            return Err(NoMemory);
-        }
+        self.held.push(c)?;
         Ok(())
     }
 
@@ -68,9 +64,7 @@ impl Text {
         ensures ok { OnOk result (self.new ≡ self.old ++ chars text.now) }
         ensures err { OnErr result (self.new ≡ self.old) }
     {
-        if self.held.push_str(text).is_err() {
-            return Err(NoMemory);
-        }
+        self.held.push_str(text)?;
         Ok(())
     }
 
@@ -97,11 +91,18 @@ pub fn same_text(a: &str, b: &str) -> bool
     a == b
 }
 
-/// Whether two texts are the same up to the case of ASCII letters.
-pub fn same_folded(a: &str, b: &str) -> bool
-    ensures { result ≡ bytes_eq (map to_ascii_lowercase (chars a.now)) (map to_ascii_lowercase (chars b.now)) }
+/// The character, in lower case if it is an ASCII letter and `fold` is set.
+pub fn folded_char(fold: bool, c: char) -> char
+    ensures { result ≡ folded_char fold c }
 {
-    a.eq_ignore_ascii_case(b)
+    if fold { c.to_ascii_lowercase() } else { c }
+}
+
+/// Whether the text has no character.
+pub fn is_empty(text: &str) -> bool
+    ensures { result ≡ is_empty (chars text.now) }
+{
+    split_char(text).is_none()
 }
 
 /// The first character and what follows it; None where there is no character.
@@ -120,17 +121,6 @@ pub fn char_count(text: &str) -> usize
     ensures { result ≡ length (chars text.now) }
 {
     text.chars().count()
-}
-
-/// Whether the two texts are the same, up to the case of ASCII letters where `fold` is set.
-pub fn alike(fold: bool, a: &str, b: &str) -> bool
-    ensures { result ≡ alike fold (chars a.now) (chars b.now) }
-{
-    if fold {
-        same_folded(a, b)
-    } else {
-        same_text(a, b)
-    }
 }
 
 /// Whether the text is one of these.

@@ -1,4 +1,6 @@
--- Which instant a clock shows a time at: a clock in UTC, or one in a zone that a POSIX rule gives. What a rule reads as, and which days it names, are `jiff`'s.
+-- Which instant a clock shows a time at: a clock in UTC, or one in a zone that a POSIX rule gives. What a rule reads as, and which days it
+-- names, are `jiff`'s. The offsets restate in short what `jiff` does with a rule, so that a reader needn't believe its code; the law
+-- `clock_agrees_with_jiff` ties the two.
 use Rattle.std.specs.Prelude.{ℕ, ℤ, pos, neg_ℤ, ◌+ℤ◌, ◌-ℤ◌, ◌*ℤ◌, ◌&&◌, ◌||◌, not, int_le, int_lt, Bool, List, [], Option, Some, None, option_map, option_and_then, if◌then◌else◌}
 use Rattle.std.specs.List.{find}
 use Rattle.std.specs.Str.{bytes_eq, encode_utf8_all}

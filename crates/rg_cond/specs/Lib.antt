@@ -4,6 +4,7 @@ pub mod Conditions
 pub mod Dates
 pub mod Digits
 pub mod Kinds
+pub mod PolicyRules
 pub mod Spans
 pub mod Words
 pub mod Zones

@@ -1,5 +1,5 @@
 -- The span of a schedule: from its start to its end, both included, where an empty text is open.
-use Rattle.std.specs.Prelude.{ℕ, ◌||◌, ◌&&◌, ◌==◌, int_le, int_lt, Bool, true, false, List, length, Option, Some, None, is_none, option_map, option_and_then, unwrap_or, if◌then◌else◌}
+use Rattle.std.specs.Prelude.{ℕ, ◌||◌, ◌&&◌, ◌==◌, int_le, int_lt, Bool, true, false, List, length, Option, Some, None, is_none, option_map, unwrap_or, if◌then◌else◌}
 use Rattle.std.specs.Str.{encode_utf8_all}
 use Rattle.jiff_tz.specs.PosixText.{TzText}
 use Rattle.rg_base.specs.declared.numbers.Moment.{Moment}
@@ -42,33 +42,28 @@ placing_fault clock start end =
     if is_none (end_on clock start) || is_none (end_on clock end) then Some OutOfRange
     else (if ends_first (span_on clock start end) then Some EndFirst else None)
 
--- the instant of a written end in the zone of this name
-unfoldable pub end_of : List TimeZoneRow → List ℕ → List ℕ → Option (Option Moment)
-end_of rows zone text =
-    option_and_then (λ clock. option_and_then (λ shown. end_on clock shown) (end_shown (encode_utf8_all text))) (clock_of rows zone)
+-- what a written end shows; nothing too where it is no time
+abbrev pub shown_by : List ℕ → Option Shown
+shown_by text = unwrap_or (end_shown (encode_utf8_all text)) None
+
+-- the clock of a zone's name; UTC's too where there is no such zone
+abbrev pub clock_by : List TimeZoneRow → List ℕ → Option TzText
+clock_by rows zone = unwrap_or (clock_of rows zone) None
 
 -- the span of a schedule that reads
 unfoldable pub span_of : List TimeZoneRow → ScheduleText → Span
-span_of rows t = record {
-  start = unwrap_or (end_of rows t.time_zone t.start_time) None;
-  end = unwrap_or (end_of rows t.time_zone t.end_time) None;
-}
+span_of rows t = span_on (clock_by rows t.time_zone) (shown_by t.start_time) (shown_by t.end_time)
 
 -- a text of the two is no end
 abbrev pub is_bad : ScheduleText → Bool
 is_bad t = is_none (end_shown (encode_utf8_all t.start_time)) || is_none (end_shown (encode_utf8_all t.end_time))
-
--- an end of the two is no instant
-abbrev pub is_out : List TimeZoneRow → ScheduleText → Bool
-is_out rows t = is_none (end_of rows t.time_zone t.start_time) || is_none (end_of rows t.time_zone t.end_time)
 
 -- why a schedule doesn't read: the first cause in this order
 unfoldable pub schedule_fault : List TimeZoneRow → ScheduleText → Option ScheduleFault
 schedule_fault rows t =
     if is_bad t then Some BadTime
     else (if is_none (clock_of rows t.time_zone) then Some UnknownZone
-    else (if is_out rows t then Some OutOfRange
-    else (if ends_first (span_of rows t) then Some EndFirst else None)))
+    else placing_fault (clock_by rows t.time_zone) (shown_by t.start_time) (shown_by t.end_time))
 
 -- the start, if there is one, is not after the moment
 abbrev pub has_begun : Option Moment → Moment → Bool

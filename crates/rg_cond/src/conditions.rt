@@ -66,10 +66,7 @@ fn find_kind<'a>(
 pub fn condition_fault(def: &ServiceDef, condition: &PolicyCondition) -> Option<CondFault>
     ensures { result ≡ condition_fault def.now condition.now }
 {
-    match find_kind(def, condition) {
-        Ok(_) => None,
-        Err(fault) => Some(fault),
-    }
+    find_kind(def, condition).err()
 }
 
 /// The key that the definition names, empty where it names none.
@@ -120,14 +117,9 @@ pub fn compile_condition(
     ensures refused { IfSome (condition_fault def.now condition.now) (λ fault. result ≡ Err fault) }
     ensures accepted { IfNone (condition_fault def.now condition.now) (IfErr result (λ fault. fault ≡ CondFault.NoMemory)) }
 {
-    let (row, kind) = match find_kind(def, condition) {
-        Ok(found) => found,
-        Err(fault) => return Err(fault),
-    };
-    match rule_of_kind(alloc, kind, row, &condition.values) {
-        Ok(rule) => Ok(Condition { rule }),
-        Err(NoMemory) => Err(CondFault::NoMemory),
-    }
+    let (row, kind) = find_kind(def, condition)?;
+    let rule = rule_of_kind(alloc, kind, row, &condition.values)?;
+    Ok(Condition { rule })
 }
 
 impl Condition {

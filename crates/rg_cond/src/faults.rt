@@ -1,4 +1,5 @@
 // Why a condition doesn't compile, a schedule doesn't read, or a zone's rule doesn't.
+use rg_base::NoMemory;
 use thiserror::Error;
 
 /// Why a condition doesn't compile. The causes are asked in this order.
@@ -45,4 +46,26 @@ pub enum TimeZoneFault {
     BadRule(u32),
     /// Memory was refused.
     NoMemory,
+}
+
+impl From<NoMemory> for CondFault {
+    ghost use Rattle.std.specs.Prelude.{◌≡◌};
+    ghost use Rattle.rg_cond.specs.declared.faults.CondFault.TheVariants as fault;
+
+    ghost from_gives = { λ _ f. f ≡ fault.NoMemory };
+
+    fn from(_: NoMemory) -> CondFault {
+        CondFault::NoMemory
+    }
+}
+
+impl From<NoMemory> for TimeZoneFault {
+    ghost use Rattle.std.specs.Prelude.{◌≡◌};
+    ghost use Rattle.rg_cond.specs.declared.faults.TimeZoneFault.TheVariants as fault;
+
+    ghost from_gives = { λ _ f. f ≡ fault.NoMemory };
+
+    fn from(_: NoMemory) -> TimeZoneFault {
+        TimeZoneFault::NoMemory
+    }
 }

@@ -8,6 +8,7 @@ mod digits;
 mod faults;
 mod kinds;
 mod laws;
+mod policy_rules;
 mod rules;
 mod spans;
 mod zones;
@@ -15,8 +16,9 @@ mod zones;
 pub use conditions::{Condition, compile_condition, condition_fault};
 pub use faults::{CondFault, ScheduleFault, TimeZoneFault};
 pub use laws::clock_agrees_with_jiff;
+pub use policy_rules::{conditions_compile, schedules_read};
 pub use rules::Rule;
-pub use spans::{Schedule, Span};
+pub use spans::{Schedule, Span, schedule_fault};
 pub use zones::TimeZones;
 
 #[cfg(test)]

@@ -8,6 +8,7 @@ use crate::faults::ScheduleFault;
 use crate::zones::TimeZones;
 use rg_base::Moment;
 use rg_policy::ScheduleText;
+use std::alloc::Global;
 
 /// From one instant to another, both included. An end that is None is open.
 #[derive(Clone, Copy, Debug, PartialEq, Eq)]
@@ -78,26 +79,47 @@ fn place(
     Ok(span)
 }
 
+/// The span of a schedule, or why it doesn't read.
+#[tactic(auto, unfolding(crate::specs::Spans::schedule_fault))]
+fn read_span(text: &ScheduleText, zones: &TimeZones) -> Result<Span, ScheduleFault>
+    ensures read { IfOk result (λ span. span ≡ span_of zones.now text.now) }
+    ensures sound { IfOk result (λ _. schedule_fault zones.now text.now ≡ None) }
+    ensures refused { IfErr result (λ fault. schedule_fault zones.now text.now ≡ Some fault) }
+{
+    let Some(start) = read_end(text.start_time.as_str()) else {
+        return Err(ScheduleFault::BadTime);
+    };
+    let Some(end) = read_end(text.end_time.as_str()) else {
+        return Err(ScheduleFault::BadTime);
+    };
+    let Some(clock) = Clock::named(text.time_zone.as_str(), zones) else {
+        return Err(ScheduleFault::UnknownZone);
+    };
+    place(&clock, &start, &end)
+}
+
+/// Why a schedule doesn't read, None where it does. It takes no memory.
+pub fn schedule_fault(text: &ScheduleText, zones: &TimeZones) -> Option<ScheduleFault>
+    ensures { result ≡ schedule_fault zones.now text.now }
+{
+    read_span(text, zones).err()
+}
+
 impl Schedule {
     /// The span of a schedule. Its times are `yyyy/MM/dd HH:mm:ss` or empty for open, its time zone is empty,
     /// `UTC` or `GMT` for UTC, else the name of a row of the list. A time in a gap is taken with the offset
-    /// before the gap, and one in a fold is the earlier. A recurrence plays no part. It takes no memory.
-    #[tactic(auto, unfolding(crate::specs::Spans::schedule_fault))]
-    pub fn read(text: &ScheduleText, zones: &TimeZones) -> Result<Span, ScheduleFault>
+    /// before the gap, and one in a fold is the earlier. A recurrence plays no part. Reading takes no memory, so
+    /// the allocator isn't used and want of memory is never answered.
+    pub fn read(
+        _alloc: Global,
+        text: &ScheduleText,
+        zones: &TimeZones,
+    ) -> Result<Span, ScheduleFault>
         ensures read { IfOk result (λ span. span ≡ span_of zones.now text.now) }
         ensures sound { IfOk result (λ _. schedule_fault zones.now text.now ≡ None) }
         ensures refused { IfErr result (λ fault. schedule_fault zones.now text.now ≡ Some fault) }
     {
-        let Some(start) = read_end(text.start_time.as_str()) else {
-            return Err(ScheduleFault::BadTime);
-        };
-        let Some(end) = read_end(text.end_time.as_str()) else {
-            return Err(ScheduleFault::BadTime);
-        };
-        let Some(clock) = Clock::named(text.time_zone.as_str(), zones) else {
-            return Err(ScheduleFault::UnknownZone);
-        };
-        place(&clock, &start, &end)
+        read_span(text, zones)
     }
 }
 

@@ -252,7 +252,7 @@ fn read(
     zone: &str,
 ) -> Result<Span, ScheduleFault> {
     match schedule(alloc, start, end, zone) {
-        Ok(text) => Schedule::read(&text, zones),
+        Ok(text) => Schedule::read(alloc, &text, zones),
         Err(NoMemory) => Err(ScheduleFault::NoMemory),
     }
 }

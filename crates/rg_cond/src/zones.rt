@@ -59,10 +59,7 @@ fn copy_rows(alloc: Global, rows: &[TimeZoneRow]) -> Result<Seq<TimeZoneRow>, No
 {
     let mut copy = Seq::new(alloc);
     for row in rows {
-        let again = row.try_copy(alloc)?;
-        if copy.push(again).is_err() {
-            return Err(NoMemory);
-        }
+        copy.add(row.try_copy(alloc)?)?;
     }
     Ok(copy)
 }
@@ -79,10 +76,8 @@ impl TimeZones {
         if let Some(place) = first_bad_rule(rows) {
             return Err(TimeZoneFault::BadRule(place_number(place)));
         }
-        match copy_rows(alloc, rows) {
-            Ok(rows) => Ok(TimeZones { rows }),
-            Err(NoMemory) => Err(TimeZoneFault::NoMemory),
-        }
+        let rows = copy_rows(alloc, rows)?;
+        Ok(TimeZones { rows })
     }
 
     /// The first row of this name.

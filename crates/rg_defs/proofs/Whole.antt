@@ -1,5 +1,5 @@
 -- The computed paths are all paths, and every level lies on one.
-use Rattle.std.proofs.Common.{◌≡◌, ◌<◌, ◌≤◌, ◌+◌, ℕ, zero, suc, Bool, true, false, not, cond, ◌&&◌, ◌||◌, int_lt, List, [], ◌∷◌, length, get_or, map, reverse, Option, Some, None, slice_get, option_and_then, All, Contains, filter, refl, sym, ap, subst, ◌∙◌, arith, inl, inr, ◌⊎◌}
+use Rattle.std.proofs.Common.{◌≡◌, ◌<◌, ◌≤◌, ◌+◌, ℕ, zero, suc, Bool, true, false, not, ◌&&◌, ◌||◌, int_lt, List, [], ◌∷◌, length, get_or, reverse, Option, Some, None, slice_get, option_and_then, All, Contains, filter, refl, sym, ap, subst, ◌∙◌, arith, inl, inr}
 use Rattle.std.proofs.lemmas.Bool.{false≢true, and_parts, or_cases, not-true, true_from_ne_false, eqb-true, eq-eqb, cases_Bool}
 use Rattle.std.proofs.lemmas.List.{reverse-append}
 use Rattle.std.proofs.lemmas.List.Elements.{All-map, All-filter, All-contains, filter_passes, Contains-append_left, Contains-append_right}
@@ -9,11 +9,12 @@ use Rattle.std.proofs.lemmas.Option.{none-some, same_Some, slice_get-get_or, sli
 use Rattle.std.proofs.lemmas.Slice.Eq.{bytes_eq-Decides}
 use Rattle.std.specs.List.{list_all, list_any, range_with_len}
 use Rattle.std.specs.Str.{bytes_eq}
-use Rattle.rg_base.specs.Texts.{all_distinct, is_name}
+use Rattle.rg_base.specs.Texts.{all_distinct, is_empty, is_name}
+use Rattle.rg_base.proofs.Lists.{Contains-cases, Contains-filter, Contains-first, Contains-later, Contains-map}
 use Rattle.rg_defs.specs.declared.service_def.Level.{Level}
 use Rattle.rg_defs.specs.Paths.{IsAbove, IsLeaf, IsPath, parent_of, place_of}
 use Rattle.rg_defs.specs.PathTests.{climb, is_leaf, is_some_place, path_to, paths_of}
-use Rattle.rg_defs.specs.Rules.{has_from_to, is_empty, is_parent, levels_rule, parents_rule}
+use Rattle.rg_defs.specs.Rules.{has_from_to, is_parent, levels_rule, parents_rule}
 use Rattle.rg_defs.proofs.Climbs.{climb_none}
 use Rattle.rg_defs.proofs.Ranks.{all_at, any_at, any_from, at_within, rank, rank_lt, rank_within, same_level}
 
@@ -26,7 +27,8 @@ names_fit : (levels : List Level) → Lawful levels → (list_all (λ (l : Level
 names_fit levels ok =
     let fit = list_all (λ (l : Level). is_name l.name) levels in
     let apart = all_distinct (λ (l m : Level). bytes_eq m.name l.name) levels in
-    and_parts fit apart (and_parts (has_from_to 1 16 (length levels)) (fit && apart) ok.named).1
+    let parts = and_parts (has_from_to 1 16 (length levels) && fit) apart ok.named in
+    ((and_parts (has_from_to 1 16 (length levels)) fit parts.0).1, parts.1)
 
 no_name : (t : List ℕ) → is_empty t ≡ true → is_name t ≡ true → ⊥
 no_name [] e h = false≢true h
@@ -59,7 +61,7 @@ parent_less levels ok place parent l e h =
           (p, there, ap (λ (m : Level). int_lt m.level l.level) (sym same) ∙ parts.1)
     ]
 
-abbrev Climbed : List Level → ℕ → ℕ → Type 0
+abbrev pub Climbed : List Level → ℕ → ℕ → Type 0
 Climbed levels n place = (above : List ℕ) × (climb levels n (Some place) ≡ place ∷ above) × IsAbove levels place above
 
 climb_step : (levels : List Level) → Lawful levels → (n place : ℕ) (l : Level) → slice_get levels place ≡ Some l → rank levels l.level < suc n
@@ -77,10 +79,10 @@ climbed : (levels : List Level) → Lawful levels → (n place : ℕ) (l : Level
 climbed levels ok zero place l e h = absurd (omega arith)
 climbed levels ok (suc n) place l e h = climb_step levels ok n place l e h (climbed levels ok n) (parent_of levels place) refl
 
-whole_climb : (levels : List Level) → Lawful levels → (place : ℕ) → place < length levels → Climbed levels (length levels) place
+pub whole_climb : (levels : List Level) → Lawful levels → (place : ℕ) → place < length levels → Climbed levels (length levels) place
 whole_climb levels ok place h = let l = at_within levels place h in climbed levels ok (length levels) place l.0 l.1 (rank_within levels place l.0 l.1)
 
-same_above : (levels : List Level) (place : ℕ) (a b : List ℕ) → IsAbove levels place a → IsAbove levels place b → a ≡ b
+pub same_above : (levels : List Level) (place : ℕ) (a b : List ℕ) → IsAbove levels place a → IsAbove levels place b → a ≡ b
 same_above levels place [] [] h k = refl
 same_above levels place [] (q ∷ b) h k = absurd (none-some q (sym h ∙ k.0))
 same_above levels place (p ∷ a) [] h k = absurd (none-some p (sym k ∙ h.0))
@@ -115,45 +117,10 @@ leaf_from levels place leaf = true_from_ne_false (is_leaf levels place) (λ e.
     let k = child_of levels place e in
     leaf k.0 (slice_get_within levels k.0 k.1 k.2) k.3)
 
--- membership, element by element
-contains_first : {X : Type 0} (x : X) (xs : List X) → Contains (x ∷ xs) x
-contains_first x xs = (0, omega arith, refl)
-
-contains_later : {X : Type 0} (x y : X) (xs : List X) → Contains xs y → Contains (x ∷ xs) y
-contains_later x y xs h = (suc h.0, (let w = h.1 in omega arith), h.2)
-
-contains_cases : {X : Type 0} (x y : X) (xs : List X) → Contains (x ∷ xs) y → (x ≡ y) ⊎ Contains xs y
-contains_cases x y xs h = split h.0 h.1 h.2 where
-  split : (k : ℕ) → k < length (x ∷ xs) → get_or (x ∷ xs) k y ≡ y → (x ≡ y) ⊎ Contains xs y
-  split zero w e = inl e
-  split (suc k) w e = inr (k, omega arith, e)
-
-kept_first : {X : Type 0} (b : Bool) (x y : X) (xs : List X) → b ≡ true → x ≡ y → Contains (cond b (x ∷ xs) xs) y
-kept_first true x y xs e h = subst (λ z. Contains (x ∷ xs) z) h (contains_first x xs)
-kept_first false x y xs e h = absurd (false≢true e)
-
-kept_later : {X : Type 0} (b : Bool) (x y : X) (xs : List X) → Contains xs y → Contains (cond b (x ∷ xs) xs) y
-kept_later true x y xs h = contains_later x y xs h
-kept_later false x y xs h = h
-
-contains_filter : {X : Type 0} (p : X → Bool) (xs : List X) (y : X) → Contains xs y → p y ≡ true → Contains (filter p xs) y
-contains_filter p [] y h e = absurd (omega (arith, h.1))
-contains_filter p (x ∷ xs) y h e = elim (contains_cases x y xs h) [
-  | inl now ↦ kept_first (p x) x y (filter p xs) (ap p now ∙ e) now
-  | inr on ↦ kept_later (p x) x y (filter p xs) (contains_filter p xs y on e)
-]
-
-contains_map : {X Y : Type 0} (f : X → Y) (xs : List X) (x : X) → Contains xs x → Contains (map f xs) (f x)
-contains_map f [] x h = absurd (omega (arith, h.1))
-contains_map f (y ∷ xs) x h = elim (contains_cases y x xs h) [
-  | inl now ↦ subst (λ z. Contains (f y ∷ map f xs) (f z)) now (contains_first (f y) (map f xs))
-  | inr on ↦ contains_later (f y) (f x) (map f xs) (contains_map f xs x on)
-]
-
 contains_reverse : {X : Type 0} (xs : List X) (y : X) → Contains xs y → Contains (reverse xs) y
 contains_reverse [] y h = absurd (omega (arith, h.1))
-contains_reverse (x ∷ xs) y h = subst (λ ys. Contains ys y) (sym (reverse-append (x ∷ []) xs)) (elim (contains_cases x y xs h) [
-  | inl now ↦ Contains-append_right (reverse xs) (x ∷ []) y (subst (λ z. Contains (x ∷ []) z) now (contains_first x []))
+contains_reverse (x ∷ xs) y h = subst (λ ys. Contains ys y) (sym (reverse-append (x ∷ []) xs)) (elim (Contains-cases x xs y h) [
+  | inl now ↦ Contains-append_right (reverse xs) (x ∷ []) y (subst (λ z. Contains (x ∷ []) z) now (Contains-first x []))
   | inr on ↦ Contains-append_left (reverse xs) (x ∷ []) y (contains_reverse xs y on)
 ])
 
@@ -182,8 +149,8 @@ member_is_path levels ok path h =
 
 leaf_path : (levels : List Level) (leaf : ℕ) → leaf < length levels → is_leaf levels leaf ≡ true → Contains (paths_of levels) (path_to levels leaf)
 leaf_path levels leaf within h =
-    contains_map (path_to levels) (filter (is_leaf levels) (range_with_len 0 (length levels))) leaf
-    (contains_filter (is_leaf levels) (range_with_len 0 (length levels)) leaf (range_contains (length levels) leaf within) h)
+    Contains-map (path_to levels) (filter (is_leaf levels) (range_with_len 0 (length levels))) leaf
+    (Contains-filter (is_leaf levels) (range_with_len 0 (length levels)) leaf (range_contains (length levels) leaf within) h)
 
 pub path_is_member : (levels : List Level) → Lawful levels → (path : List ℕ) → IsPath levels path → Contains (paths_of levels) path
 path_is_member levels ok path p =
@@ -194,15 +161,15 @@ path_is_member levels ok path p =
 
 -- the parent of what stands above stands above
 parent_too : (levels : List Level) (leaf k place : ℕ) (above : List ℕ) → IsAbove levels leaf above → Contains (leaf ∷ above) k → parent_of levels k ≡ Some place → Contains (leaf ∷ above) place
-parent_too levels leaf k place [] chain h e = elim (contains_cases leaf k [] h) [
+parent_too levels leaf k place [] chain h e = elim (Contains-cases leaf [] k h) [
   | inl now ↦ absurd (none-some place (sym chain ∙ ap (parent_of levels) now ∙ e))
   | inr on ↦ absurd (omega (arith, on.1))
 ]
-parent_too levels leaf k place (q ∷ above) chain h e = elim (contains_cases leaf k (q ∷ above) h) [
+parent_too levels leaf k place (q ∷ above) chain h e = elim (Contains-cases leaf (q ∷ above) k h) [
   | inl now ↦
       let same : q ≡ place = same_Some q place (sym chain.0 ∙ ap (parent_of levels) now ∙ e) in
-      contains_later leaf place (q ∷ above) (subst (Contains (q ∷ above)) same (contains_first q above))
-  | inr on ↦ contains_later leaf place (q ∷ above) (parent_too levels q k place above chain.1 on e)
+      Contains-later leaf (q ∷ above) place (subst (Contains (q ∷ above)) same (Contains-first q above))
+  | inr on ↦ Contains-later leaf (q ∷ above) place (parent_too levels q k place above chain.1 on e)
 ]
 
 abbrev Below : List Level → ℕ → Type 0
@@ -214,7 +181,7 @@ below_step levels ok m place l e h again = elim (cases_Bool (is_leaf levels plac
   | inl last ↦
       let within = slice_get_within levels place l e in
       let r = whole_climb levels ok place within in
-      (place, r.0, within, last, r.2, contains_first place r.0)
+      (place, r.0, within, last, r.2, Contains-first place r.0)
   | inr other ↦
       let k = child_of levels place other in
       let p = parent_less levels ok k.0 place k.1 k.2 k.3 in

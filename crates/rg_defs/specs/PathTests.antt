@@ -1,6 +1,6 @@
 -- The paths, computed.
 use Rattle.std.specs.Prelude.{ℕ, zero, suc, Bool, false, not, ◌||◌, nat_eq, List, [], ◌∷◌, length, map, Option, Some, None, option_and_then, option_map, reverse, unwrap_or}
-use Rattle.std.specs.List.{filter, list_all, list_any, range_with_len, slice_get}
+use Rattle.std.specs.List.{filter, find, list_all, list_any, range_with_len, slice_get}
 use Rattle.std.specs.Str.{bytes_eq}
 use Rattle.rg_base.specs.Listed.{Listed, listed}
 use Rattle.rg_base.specs.Texts.{is_among}
@@ -44,6 +44,10 @@ lies_on levels path name = list_any (has_name levels name) path
 -- levels of all these names lie on one path
 abbrev pub on_one_path : List Level → List (List ℕ) → Bool
 on_one_path levels names = list_any (λ path. list_all (lies_on levels path) names) (paths_of levels)
+
+-- the first path on which levels of all these names lie
+abbrev pub path_for : List Level → List (List ℕ) → Option (List ℕ)
+path_for levels names = find (λ path. list_all (lies_on levels path) names) (paths_of levels)
 
 -- the levels above that of this name, the nearest first
 abbrev pub ancestors : List Level → List ℕ → List ℕ

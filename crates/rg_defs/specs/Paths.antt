@@ -1,6 +1,6 @@
 -- The paths of a definition: chains of levels from a root to a leaf, by parents. A level is named by its place in the list.
 use Rattle.std.specs.Prelude.{◌≡◌, ◌<◌, ℕ, List, [], ◌∷◌, length, Option, Some, None, option_and_then, position, reverse}
-use Rattle.std.specs.List.{find, slice_get}
+use Rattle.std.specs.List.{Contains, find, slice_get}
 use Rattle.std.specs.Str.{bytes_eq}
 use Rattle.rg_defs.specs.declared.service_def.Level.{Level}
 use Rattle.rg_defs.specs.declared.service_def.ServiceDef.{ServiceDef}
@@ -34,3 +34,15 @@ pub record IsPath (levels : List Level) (path : List ℕ) : Type 0 where
   pub lowest : IsLeaf levels leaf
   pub chain : IsAbove levels leaf above
   pub listed : path ≡ reverse (leaf ∷ above)
+
+-- the level of the one name is an ancestor of that of the other: it stands above it
+pub record IsAncestor (levels : List Level) (upper lower : List ℕ) : Type 0 where
+  pub place : ℕ
+  pub above : List ℕ
+  pub higher : ℕ
+  pub level : Level
+  pub there : place_of levels lower ≡ Some place
+  pub chain : IsAbove levels place above
+  pub among : Contains above higher
+  pub at : slice_get levels higher ≡ Some level
+  pub named : level.name ≡ upper

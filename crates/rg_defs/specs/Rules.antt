@@ -1,8 +1,8 @@
 -- The rules of a service definition, and the first that fails.
-use Rattle.std.specs.Prelude.{ℕ, ◌&&◌, ◌||◌, not, Bool, true, false, nat_le, int_lt, codes, List, [], ◌∷◌, length, Option, option_map}
+use Rattle.std.specs.Prelude.{ℕ, ◌&&◌, ◌||◌, not, Bool, false, nat_le, int_lt, codes, List, [], ◌∷◌, length, Option, option_map}
 use Rattle.std.specs.List.{find, list_all, list_any}
 use Rattle.std.specs.Str.{bytes_eq}
-use Rattle.rg_base.specs.Texts.{all_distinct, is_name}
+use Rattle.rg_base.specs.Texts.{all_distinct, is_empty, is_name}
 use Rattle.rg_defs.specs.declared.service_def.AccessType.{AccessType}
 use Rattle.rg_defs.specs.declared.service_def.ConditionDef.{ConditionDef}
 use Rattle.rg_defs.specs.declared.service_def.Level.{Level}
@@ -12,11 +12,6 @@ use Rattle.rg_defs.specs.declared.service_def.ServiceDef.{ServiceDef}
 -- so many at least, and so many at most
 abbrev pub has_from_to : ℕ → ℕ → ℕ → Bool
 has_from_to low high n = nat_le low n && nat_le n high
-
--- the text has no character
-abbrev pub is_empty : List ℕ → Bool
-is_empty [] = true
-is_empty (c ∷ t) = false
 
 abbrev pub has_level : List Level → List ℕ → Bool
 has_level levels name = list_any (λ (l : Level). bytes_eq l.name name) levels
@@ -31,8 +26,8 @@ name_rule def = is_name def.name
 -- S2: there are 1 to 16 levels with distinct names of 1 to 256 characters
 abbrev pub levels_rule : List Level → Bool
 levels_rule levels = has_from_to 1 16 (length levels)
-    && (list_all (λ (l : Level). is_name l.name) levels
-    && all_distinct (λ (l m : Level). bytes_eq m.name l.name) levels)
+    && list_all (λ (l : Level). is_name l.name) levels
+    && all_distinct (λ (l m : Level). bytes_eq m.name l.name) levels
 
 -- the level has this name, and a smaller number than that of the child
 abbrev pub is_parent : Level → Level → Bool
@@ -45,8 +40,8 @@ parents_rule levels = list_all (λ (l : Level). is_empty l.parent || list_any (i
 -- S4: there are 1 to 1,024 access types with distinct names of 1 to 256 characters
 abbrev pub access_types_rule : List AccessType → Bool
 access_types_rule types = has_from_to 1 1024 (length types)
-    && (list_all (λ (t : AccessType). is_name t.name) types
-    && all_distinct (λ (t u : AccessType). bytes_eq u.name t.name) types)
+    && list_all (λ (t : AccessType). is_name t.name) types
+    && all_distinct (λ (t u : AccessType). bytes_eq u.name t.name) types
 
 -- S5: each implied grant names an access type of the definition
 abbrev pub implied_rule : List AccessType → Bool
@@ -55,20 +50,20 @@ implied_rule types = list_all (λ (t : AccessType). list_all (has_access_type ty
 -- S6: there are at most 64 conditions, with distinct names that aren't empty
 abbrev pub conditions_rule : List ConditionDef → Bool
 conditions_rule conditions = nat_le (length conditions) 64
-    && (list_all (λ (c : ConditionDef). not (is_empty c.name)) conditions
-    && all_distinct (λ (c d : ConditionDef). bytes_eq d.name c.name) conditions)
+    && list_all (λ (c : ConditionDef). not (is_empty c.name)) conditions
+    && all_distinct (λ (c d : ConditionDef). bytes_eq d.name c.name) conditions
 
 -- S7: there are at most 64 mask types with distinct names that aren't empty, and the access types and levels of the mask part and of the filter part are those of the definition
 abbrev pub masks_rule : List MaskType → Bool
 masks_rule masks = nat_le (length masks) 64
-    && (list_all (λ (m : MaskType). not (is_empty m.name)) masks
-    && all_distinct (λ (m n : MaskType). bytes_eq n.name m.name) masks)
+    && list_all (λ (m : MaskType). not (is_empty m.name)) masks
+    && all_distinct (λ (m n : MaskType). bytes_eq n.name m.name) masks
 
 abbrev pub parts_rule : ServiceDef → Bool
 parts_rule def = list_all (has_access_type def.access_types.items) def.mask_access.items
-    && (list_all (has_level def.levels.items) def.mask_levels.items
-    && (list_all (has_access_type def.access_types.items) def.filter_access.items
-    && list_all (has_level def.levels.items) def.filter_levels.items))
+    && list_all (has_level def.levels.items) def.mask_levels.items
+    && list_all (has_access_type def.access_types.items) def.filter_access.items
+    && list_all (has_level def.levels.items) def.filter_levels.items
 
 unfoldable pub tag_name : List ℕ
 tag_name = codes "tag"

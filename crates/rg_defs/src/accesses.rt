@@ -1,7 +1,7 @@
 // What an access type grants.
 ghost use Rattle.std.specs.Prelude.{◌≡◌, None, IfOk, option_map};
 ghost use Rattle.std.specs.Str.{chars};
-ghost use Rattle.rg_base.specs.Listed.{added, listed};
+ghost use Rattle.rg_base.specs.Listed.{listed};
 ghost use Rattle.rg_defs.specs.Grants.{access_type_of, expand, grants, implied_by};
 ghost use Rattle.rg_defs.specs.Rules.{def_fault};
 
@@ -26,28 +26,15 @@ fn implied_by<'a>(def: &'a ServiceDef, name: &str) -> &'a [Text]
     }
 }
 
-fn pushed(mut list: Seq<Text>, text: &Text, alloc: Global) -> Result<Seq<Text>, NoMemory>
-    ensures { IfOk result (λ longer. longer ≡ added list text.now) }
-{
-    let copy = text.try_copy(alloc)?;
-    if list.push(copy).is_err() {
-        return Err(NoMemory);
-    }
-    Ok(list)
-}
-
 /// The access, then its implied grants as they are listed; the access alone where the definition has no such type.
 pub fn expand(alloc: Global, def: &ServiceDef, access: &str) -> Result<Seq<Text>, NoMemory>
     requires { def_fault def.now ≡ None }
     ensures { IfOk result (λ list. list ≡ listed (expand def.now (chars access.now))) }
 {
     let mut list = Seq::new(alloc);
-    let first = Text::copy_of(alloc, access)?;
-    if list.push(first).is_err() {
-        return Err(NoMemory);
-    }
-    for text in implied_by(def, access) {
-        list = pushed(list, text, alloc)?;
+    list.add(Text::copy_of(alloc, access)?)?;
+    for grant in implied_by(def, access) {
+        list.add(grant.try_copy(alloc)?)?;
     }
     Ok(list)
 }

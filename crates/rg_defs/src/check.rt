@@ -1,13 +1,14 @@
 // The rules of a service definition.
-ghost use Rattle.std.specs.Prelude.{◌≡◌, not, None, IfErr, OnOk};
+ghost use Rattle.std.specs.Prelude.{◌≡◌, ◌≤◌, ◌&&◌, ℕ, not, map, None, Some, IfErr, IfOk, OnErr, OnOk};
 ghost use Rattle.std.specs.List.{list_all, list_any};
 ghost use Rattle.std.specs.Str.{bytes_eq, chars};
-ghost use Rattle.rg_base.specs.Texts.{is_name};
+ghost use Rattle.rg_base.specs.Texts.{is_among, is_empty, is_name};
 ghost use Rattle.rg_defs.specs.Faults.{Names};
-ghost use Rattle.rg_defs.specs.Rules.{access_types_rule, conditions_rule, def_fault, has_access_type, has_from_to, has_level, implied_rule, is_empty, is_parent, is_tag_level, levels_rule, masks_rule, name_rule, parents_rule, parts_rule, tag_name, tag_rule};
+ghost use Rattle.rg_defs.specs.declared.service_def.AccessType.{AccessType};
+ghost use Rattle.rg_defs.specs.Rules.{access_types_rule, conditions_rule, def_fault, has_from_to, has_level, implied_rule, is_parent, is_tag_level, levels_rule, masks_rule, name_rule, parents_rule, parts_rule, tag_name, tag_rule};
 
 use crate::service_def::{AccessType, ConditionDef, Level, MaskType, ServiceDef};
-use rg_base::{Text, is_name, is_named, names_distinct, same_text, split_char};
+use rg_base::{NameIndex, NoMemory, Text, is_empty, is_name, is_named, names_distinct, same_text};
 use std::alloc::Global;
 
 /// Why a definition is refused.
@@ -17,6 +18,16 @@ pub enum DefFault {
     Rule(u8),
     /// Memory was refused.
     NoMemory,
+}
+
+impl From<NoMemory> for DefFault {
+    ghost use Rattle.rg_defs.specs.declared.check.DefFault.TheVariants.{NoMemory as Refused};
+
+    ghost from_gives = { λ _ fault. fault ≡ Refused };
+
+    fn from(_refused: NoMemory) -> DefFault {
+        DefFault::NoMemory
+    }
 }
 
 fn name_rule(def: &ServiceDef) -> bool
@@ -40,7 +51,7 @@ fn level_names_fit(levels: &[Level]) -> bool
 fn levels_rule(levels: &[Level]) -> bool
     ensures { result ≡ levels_rule levels.now }
 {
-    has_from_to(1, 16, levels.len()) && (level_names_fit(levels) && names_distinct(levels))
+    has_from_to(1, 16, levels.len()) && level_names_fit(levels) && names_distinct(levels)
 }
 
 /// Whether a level of the parent's name stands above the child.
@@ -57,12 +68,6 @@ fn parents_rule(levels: &[Level]) -> bool
     levels.iter().all(|level| is_empty(level.parent.as_str()) || has_parent(levels, level))
 }
 
-fn is_empty(text: &str) -> bool
-    ensures { result ≡ is_empty (chars text.now) }
-{
-    split_char(text).is_none()
-}
-
 fn access_names_fit(types: &[AccessType]) -> bool
     ensures { result ≡ list_all (λ (t : AccessType). is_name t.name) types.now }
 {
@@ -72,27 +77,34 @@ fn access_names_fit(types: &[AccessType]) -> bool
 fn access_types_rule(types: &[AccessType]) -> bool
     ensures { result ≡ access_types_rule types.now }
 {
-    has_from_to(1, 1024, types.len()) && (access_names_fit(types) && names_distinct(types))
+    has_from_to(1, 1024, types.len()) && access_names_fit(types) && names_distinct(types)
 }
 
-fn are_access_types(types: &[AccessType], names: &[Text]) -> bool
-    ensures { result ≡ list_all (has_access_type types.now) names.now }
+fn are_known(known: &NameIndex, names: &[Text]) -> bool
+    ensures { result ≡ list_all (λ n. is_among n known.now) names.now }
 {
-    names.iter().all(|name| is_named(types, name.as_str()))
+    names.iter().all(|name| known.contains(name.as_str()))
 }
 
-fn implied_rule(types: &[AccessType]) -> bool
-    ensures { result ≡ implied_rule types.now }
+fn are_implied_known(known: &NameIndex, types: &[AccessType]) -> bool
+    ensures { result ≡ list_all (λ (t : AccessType). list_all (λ n. is_among n known.now) t.implied.items) types.now }
 {
     types
         .iter()
-        .all(|kind| are_access_types(types, kind.implied.as_slice()))
+        .all(|kind| are_known(known, kind.implied.as_slice()))
+}
+
+fn implied_rule(known: &NameIndex, types: &[AccessType]) -> bool
+    requires { known.now ≡ map (λ (t : AccessType). t.name) types.now }
+    ensures { result ≡ implied_rule types.now }
+{
+    are_implied_known(known, types)
 }
 
 fn conditions_rule(conditions: &[ConditionDef]) -> bool
     ensures { result ≡ conditions_rule conditions.now }
 {
-    conditions.len() <= 64 && (conditions_have_names(conditions) && names_distinct(conditions))
+    conditions.len() <= 64 && conditions_have_names(conditions) && names_distinct(conditions)
 }
 
 fn conditions_have_names(conditions: &[ConditionDef]) -> bool
@@ -106,7 +118,7 @@ fn conditions_have_names(conditions: &[ConditionDef]) -> bool
 fn masks_rule(masks: &[MaskType]) -> bool
     ensures { result ≡ masks_rule masks.now }
 {
-    masks.len() <= 64 && (masks_have_names(masks) && names_distinct(masks))
+    masks.len() <= 64 && masks_have_names(masks) && names_distinct(masks)
 }
 
 fn masks_have_names(masks: &[MaskType]) -> bool
@@ -121,15 +133,22 @@ fn are_levels(levels: &[Level], names: &[Text]) -> bool
     names.iter().all(|name| is_named(levels, name.as_str()))
 }
 
-fn parts_rule(def: &ServiceDef) -> bool
+fn parts_are_known(known: &NameIndex, def: &ServiceDef) -> bool
+    ensures { result ≡ (list_all (λ n. is_among n known.now) def.now.mask_access.items && list_all (has_level def.now.levels.items) def.now.mask_levels.items
+        && list_all (λ n. is_among n known.now) def.now.filter_access.items && list_all (has_level def.now.levels.items) def.now.filter_levels.items) }
+{
+    let levels = def.levels.as_slice();
+    are_known(known, def.mask_access.as_slice())
+        && are_levels(levels, def.mask_levels.as_slice())
+        && are_known(known, def.filter_access.as_slice())
+        && are_levels(levels, def.filter_levels.as_slice())
+}
+
+fn parts_rule(known: &NameIndex, def: &ServiceDef) -> bool
+    requires { known.now ≡ map (λ (t : AccessType). t.name) def.now.access_types.items }
     ensures { result ≡ parts_rule def.now }
 {
-    let types = def.access_types.as_slice();
-    let levels = def.levels.as_slice();
-    are_access_types(types, def.mask_access.as_slice())
-        && (are_levels(levels, def.mask_levels.as_slice())
-            && (are_access_types(types, def.filter_access.as_slice())
-                && are_levels(levels, def.filter_levels.as_slice())))
+    parts_are_known(known, def)
 }
 
 /// The name of tag definitions, and of their one level.
@@ -162,39 +181,43 @@ fn tag_rule(def: &ServiceDef) -> bool
 }
 
 #[tactic(auto, unfolding(crate::specs::Rules::def_fault))]
-fn first_fault(def: &ServiceDef) -> Option<u8>
-    ensures { result ≡ def_fault def.now }
+fn first_fault(alloc: Global, def: &ServiceDef) -> Result<Option<u8>, NoMemory>
+    ensures fault { IfOk result (λ fault. fault ≡ def_fault def.now) }
+    ensures late { OnErr result ((number : ℕ) → def_fault def.now ≡ Some number → 5 ≤ number) }
 {
+    let levels = def.levels.as_slice();
+    let types = def.access_types.as_slice();
     if !name_rule(def) {
-        return Some(1);
+        return Ok(Some(1));
     }
-    if !levels_rule(def.levels.as_slice()) {
-        return Some(2);
+    if !levels_rule(levels) {
+        return Ok(Some(2));
     }
-    if !parents_rule(def.levels.as_slice()) {
-        return Some(3);
+    if !parents_rule(levels) {
+        return Ok(Some(3));
     }
-    if !access_types_rule(def.access_types.as_slice()) {
-        return Some(4);
+    if !access_types_rule(types) {
+        return Ok(Some(4));
     }
-    if !implied_rule(def.access_types.as_slice()) {
-        return Some(5);
+    let known = NameIndex::build(alloc, types)?;
+    if !implied_rule(&known, types) {
+        return Ok(Some(5));
     }
     if !conditions_rule(def.conditions.as_slice()) {
-        return Some(6);
+        return Ok(Some(6));
     }
-    if !masks_rule(def.masks.as_slice()) || !parts_rule(def) {
-        return Some(7);
+    if !masks_rule(def.masks.as_slice()) || !parts_rule(&known, def) {
+        return Ok(Some(7));
     }
-    if tag_rule(def) { None } else { Some(8) }
+    Ok(if tag_rule(def) { None } else { Some(8) })
 }
 
 /// Whether the definition is lawful; if not, the least of its rules that fails.
-pub fn check_def(_alloc: Global, def: &ServiceDef) -> Result<(), DefFault>
+pub fn check_def(alloc: Global, def: &ServiceDef) -> Result<(), DefFault>
     ensures ok { OnOk result (def_fault def.now ≡ None) }
     ensures fault { IfErr result (λ e. Names e (def_fault def.now)) }
 {
-    match first_fault(def) {
+    match first_fault(alloc, def)? {
         None => Ok(()),
         Some(number) => Err(DefFault::Rule(number)),
     }

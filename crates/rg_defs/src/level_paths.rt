@@ -1,14 +1,14 @@
 // The paths of a definition's levels.
-ghost use Rattle.std.specs.Prelude.{◌≡◌, ◌<◌, ◌≤◌, ◌+◌, ℕ, None, IfOk, IfSome, length, map, option_map, reverse};
-ghost use Rattle.std.specs.List.{list_all, list_any};
+ghost use Rattle.std.specs.Prelude.{◌≡◌, ◌<◌, ◌≤◌, ◌+◌, None, IfOk, IfSome, length, map, option_map, reverse};
+ghost use Rattle.std.specs.List.{list_any};
 ghost use Rattle.std.specs.Str.{chars};
-ghost use Rattle.rg_base.specs.Listed.{Listed, listed};
+ghost use Rattle.rg_base.specs.Listed.{listed};
 ghost use Rattle.rg_defs.specs.Paths.{level_of, parent_of, place_of};
-ghost use Rattle.rg_defs.specs.PathTests.{climb, first_paths, has_name, is_leaf, is_some_place, lies_on, on_one_path, path_to, paths_of};
+ghost use Rattle.rg_defs.specs.PathTests.{climb, first_paths, has_name, is_leaf, is_some_place, lies_on, path_to, paths_of};
 ghost use Rattle.rg_defs.specs.Rules.{def_fault};
 
 use crate::service_def::{Level, ServiceDef};
-use rg_base::{Named, NoMemory, Seq, find_named, place_named, same_text};
+use rg_base::{NoMemory, Seq, find_named, place_named, same_text};
 use std::alloc::Global;
 
 /// The definition's level of this name, None where it has none.
@@ -49,10 +49,7 @@ fn path_to(alloc: Global, levels: &[Level], place: usize) -> Result<Seq<u32>, No
         let Some(here) = at else {
             return Ok(turned(upwards));
         };
-        match upwards.push(here as u32) {
-            Ok(()) => {}
-            Err(_) => return Err(NoMemory),
-        }
+        upwards.push(here as u32)?;
         at = parent_of(levels, here);
     }
     Ok(turned(upwards))
@@ -96,10 +93,7 @@ fn with_path(
     if !is_leaf(levels, place) {
         return Ok(list);
     }
-    let path = path_to(alloc, levels, place)?;
-    if list.push(path).is_err() {
-        return Err(NoMemory);
-    }
+    list.add(path_to(alloc, levels, place)?)?;
     Ok(list)
 }
 
@@ -139,28 +133,4 @@ pub fn lies_on(levels: &[Level], path: &[u32], name: &str) -> bool
 {
     path.iter()
         .any(|place| has_name(levels, name, *place as usize))
-}
-
-fn all_lie_on<T: Named>(levels: &[Level], path: &[u32], things: &[T]) -> bool
-    ensures { result ≡ list_all (λ x. lies_on levels.now path.now (T.named x)) things.now }
-{
-    things
-        .iter()
-        .all(|thing| lies_on(levels, path, thing.name()))
-}
-
-fn on_some_path<T: Named>(levels: &[Level], paths: &[Seq<u32>], things: &[T]) -> bool
-    ensures { result ≡ list_any (λ (p : Listed ℕ). list_all (λ x. lies_on levels.now p.items (T.named x)) things.now) paths.now }
-{
-    paths
-        .iter()
-        .any(|path| all_lie_on(levels, path.as_slice(), things))
-}
-
-/// Whether levels with the names of all these things lie on one path. The paths are those of the levels.
-pub fn on_one_path<T: Named>(levels: &[Level], paths: &[Seq<u32>], things: &[T]) -> bool
-    requires { paths.now ≡ map listed (paths_of levels.now) }
-    ensures { result ≡ on_one_path levels.now (map T.named things.now) }
-{
-    on_some_path(levels, paths, things)
 }

@@ -152,3 +152,11 @@ impl Named for MaskType {
         self.name.as_str()
     }
 }
+
+impl Named for ServiceDef {
+    ghost named = { λ d. d.name };
+
+    fn name(&self) -> &str {
+        self.name.as_str()
+    }
+}

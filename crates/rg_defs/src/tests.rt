@@ -1,9 +1,9 @@
 // Tests of what no contract says: copies, and definitions written out by hand with what has to be answered.
 use crate::{
-    AccessType, ConditionDef, DefFault, Level, MaskType, ServiceDef, check_def, expand, grants,
-    mandatory_named, on_one_path, paths,
+    AccessType, ConditionDef, DefFault, Level, MaskType, Paths, ServiceDef, check_def, expand,
+    grants, mandatory_named, paths,
 };
-use rg_base::{NoMemory, Seq, Text, TryCopy};
+use rg_base::{NoMemory, Pair, Seq, Text, TryCopy};
 use std::alloc::Global;
 
 /// A definition, a line for each of its parts: `level NAME NUMBER PARENT`, `access NAME IMPLIED`. Of the words
@@ -99,13 +99,6 @@ fn word(alloc: Global, written: &str) -> Result<Text, NoMemory> {
     }
 }
 
-fn put<T: Drop>(list: &mut Seq<T>, item: T) -> Result<(), NoMemory> {
-    match list.push(item) {
-        Ok(()) => Ok(()),
-        Err(_) => Err(NoMemory),
-    }
-}
-
 fn level(alloc: Global, name: Text, number: i64, parent: Text) -> Level {
     Level {
         name,
@@ -125,24 +118,28 @@ fn texts(alloc: Global, written: &str) -> Result<Seq<Text>, NoMemory> {
         return Ok(list);
     }
     for name in written.split(',') {
-        put(&mut list, word(alloc, name)?)?;
+        list.add(word(alloc, name)?)?;
     }
     Ok(list)
 }
 
-fn condition(alloc: Global, name: Text) -> ConditionDef {
-    ConditionDef {
+fn add_condition(alloc: Global, def: &mut ServiceDef, name: Text) -> Result<(), NoMemory> {
+    let mut condition = ConditionDef {
         name,
         evaluator: Text::empty(alloc),
         options: Seq::new(alloc),
-    }
+    };
+    condition.evaluator.append("by")?;
+    condition.options.add(Pair {
+        key: Text::copy_of(alloc, "key")?,
+        value: Text::copy_of(alloc, "value")?,
+    })?;
+    def.conditions.add(condition)
 }
 
-fn mask(alloc: Global, name: Text) -> MaskType {
-    MaskType {
-        name,
-        transformer: Text::empty(alloc),
-    }
+fn add_mask(alloc: Global, def: &mut ServiceDef, name: Text) -> Result<(), NoMemory> {
+    let transformer = Text::copy_of(alloc, "left({col},1)")?;
+    def.masks.add(MaskType { name, transformer })
 }
 
 /// So many roots, named by more and more letters.
@@ -151,7 +148,7 @@ fn put_levels(alloc: Global, def: &mut ServiceDef, count: i64) -> Result<(), NoM
         let name = letters(alloc, at)?;
         let mut named = name;
         named.push('b')?;
-        put(&mut def.levels, level(alloc, named, 10, Text::empty(alloc)))?;
+        def.levels.add(level(alloc, named, 10, Text::empty(alloc)))?;
     }
     Ok(())
 }
@@ -164,7 +161,7 @@ fn put_accesses(alloc: Global, def: &mut ServiceDef, count: i64) -> Result<(), N
             name,
             implied: Seq::new(alloc),
         };
-        put(&mut def.access_types, kind)?;
+        def.access_types.add(kind)?;
     }
     Ok(())
 }
@@ -189,17 +186,17 @@ fn put_access(
         name,
         implied: texts(alloc, implied)?,
     };
-    put(&mut def.access_types, kind)
+    def.access_types.add(kind)
 }
 
 fn put_name(alloc: Global, def: &mut ServiceDef, kind: &str, name: Text) -> Result<(), NoMemory> {
     match kind {
-        "condition" => put(&mut def.conditions, condition(alloc, name)),
-        "mask" => put(&mut def.masks, mask(alloc, name)),
-        "mask_access" => put(&mut def.mask_access, name),
-        "mask_level" => put(&mut def.mask_levels, name),
-        "filter_access" => put(&mut def.filter_access, name),
-        "filter_level" => put(&mut def.filter_levels, name),
+        "condition" => add_condition(alloc, def, name),
+        "mask" => add_mask(alloc, def, name),
+        "mask_access" => def.mask_access.add(name),
+        "mask_level" => def.mask_levels.add(name),
+        "filter_access" => def.filter_access.add(name),
+        "filter_level" => def.filter_levels.add(name),
         _ => {
             def.name = name;
             Ok(())
@@ -225,7 +222,7 @@ fn put_line(alloc: Global, def: &mut ServiceDef, line: &str) -> Result<(), NoMem
                 number(second),
                 word(alloc, third)?,
             );
-            put(&mut def.levels, made)
+            def.levels.add(made)
         }
         _ => put_name(alloc, def, kind, word(alloc, first)?),
     }
@@ -281,14 +278,118 @@ fn rules(rt: HostRuntime) {
     }
 }
 
+/// A record that can be written out.
+trait Show {
+    /// Writes the fields in turn: a blank behind each text and number, `+` and `-` for true and false, brackets round
+    /// a list.
+    fn show(&self, out: &mut Text) -> Result<(), NoMemory>;
+}
+
+impl Show for Text {
+    fn show(&self, out: &mut Text) -> Result<(), NoMemory> {
+        out.append(self.as_str())?;
+        out.push(' ')
+    }
+}
+
+impl Show for bool {
+    fn show(&self, out: &mut Text) -> Result<(), NoMemory> {
+        out.push(if *self { '+' } else { '-' })
+    }
+}
+
+impl<T: Show> Show for Seq<T> {
+    fn show(&self, out: &mut Text) -> Result<(), NoMemory> {
+        out.push('[')?;
+        for item in self.as_slice() {
+            item.show(out)?;
+        }
+        out.push(']')
+    }
+}
+
+/// But for the number.
+impl Show for Level {
+    fn show(&self, out: &mut Text) -> Result<(), NoMemory> {
+        self.name.show(out)?;
+        self.parent.show(out)?;
+        for mark in [
+            self.mandatory,
+            self.recursive,
+            self.excludes,
+            self.wild,
+            self.fold,
+        ] {
+            mark.show(out)?;
+        }
+        Ok(())
+    }
+}
+
+impl Show for AccessType {
+    fn show(&self, out: &mut Text) -> Result<(), NoMemory> {
+        self.name.show(out)?;
+        self.implied.show(out)
+    }
+}
+
+impl Show for Pair {
+    fn show(&self, out: &mut Text) -> Result<(), NoMemory> {
+        self.key.show(out)?;
+        self.value.show(out)
+    }
+}
+
+impl Show for ConditionDef {
+    fn show(&self, out: &mut Text) -> Result<(), NoMemory> {
+        self.name.show(out)?;
+        self.evaluator.show(out)?;
+        self.options.show(out)
+    }
+}
+
+impl Show for MaskType {
+    fn show(&self, out: &mut Text) -> Result<(), NoMemory> {
+        self.name.show(out)?;
+        self.transformer.show(out)
+    }
+}
+
+impl Show for ServiceDef {
+    fn show(&self, out: &mut Text) -> Result<(), NoMemory> {
+        self.name.show(out)?;
+        self.levels.show(out)?;
+        self.access_types.show(out)?;
+        self.conditions.show(out)?;
+        self.masks.show(out)?;
+        for names in [
+            &self.mask_access,
+            &self.mask_levels,
+            &self.filter_access,
+            &self.filter_levels,
+        ] {
+            names.show(out)?;
+        }
+        Ok(())
+    }
+}
+
+/// The definition, written out.
+const SHOWN: &str =
+    "hive [database  +-+++url  +-+++table database --+++udf database --+++column table --+++]\
+[select []update []create []drop []alter []all [select update create drop alter ]]\
+[resources-accessed-together by [key value ]ip-range by [key value ]][MASK left({col},1) CUSTOM left({col},1) ]\
+[select ][database table column ][select ][database table ]";
+
 #[test]
 fn copies(rt: HostRuntime) {
     let def = changed(rt.alloc(), "none", "").expect(&rt, "ample memory");
     let copy = def.try_copy(rt.alloc()).expect(&rt, "ample memory");
-    assert_eq!(rt; copy.name.as_str(), "hive");
+    let mut shown = Text::empty(rt.alloc());
+    copy.show(&mut shown).expect(&rt, "ample memory");
+    assert_eq!(rt; shown.as_str(), SHOWN);
     assert_eq!(rt; copy.levels.len(), 5);
     assert_eq!(rt; copy.levels.as_slice()[4].level, 30);
-    assert_eq!(rt; copy.filter_levels.len(), 2);
 }
 
 /// Levels that are named, whether they lie on one path, and whether the mandatory ones above them are named.
@@ -312,7 +413,7 @@ Database|no|yes";
 fn levels_on_paths(rt: HostRuntime) {
     let def = changed(rt.alloc(), "none", "").expect(&rt, "ample memory");
     check_def(rt.alloc(), &def).expect(&rt, "a lawful definition");
-    let found = paths(rt.alloc(), &def).expect(&rt, "ample memory");
+    let found = Paths::of(rt.alloc(), &def).expect(&rt, "ample memory");
     for row in NAMED.lines() {
         let mut fields = row.split('|');
         let names = texts(rt.alloc(), fields.next().expect(&rt, "names")).expect(
@@ -323,11 +424,7 @@ fn levels_on_paths(rt: HostRuntime) {
         let met = fields.next().expect(&rt, "an answer") == "yes";
         let levels = def.levels.as_slice();
         let named = names.as_slice();
-        assert_eq!(rt;
-            on_one_path(levels, found.as_slice(), named),
-            on_one,
-            "{row}"
-        );
+        assert_eq!(rt; found.on_one_path(named), on_one, "{row}");
         assert_eq!(rt; mandatory_named(levels, named), met, "{row}");
     }
 }
@@ -337,13 +434,55 @@ fn paths_in_order(rt: HostRuntime) {
     let def = changed(rt.alloc(), "none", "").expect(&rt, "ample memory");
     check_def(rt.alloc(), &def).expect(&rt, "a lawful definition");
     let found = paths(rt.alloc(), &def).expect(&rt, "ample memory");
-    assert_eq!(rt; found.len(), 3);
-    let [url, udf, column] = found.as_slice() else {
-        return;
+    let kept = Paths::of(rt.alloc(), &def).expect(&rt, "ample memory");
+    assert_eq!(rt; kept.levels().len(), 5);
+    for list in [found.as_slice(), kept.as_slice()] {
+        let [url, udf, column] = list else {
+            panic!(rt; "three paths");
+        };
+        assert!(rt; url.as_slice() == [1].as_slice());
+        assert!(rt; udf.as_slice() == [0, 3].as_slice());
+        assert!(rt; column.as_slice() == [0, 2, 4].as_slice());
+    }
+}
+
+/// Two lists of levels, whether they lie on one path, and the leaf of the first path for the first list.
+const BOTH: &str = "\
+database|udf|yes|udf
+table|udf|no|column
+table|database,column|yes|column
+-|url|yes|url
+database,url|-|no|-";
+
+/// The name of the path's leaf, `-` where there is no path.
+fn leaf_name<'a>(levels: &'a [Level], path: Option<&[u32]>) -> &'a str {
+    let Some([.., leaf]) = path else {
+        return "-";
     };
-    assert!(rt; url.as_slice() == [1].as_slice());
-    assert!(rt; udf.as_slice() == [0, 3].as_slice());
-    assert!(rt; column.as_slice() == [0, 2, 4].as_slice());
+    match levels.get(*leaf as usize) {
+        Some(level) => level.name.as_str(),
+        None => "-",
+    }
+}
+
+#[test]
+fn levels_of_two_lists_on_paths(rt: HostRuntime) {
+    let def = changed(rt.alloc(), "none", "").expect(&rt, "ample memory");
+    check_def(rt.alloc(), &def).expect(&rt, "a lawful definition");
+    let found = Paths::of(rt.alloc(), &def).expect(&rt, "ample memory");
+    for row in BOTH.lines() {
+        let mut fields = row.split('|');
+        let first = fields.next().expect(&rt, "names");
+        let second = fields.next().expect(&rt, "names");
+        let first = texts(rt.alloc(), first).expect(&rt, "ample memory");
+        let second = texts(rt.alloc(), second).expect(&rt, "ample memory");
+        let both = fields.next().expect(&rt, "an answer") == "yes";
+        let leaf = fields.next().expect(&rt, "a level");
+        let on_one = found.both_on_one_path(first.as_slice(), second.as_slice());
+        assert_eq!(rt; on_one, both, "{row}");
+        let path = found.path_for(first.as_slice());
+        assert_eq!(rt; leaf_name(found.levels(), path), leaf, "{row}");
+    }
 }
 
 /// An access type that is given, one that is asked for, and whether it is granted.

@@ -1,8 +1,9 @@
--- The characters of the words for subjects.
+-- The characters of the words that code writes.
 use Rattle.std.proofs.Common.{◌≡◌, refl}
 use Rattle.std.specs.Prelude.{codes}
 use Rattle.std.specs.Str.{chars}
 use Rattle.rg_roles.specs.Members.{everybody}
+use Rattle.rg_effect.specs.PolicyRules.{custom}
 use Rattle.rg_effect.specs.Subjects.{user_word, owner_word}
 
 pub user_chars : chars (codes "{USER}") ≡ user_word
@@ -17,4 +18,8 @@ pub everybody_chars : chars (codes "public") ≡ everybody
 unfolding chars everybody
 everybody_chars = refl
 
-pub ruleset words = (user_chars, owner_chars, everybody_chars)
+pub custom_chars : chars (codes "CUSTOM") ≡ custom
+unfolding chars custom
+custom_chars = refl
+
+pub ruleset words = (user_chars, owner_chars, everybody_chars, custom_chars)

@@ -1,4 +1,3 @@
 pub mod Accesses
-pub mod Asked
-pub mod Effects
+pub mod PolicyRules
 pub mod Subjects

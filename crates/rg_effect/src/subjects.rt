@@ -1,39 +1,51 @@
-// Whom an item names.
+// Whom lists of users, groups and roles name.
 ghost use Rattle.std.specs.Prelude.{◌≡◌};
 ghost use Rattle.std.specs.List.{list_any};
-ghost use Rattle.std.specs.Str.{bytes_eq, chars};
+ghost use Rattle.std.specs.Str.{chars};
 ghost use Rattle.rg_base.specs.Texts.{is_among};
-ghost use Rattle.rg_roles.specs.Holding.{holds};
 ghost use Rattle.rg_roles.specs.Members.{everybody};
-ghost use Rattle.rg_effect.specs.Subjects.{groups_name, is_empty, is_owner, names_asker, owner_word, roles_name, user_word, users_name};
+ghost use Rattle.rg_effect.specs.Subjects.{is_owner, names, names_group, names_role, owner_word, user_word};
 
-use rg_base::{Text, is_among, same_text, split_char};
-use rg_policy::{AccessRequest, Item};
+use rg_base::{Text, is_among, is_empty, same_text};
+use rg_policy::AccessRequest;
 use rg_roles::Roles;
+use std::marker::Model;
 
-fn is_empty(text: &str) -> bool
-    ensures { result ≡ is_empty (chars text.now) }
-{
-    split_char(text).is_none()
+/// The users, groups and roles that an item, a zone or a delegation lists.
+#[derive(Drop)]
+pub struct Subjects<'a> {
+    pub users: &'a [Text],
+    pub groups: &'a [Text],
+    pub roles: &'a [Text],
+}
+
+impl<'a> Model for Subjects<'a> {
+    ghost use Rattle.rg_effect.specs.Subjects.{Subjects as Listed};
+
+    ghost Value = { Listed };
+
+    ghost view = { λ s. record { users = s.users.now; groups = s.groups.now; roles = s.roles.now } };
 }
 
 /// Whether the asker owns the resource.
-fn is_owner(request: &AccessRequest) -> bool
+pub fn is_owner(request: &AccessRequest) -> bool
     ensures { result ≡ is_owner request.now }
 {
     let owner = request.resource.owner.as_str();
     !is_empty(owner) && same_text(owner, request.user.as_str())
 }
 
+/// Whether the users have `{USER}`, which stands for every user.
 #[tactic(auto, using(crate::proofs::Words::words))]
-fn has_user_word(users: &[Text]) -> bool
+pub fn has_user_word(users: &[Text]) -> bool
     ensures { result ≡ is_among user_word users.now }
 {
     is_among("{USER}", users)
 }
 
+/// Whether the users have `{OWNER}`, which stands for the owner of the resource.
 #[tactic(auto, using(crate::proofs::Words::words))]
-fn has_owner_word(users: &[Text]) -> bool
+pub fn has_owner_word(users: &[Text]) -> bool
     ensures { result ≡ is_among owner_word users.now }
 {
     is_among("{OWNER}", users)
@@ -46,41 +58,31 @@ fn has_everybody(groups: &[Text]) -> bool
     is_among("public", groups)
 }
 
-fn users_name(request: &AccessRequest, users: &[Text]) -> bool
-    ensures { result ≡ users_name request.now users.now }
+fn any_among(own: &[Text], groups: &[Text]) -> bool
+    ensures { result ≡ list_any (λ g. is_among g groups.now) own.now }
 {
-    is_among(request.user.as_str(), users)
-        || (has_user_word(users) || (has_owner_word(users) && is_owner(request)))
+    own.iter().any(|group| is_among(group.as_str(), groups))
 }
 
-fn any_among(names: &[Text], texts: &[Text]) -> bool
-    ensures { result ≡ list_any (λ g. is_among g texts.now) names.now }
+fn names_group(own: &[Text], groups: &[Text]) -> bool
+    ensures { result ≡ names_group own.now groups.now }
 {
-    names.iter().any(|name| is_among(name.as_str(), texts))
+    any_among(own, groups) || has_everybody(groups)
 }
 
-fn groups_name(request: &AccessRequest, groups: &[Text]) -> bool
-    ensures { result ≡ groups_name request.now groups.now }
+fn names_role(roles: &Roles, user: &str, own: &[Text], named: &[Text]) -> bool
+    ensures { result ≡ names_role roles.now (chars user.now) own.now named.now }
 {
-    any_among(request.groups.as_slice(), groups) || has_everybody(groups)
-}
-
-fn roles_name(roles: &Roles, request: &AccessRequest, named: &[Text]) -> bool
-    ensures { result ≡ roles_name roles.now request.now named.now }
-{
-    let user = request.user.as_str();
-    let groups = request.groups.as_slice();
     named
         .iter()
-        .any(|role| roles.holds(role.as_str(), user, groups))
+        .any(|role| roles.holds(role.as_str(), user, own))
 }
 
-/// Whether one of the item's subjects is the asker: by name, as `{USER}`, as the owner of the resource, by a group, as
-/// `public`, or by a role.
-pub fn names_asker(roles: &Roles, request: &AccessRequest, item: &Item) -> bool
-    ensures { result ≡ names_asker roles.now request.now item.now }
+/// Whether the subjects name the user, who has these groups: as a user, by one of the groups or `public`, or by a role. The
+/// words `{USER}` and `{OWNER}` are names like any other here. Roles are asked last.
+pub fn names(roles: &Roles, user: &str, own: &[Text], subjects: &Subjects) -> bool
+    ensures { result ≡ names roles.now (chars user.now) own.now subjects.now }
 {
-    users_name(request, item.users.as_slice())
-        || (groups_name(request, item.groups.as_slice())
-            || roles_name(roles, request, item.roles.as_slice()))
+    is_among(user, subjects.users)
+        || (names_group(own, subjects.groups) || names_role(roles, user, own, subjects.roles))
 }

@@ -1,12 +1,11 @@
 -- Lists without repeats.
-use Rattle.std.proofs.Common.{ℤ, pos, arith, cond, ◌≡◌, ◌&&◌, ◌<◌, ◌≤◌, ◌+◌, ◌-◌, ◌||◌, ℕ, zero, suc, Bool, true, false, not, List, [], ◌∷◌, length, drop, get_or, map, refl, ap, sym, ◌∙◌, add-one}
+use Rattle.std.proofs.Common.{ℤ, pos, arith, cond, ◌≡◌, ◌&&◌, ◌<◌, ◌≤◌, ◌+◌, ◌-◌, ◌||◌, ℕ, zero, suc, Bool, true, false, not, List, [], ◌∷◌, length, drop, get_or, refl, ap, sym, ◌∙◌, add-one}
 use Rattle.std.proofs.Math.Seq.{drop-cons}
 use Rattle.std.proofs.lemmas.Cmp.{int_eq_equiv}
 use Rattle.std.specs.BTreeMap.{is_at}
 use Rattle.std.specs.List.{list_any}
 use Rattle.std.specs.Ordering.{int_cmp, int_eq}
 use Rattle.rg_base.specs.Texts.{all_distinct}
-use Rattle.rg_facts.proofs.Mapped.{any_mapped}
 
 and_false : (b : Bool) → (b && false) ≡ false
 and_false true = refl
@@ -24,13 +23,6 @@ pub repeat_at : {X : Type 0} (same : X → X → Bool) (n : ℕ) (xs : List X) (
 repeat_at same n xs x h is again = repeat_of_rest same n xs (
     ap (all_distinct same) (drop-cons xs n x h ∙ ap (λ y. y ∷ drop (suc n) xs) (sym is))
     ∙ ap (λ b. not b && all_distinct same (drop (suc n) xs)) (ap (λ m. list_any (same x) (drop m xs)) (sym (add-one n)) ∙ again))
-
--- what was made of the elements is distinct where the elements are told apart by it
-pub distinct_mapped : {X Y : Type 0} (same : Y → Y → Bool) (g : X → Y) (xs : List X) → all_distinct same (map g xs) ≡ all_distinct (λ x y. same (g x) (g y)) xs
-distinct_mapped same g [] = refl
-distinct_mapped same g (x ∷ xs) =
-    ap (λ b. not b && all_distinct same (map g xs)) (any_mapped (same (g x)) g xs)
-    ∙ ap (λ b. not (list_any (λ y. same (g x) (g y)) xs) && b) (distinct_mapped same g xs)
 
 -- the rest of a list begins with the element at its place
 pub drop_before : {X : Type 0} (xs : List X) (n : ℕ) (d : X) → 0 < n → n ≤ length xs → drop (n - 1) xs ≡ get_or xs (n - 1) d ∷ drop n xs

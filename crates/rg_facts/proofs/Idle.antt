@@ -1,85 +1,102 @@
--- A policy that takes no part stands in no cell and offers nothing.
-use Rattle.std.proofs.Common.{◌≡◌, inl, inr, ◌&&◌, ℤ, pos, Bool, true, false, cond, List, [], ◌∷◌, ◌++◌, refl, ap, ◌∙◌}
-use Rattle.std.specs.List.{filter, flat_map}
-use Rattle.std.specs.Ordering.{int_eq}
+-- Policies that take no part may be left out.
+use Rattle.std.proofs.Common.{◌≡◌, ◌++◌, ℕ, Bool, false, List, [], ◌∷◌, map, Option, Some, None, Contains, refl, ap, sym, ◌∙◌}
+use Rattle.std.specs.List.{cons_option, filter_map, flat_map}
+use Rattle.rg_base.proofs.Lists.{Contains-first, Contains-later}
 use Rattle.rg_policy.specs.declared.policy.Policy.{Policy}
 use Rattle.rg_policy.specs.declared.tags.Tag.{Tag}
-use Rattle.rg_effect.specs.declared.effect.Effect.{Effect}
-use Rattle.rg_effect.specs.declared.effect.Effect.TheVariants.{Nothing, Allow, Deny}
-use Rattle.rg_effect.specs.Effects.{effect_of, same_effect}
-use Rattle.rg_facts.specs.Asks.{Ask, question, takes_part}
-use Rattle.rg_facts.specs.Choices.{Choice, items_of, goes_before, matching, offered, type_of}
+use Rattle.rg_facts.specs.Best.{after, best_from, none_yet, outcome_by, ranked, ranks_before}
+use Rattle.rg_facts.specs.Candidates.{Candidate, Setting, takes_part}
+use Rattle.rg_facts.specs.Choices.{goes_before, offered}
 use Rattle.rg_facts.specs.Firsts.{first_by}
-use Rattle.rg_facts.specs.Flow.{effect_in, least_of, stands_in}
-use Rattle.rg_facts.specs.Order.{In}
-use Rattle.rg_facts.specs.declared.choices.Kind.{Kind}
-use Rattle.rg_facts.proofs.Asked.{gives_something, offers, resource_bests, resource_same, standing, tag_bests, tag_same}
+use Rattle.rg_facts.specs.Flow.{outcome_from, outcome_of}
+use Rattle.rg_facts.specs.declared.best.Pass.TheVariants.{All}
+use Rattle.rg_facts.specs.declared.choice.Kind.TheVariants.{Mask, Filter}
+use Rattle.rg_facts.proofs.Cells.{decider_is}
+use Rattle.rg_facts.proofs.Least.{best_from_none, by_place, by_rank}
+use Rattle.rg_facts.proofs.Passes.{after_all, mapped_both}
+use Rattle.rg_facts.proofs.Taking.{unoffered, unranked}
 
-and_false : (b : Bool) → (b && false) ≡ false
-and_false true = refl
-and_false false = refl
+-- ---- what candidates give rests on three lists
 
--- what fails the test may be left out
-filter_without : {X : Type 0} (f : X → Bool) (before : List X) (x : X) (after : List X) → f x ≡ false → filter f (before ++ x ∷ after) ≡ filter f (before ++ after)
-filter_without f [] x after h = ap (λ b. cond b (x ∷ filter f after) (filter f after)) h
-filter_without f (y ∷ before) x after h = ap (λ rest. cond (f y) (y ∷ rest) rest) (filter_without f before x after h)
+pub by_lists : (fallback : Bool) (s : Setting) (xs ys : List Candidate) → filter_map (ranked s) xs ≡ filter_map (ranked s) ys → filter_map (offered s Filter) xs ≡ filter_map (offered s Filter) ys
+    → filter_map (offered s Mask) xs ≡ filter_map (offered s Mask) ys → outcome_of fallback s xs ≡ outcome_of fallback s ys
+unfolding outcome_of
+by_lists fallback s xs ys ranks filters masks = λ i. outcome_from fallback
+    ((decider_is s xs ∙ ap (first_by ranks_before) ranks ∙ sym (decider_is s ys)) i)
+    (first_by goes_before (filters i))
+    (first_by goes_before (masks i))
 
--- what gives nothing may be left out
-flat_without : {X Y : Type 0} (f : X → List Y) (before : List X) (x : X) (after : List X) → f x ≡ [] → flat_map f (before ++ x ∷ after) ≡ flat_map f (before ++ after)
-flat_without f [] x after h = ap (λ ys. ys ++ flat_map f after) h
-flat_without f (y ∷ before) x after h = ap (λ rest. f y ++ rest) (flat_without f before x after h)
+-- asking them one after the other gives it
+pub by_asking : (fallback : Bool) (s : Setting) (cs : List Candidate) → outcome_by fallback (after All s cs none_yet) ≡ outcome_of fallback s cs
+unfolding outcome_of
+by_asking fallback s cs =
+    (λ i. outcome_by fallback (after_all s cs none_yet i))
+    ∙ (λ i. outcome_from fallback
+    ((best_from_none ranks_before by_rank (filter_map (ranked s) cs) ∙ sym (decider_is s cs)) i)
+    (best_from_none goes_before by_place (filter_map (offered s Filter) cs) i)
+    (best_from_none goes_before by_place (filter_map (offered s Mask) cs) i))
 
--- what agrees on a list gives the same of it
-flat_same : {X Y : Type 0} (f g : X → List Y) (xs : List X) → ((x : X) → In x xs → f x ≡ g x) → flat_map f xs ≡ flat_map g xs
-flat_same f g [] h = refl
-flat_same f g (x ∷ xs) h = λ i. h x (inl refl) i ++ flat_same f g xs (λ y later. h y (inr later)) i
+-- ---- one that gives nothing
 
-idle_gives : (a : Ask) (p : Policy) → takes_part a p ≡ false → effect_in a p ≡ Nothing
-unfolding effect_in
-idle_gives a p h =
-    ap (λ b. cond (int_eq p.policy_type (pos 0) && b) (effect_of (question a) p) Nothing) h
-    ∙ ap (λ b. cond b (effect_of (question a) p) Nothing) (and_false (int_eq p.policy_type (pos 0)))
+mapped_mapped : {X Y Z : Type 0} (f : Y → Option Z) (g : X → Y) (xs : List X) → filter_map f (map g xs) ≡ filter_map (λ x. f (g x)) xs
+mapped_mapped f g [] = refl
+mapped_mapped f g (x ∷ xs) = ap (cons_option (f (g x))) (mapped_mapped f g xs)
 
-nothing_differs : (e : Effect) → gives_something e ≡ true → same_effect e Nothing ≡ false
-nothing_differs Nothing h = let bad : false ≡ true = h in cc
-nothing_differs Allow h = refl
-nothing_differs Deny h = refl
+without_one : {X Y : Type 0} (f : X → Option Y) (x : X) (xs ys : List X) → f x ≡ None → filter_map f (xs ++ x ∷ ys) ≡ filter_map f (xs ++ ys)
+without_one f x xs ys e =
+    mapped_both f xs (x ∷ ys)
+    ∙ ap (λ o. filter_map f xs ++ cons_option o (filter_map f ys)) e
+    ∙ sym (mapped_both f xs ys)
 
-idle_stands : (a : Ask) (p : Policy) (priority : ℤ) (e : Effect) → gives_something e ≡ true → takes_part a p ≡ false → stands_in priority e (a, p) ≡ false
-idle_stands a p priority e some idle =
-    ap (λ given. int_eq p.priority priority && same_effect e given) (idle_gives a p idle)
-    ∙ ap (λ b. int_eq p.priority priority && b) (nothing_differs e some)
-    ∙ and_false (int_eq p.priority priority)
+one_less : {Y : Type 0} (f : Candidate → Option Y) (made : Policy → Candidate) (p : Policy) (before later : List Policy) → f (made p) ≡ None
+    → filter_map f (map made (before ++ p ∷ later)) ≡ filter_map f (map made (before ++ later))
+one_less f made p before later e =
+    mapped_mapped f made (before ++ p ∷ later)
+    ∙ without_one (λ x. f (made x)) p before later e
+    ∙ sym (mapped_mapped f made (before ++ later))
 
-idle_offers : (a : Ask) (p : Policy) (kind : Kind) (priority : ℤ) → takes_part a p ≡ false → offered kind priority (a, p) ≡ []
-unfolding offered
-idle_offers a p kind priority idle =
-    let given : Bool → List Choice = λ b. cond b (matching a p 0 (items_of kind p)) [] in
-    ap (λ b. given (int_eq p.policy_type (type_of kind) && (int_eq p.priority priority && b))) idle
-    ∙ ap (λ b. given (int_eq p.policy_type (type_of kind) && b)) (and_false (int_eq p.priority priority))
-    ∙ ap given (and_false (int_eq p.policy_type (type_of kind)))
+-- ---- a resource policy
 
--- so each cell and the choices are as if it weren't there
-standing_without : (a : Ask) (p : Policy) (before after : List Policy) (priority : ℤ) (e : Effect) → gives_something e ≡ true → takes_part a p ≡ false
-    → standing priority e (before ++ p ∷ after) a ≡ standing priority e (before ++ after) a
-standing_without a p before after priority e some idle = filter_without (λ (r : Policy). stands_in priority e (a, r)) before p after (idle_stands a p priority e some idle)
+resource_less : {Y : Type 0} (f : Candidate → Option Y) (made : Policy → Candidate) (tags : List Candidate) (p : Policy) (before later : List Policy) → f (made p) ≡ None
+    → filter_map f (tags ++ map made (before ++ p ∷ later)) ≡ filter_map f (tags ++ map made (before ++ later))
+resource_less f made tags p before later e =
+    mapped_both f tags (map made (before ++ p ∷ later))
+    ∙ ap (λ ys. filter_map f tags ++ ys) (one_less f made p before later e)
+    ∙ sym (mapped_both f tags (map made (before ++ later)))
 
-offers_without : (a : Ask) (p : Policy) (before after : List Policy) (kind : Kind) (priority : ℤ) → takes_part a p ≡ false
-    → offers kind priority (before ++ p ∷ after) a ≡ offers kind priority (before ++ after) a
-offers_without a p before after kind priority idle = flat_without (λ (r : Policy). offered kind priority (a, r)) before p after (idle_offers a p kind priority idle)
+pub resource_idle : (fallback : Bool) (s : Setting) (made : Policy → Candidate) (tags : List Candidate) (p : Policy) (before later : List Policy) → takes_part s (made p) ≡ false
+    → outcome_of fallback s (tags ++ map made (before ++ p ∷ later)) ≡ outcome_of fallback s (tags ++ map made (before ++ later))
+resource_idle fallback s made tags p before later idle =
+    by_lists fallback s (tags ++ map made (before ++ p ∷ later)) (tags ++ map made (before ++ later))
+    (resource_less (ranked s) made tags p before later (unranked s (made p) idle))
+    (resource_less (offered s Filter) made tags p before later (unoffered s Filter (made p) idle))
+    (resource_less (offered s Mask) made tags p before later (unoffered s Mask (made p) idle))
 
-pub resource_without : (a : Ask) (p : Policy) (before after : List Policy) → takes_part a p ≡ false → resource_bests (before ++ p ∷ after) a ≡ resource_bests (before ++ after) a
-resource_without a p before after idle =
-    resource_same (before ++ p ∷ after) (before ++ after) a
-    (λ priority e some. ap least_of (standing_without a p before after priority e some idle))
-    (λ kind priority. ap (first_by goes_before) (offers_without a p before after kind priority idle))
+-- ---- a tag policy
 
--- under each tag
-pub tagged_without : (ask : Tag → Ask) (tags : List Tag) (p : Policy) (before after : List Policy) → ((tag : Tag) → In tag tags → takes_part (ask tag) p ≡ false)
-    → tag_bests (before ++ p ∷ after) ask tags ≡ tag_bests (before ++ after) ask tags
-tagged_without ask tags p before after idle =
-    tag_same (before ++ p ∷ after) (before ++ after) ask tags tags
-    (λ priority e some. ap least_of (flat_same (λ tag. standing priority e (before ++ p ∷ after) (ask tag)) (λ tag. standing priority e (before ++ after) (ask tag)) tags
-    (λ tag there. standing_without (ask tag) p before after priority e some (idle tag there))))
-    (λ kind priority. ap (first_by goes_before) (flat_same (λ tag. offers kind priority (before ++ p ∷ after) (ask tag)) (λ tag. offers kind priority (before ++ after) (ask tag)) tags
-    (λ tag there. offers_without (ask tag) p before after kind priority (idle tag there))))
+tags_less : {Y : Type 0} (f : Candidate → Option Y) (made : Tag → Policy → Candidate) (p : Policy) (before later : List Policy) (tags : List Tag)
+    → ((tag : Tag) → Contains tags tag → f (made tag p) ≡ None)
+    → filter_map f (flat_map (λ tag. map (made tag) (before ++ p ∷ later)) tags) ≡ filter_map f (flat_map (λ tag. map (made tag) (before ++ later)) tags)
+tags_less f made p before later [] idle = refl
+tags_less f made p before later (tag ∷ tags) idle =
+    mapped_both f (map (made tag) (before ++ p ∷ later)) (flat_map (λ t. map (made t) (before ++ p ∷ later)) tags)
+    ∙ ap (λ ys. ys ++ filter_map f (flat_map (λ t. map (made t) (before ++ p ∷ later)) tags)) (one_less f (made tag) p before later (idle tag (Contains-first tag tags)))
+    ∙ ap (λ ys. filter_map f (map (made tag) (before ++ later)) ++ ys) (tags_less f made p before later tags (λ t i. idle t (Contains-later tag tags t i)))
+    ∙ sym (mapped_both f (map (made tag) (before ++ later)) (flat_map (λ t. map (made t) (before ++ later)) tags))
+
+tagged_less : {Y : Type 0} (f : Candidate → Option Y) (made : Tag → Policy → Candidate) (resource : List Candidate) (p : Policy) (before later : List Policy) (tags : List Tag)
+    → ((tag : Tag) → Contains tags tag → f (made tag p) ≡ None)
+    → filter_map f (flat_map (λ tag. map (made tag) (before ++ p ∷ later)) tags ++ resource) ≡ filter_map f (flat_map (λ tag. map (made tag) (before ++ later)) tags ++ resource)
+tagged_less f made resource p before later tags idle =
+    mapped_both f (flat_map (λ tag. map (made tag) (before ++ p ∷ later)) tags) resource
+    ∙ ap (λ ys. ys ++ filter_map f resource) (tags_less f made p before later tags idle)
+    ∙ sym (mapped_both f (flat_map (λ tag. map (made tag) (before ++ later)) tags) resource)
+
+pub tagged_idle : (fallback : Bool) (s : Setting) (made : Tag → Policy → Candidate) (resource : List Candidate) (p : Policy) (before later : List Policy) (tags : List Tag)
+    → ((tag : Tag) → Contains tags tag → takes_part s (made tag p) ≡ false)
+    → outcome_of fallback s (flat_map (λ tag. map (made tag) (before ++ p ∷ later)) tags ++ resource) ≡ outcome_of fallback s (flat_map (λ tag. map (made tag) (before ++ later)) tags ++ resource)
+tagged_idle fallback s made resource p before later tags idle =
+    by_lists fallback s _ _
+    (tagged_less (ranked s) made resource p before later tags (λ t i. unranked s (made t p) (idle t i)))
+    (tagged_less (offered s Filter) made resource p before later tags (λ t i. unoffered s Filter (made t p) (idle t i)))
+    (tagged_less (offered s Mask) made resource p before later tags (λ t i. unoffered s Mask (made t p) (idle t i)))

@@ -1,10 +1,12 @@
 -- The first element before which no other stands, found by one pass.
-use Rattle.std.proofs.Common.{◌≡◌, ◌||◌, ◌&&◌, Bool, true, false, not, cond, List, [], ◌∷◌, ◌++◌, Option, Some, None, refl, ap, sym, ◌∙◌, ℤ, int_lt, nat_lt, ℕ, arith}
+use Rattle.std.proofs.Common.{◌≡◌, ◌||◌, ◌&&◌, Bool, true, false, not, cond, List, [], ◌∷◌, ◌++◌, Option, Some, None, refl, ap, sym, ◌∙◌, ℤ, int_lt, nat_lt, eqb, ℕ, arith}
+use Rattle.std.proofs.lemmas.Bool.Decides.{nat_tests}
 use Rattle.std.proofs.lemmas.Int.{ints}
 use Rattle.std.specs.List.{find, list_any}
 use Rattle.std.specs.Ordering.{int_eq}
-use Rattle.rg_facts.specs.Cells.{best_from, better}
-use Rattle.rg_facts.specs.Choices.{goes_before}
+use Rattle.rg_base.proofs.Lists.{find_agree}
+use Rattle.rg_facts.specs.Best.{best_from, better, ranks_before}
+use Rattle.rg_facts.specs.Choices.{choice_rank, goes_before}
 use Rattle.rg_facts.specs.Firsts.{first_by, is_first}
 use Rattle.rg_facts.specs.Flow.{has_lesser_id}
 
@@ -22,11 +24,6 @@ by_id = record {
   on = λ x b p h k. let f : (x b p : ℤ) → int_lt x b ≡ true → int_lt p b ≡ false → int_lt x p ≡ true = λ x b p h k. grind (arith, ints) in f x.id.0 b.id.0 p.id.0 h k;
   over = λ x b p h k. let f : (x b p : ℤ) → int_lt x b ≡ false → int_lt x p ≡ true → int_lt b p ≡ true = λ x b p h k. grind (arith, ints) in f x.id.0 b.id.0 p.id.0 h k;
 }
-
--- tests that agree find the same
-find_same : {X : Type 0} (f g : X → Bool) → ((x : X) → f x ≡ g x) → (xs : List X) → find f xs ≡ find g xs
-find_same f g e [] = refl
-find_same f g e (x ∷ xs) = ap (λ b. cond b (Some x) (find f xs)) (e x) ∙ ap (λ o. cond (g x) (Some x) o) (find_same f g e xs)
 
 -- what one test implies it may be joined with
 or_left : (a b c : Bool) → (a ≡ true → b ≡ true) → (a || (b || c)) ≡ (b || c)
@@ -77,10 +74,10 @@ passed_over before o b p xs h =
 first_next : {X : Type 0} (before : X → X → Bool) → IsOrder before → (b p : X) (xs : List X) (v : Bool) → before p b ≡ v → first_by before (cond v p b ∷ xs) ≡ first_by before (b ∷ p ∷ xs)
 first_next before o b p xs true e =
     sym (ap (λ w. cond w (Some b) (find (is_first before (b ∷ p ∷ xs)) (p ∷ xs))) (one (before b b) (before p b || some_before before b xs) (ap (λ w. w || some_before before b xs) e))
-    ∙ find_same (is_first before (b ∷ p ∷ xs)) (is_first before (p ∷ xs))
+    ∙ find_agree (is_first before (b ∷ p ∷ xs)) (is_first before (p ∷ xs))
     (λ x. ap not (or_left (before b x) (before p x) (some_before before x xs) (o.through p b x e))) (p ∷ xs))
 first_next before o b p xs false e =
-    sym (find_same (is_first before (b ∷ p ∷ xs)) (is_first before (b ∷ xs))
+    sym (find_agree (is_first before (b ∷ p ∷ xs)) (is_first before (b ∷ xs))
     (λ x. ap not (or_mid (before b x) (before p x) (some_before before x xs) (o.over p b x e))) (b ∷ p ∷ xs)
     ∙ passed_over before o b p xs e)
 
@@ -98,27 +95,52 @@ pub best_of_both : {X : Type 0} (before : X → X → Bool) (best : Option X) (x
 best_of_both before best [] ys = refl
 best_of_both before best (x ∷ xs) ys = best_of_both before (Some (better before best x)) xs ys
 
--- ---- choices: by the id of the policy, then by the place
+-- ---- by the cell, then by the id
 
-abbrev pair_before : ℤ → ℕ → ℤ → ℕ → Bool
-pair_before x n y m = int_lt x y || (int_eq x y && nat_lt n m)
+abbrev rank_before : ℕ → ℤ → ℕ → ℤ → Bool
+rank_before n x m y = nat_lt n m || (eqb n m && int_lt x y)
 
-pair_self : (x : ℤ) (n : ℕ) → pair_before x n x n ≡ false
-pair_self x n = grind (arith, ints)
+rank_self : (n : ℕ) (x : ℤ) → rank_before n x n x ≡ false
+rank_self n x = grind (arith, ints, nat_tests)
 
-pair_through : (x b p : ℤ) (k m n : ℕ) → pair_before x k b m ≡ true → pair_before b m p n ≡ true → pair_before x k p n ≡ true
-pair_through x b p k m n h i = grind (arith, ints)
+rank_through : (k m n : ℕ) (x b p : ℤ) → rank_before k x m b ≡ true → rank_before m b n p ≡ true → rank_before k x n p ≡ true
+rank_through k m n x b p h i = grind (arith, ints, nat_tests)
 
-pair_on : (x b p : ℤ) (k m n : ℕ) → pair_before x k b m ≡ true → pair_before p n b m ≡ false → pair_before x k p n ≡ true
-pair_on x b p k m n h i = grind (arith, ints)
+rank_on : (k m n : ℕ) (x b p : ℤ) → rank_before k x m b ≡ true → rank_before n p m b ≡ false → rank_before k x n p ≡ true
+rank_on k m n x b p h i = grind (arith, ints, nat_tests)
 
-pair_over : (x b p : ℤ) (k m n : ℕ) → pair_before x k b m ≡ false → pair_before x k p n ≡ true → pair_before b m p n ≡ true
-pair_over x b p k m n h i = grind (arith, ints)
+rank_over : (k m n : ℕ) (x b p : ℤ) → rank_before k x m b ≡ false → rank_before k x n p ≡ true → rank_before m b n p ≡ true
+rank_over k m n x b p h i = grind (arith, ints, nat_tests)
+
+pub by_rank : IsOrder ranks_before
+by_rank = record {
+  not_self = λ r. rank_self r.0 r.1.id.0;
+  through = λ r s t h k. rank_through r.0 s.0 t.0 r.1.id.0 s.1.id.0 t.1.id.0 h k;
+  on = λ r s t h k. rank_on r.0 s.0 t.0 r.1.id.0 s.1.id.0 t.1.id.0 h k;
+  over = λ r s t h k. rank_over r.0 s.0 t.0 r.1.id.0 s.1.id.0 t.1.id.0 h k;
+}
+
+-- ---- choices: by the rank, then by the id of the policy, then by the place
+
+abbrev place_before : ℕ → ℤ → ℕ → ℕ → ℤ → ℕ → Bool
+place_before r x k s y m = nat_lt r s || (eqb r s && (int_lt x y || (int_eq x y && nat_lt k m)))
+
+place_self : (r : ℕ) (x : ℤ) (k : ℕ) → place_before r x k r x k ≡ false
+place_self r x k = grind (arith, ints, nat_tests)
+
+place_through : (r s t : ℕ) (x y z : ℤ) (k m n : ℕ) → place_before r x k s y m ≡ true → place_before s y m t z n ≡ true → place_before r x k t z n ≡ true
+place_through r s t x y z k m n h i = grind (arith, ints, nat_tests)
+
+place_on : (r s t : ℕ) (x y z : ℤ) (k m n : ℕ) → place_before r x k s y m ≡ true → place_before t z n s y m ≡ false → place_before r x k t z n ≡ true
+place_on r s t x y z k m n h i = grind (arith, ints, nat_tests)
+
+place_over : (r s t : ℕ) (x y z : ℤ) (k m n : ℕ) → place_before r x k s y m ≡ false → place_before r x k t z n ≡ true → place_before s y m t z n ≡ true
+place_over r s t x y z k m n h i = grind (arith, ints, nat_tests)
 
 pub by_place : IsOrder goes_before
 by_place = record {
-  not_self = λ c. pair_self c.policy.id.0 c.place;
-  through = λ c d e h k. pair_through c.policy.id.0 d.policy.id.0 e.policy.id.0 c.place d.place e.place h k;
-  on = λ c d e h k. pair_on c.policy.id.0 d.policy.id.0 e.policy.id.0 c.place d.place e.place h k;
-  over = λ c d e h k. pair_over c.policy.id.0 d.policy.id.0 e.policy.id.0 c.place d.place e.place h k;
+  not_self = λ c. place_self (choice_rank c) c.policy.id.0 c.place;
+  through = λ c d e h k. place_through (choice_rank c) (choice_rank d) (choice_rank e) c.policy.id.0 d.policy.id.0 e.policy.id.0 c.place d.place e.place h k;
+  on = λ c d e h k. place_on (choice_rank c) (choice_rank d) (choice_rank e) c.policy.id.0 d.policy.id.0 e.policy.id.0 c.place d.place e.place h k;
+  over = λ c d e h k. place_over (choice_rank c) (choice_rank d) (choice_rank e) c.policy.id.0 d.policy.id.0 e.policy.id.0 c.place d.place e.place h k;
 }

@@ -1,79 +1,128 @@
 -- The flow of decision: which policy decides a request, and how.
-use Rattle.std.specs.Prelude.{ℤ, pos, negsuc, int_lt, Bool, false, true, ◌&&◌, List, [], ◌∷◌, map, Option, None, option_map, unwrap_or, if◌then◌else◌}
-use Rattle.std.specs.List.{filter}
+use Rattle.std.specs.Prelude.{ℕ, ◌+◌, ℤ, negsuc, int_lt, eqb, Bool, false, true, ◌&&◌, ◌||◌, List, [], ◌∷◌, map, filter, Option, Some, None, option_and_then, option_map, if◌then◌else◌}
+use Rattle.std.specs.Option.{option_map_or}
 use Rattle.std.specs.Ordering.{int_eq}
+use Rattle.rg_policy.specs.Kinds.{access_policy, normal, overriding}
 use Rattle.rg_policy.specs.declared.policy.Policy.{Policy}
 use Rattle.rg_policy.specs.declared.request.AccessRequest.{AccessRequest}
-use Rattle.rg_effect.specs.declared.effect.Effect.{Effect}
-use Rattle.rg_effect.specs.declared.effect.Effect.TheVariants.{Nothing, Allow, Deny}
-use Rattle.rg_effect.specs.Effects.{effect_of, same_effect}
-use Rattle.rg_facts.specs.Asks.{Ask, question, resource_asks, tag_asks, takes_part}
-use Rattle.rg_facts.specs.Choices.{chosen_filter, chosen_mask}
+use Rattle.rg_evalr.specs.Effects.{access_of}
+use Rattle.rg_evalr.specs.declared.frame.Effect.{Effect}
+use Rattle.rg_evalr.specs.declared.frame.Effect.TheVariants.{Nothing, Allow, Deny}
+use Rattle.rg_evalr.specs.declared.frame.Side.{Side}
+use Rattle.rg_evalr.specs.declared.frame.Side.TheVariants.{Resource, Tag}
+use Rattle.rg_facts.specs.Candidates.{Candidate, Setting, candidates, context_of, is_chosen, setting_of}
+use Rattle.rg_facts.specs.Choices.{Choice, chosen, unless_no_mask}
 use Rattle.rg_facts.specs.Firsts.{first_by, first_some}
+use Rattle.rg_facts.specs.declared.choice.Kind.TheVariants.{Mask, Filter}
 use Rattle.rg_facts.specs.declared.decision.Access.{Access}
 use Rattle.rg_facts.specs.declared.decision.Access.TheVariants.{Allowed, Denied, Undetermined}
+use Rattle.rg_facts.specs.declared.decision.ItemPlace.{ItemPlace}
 use Rattle.rg_facts.specs.declared.decision.Verdict.{Verdict}
 use Rattle.rg_facts.specs.declared.facts.Facts.{Facts}
 
--- what an access policy, which is of type 0, gives: nothing where it takes no part
-unfoldable pub effect_in : Ask → Policy → Effect
-effect_in a p = if int_eq p.policy_type (pos 0) && takes_part a p then effect_of (question a) p else Nothing
+-- what an access policy gives: nothing where the zone doesn't choose it
+unfoldable pub given : Setting → Candidate → Effect
+given s c = if int_eq c.source.policy.policy_type access_policy && is_chosen s c
+    then access_of c.source.frame c.source.side (context_of s c) c.source.policy else Nothing
 
--- the policy has this priority, and gives this effect to what it is asked
-abbrev pub stands_in : ℤ → Effect → Ask × Policy → Bool
-stands_in priority effect ap = int_eq ap.1.priority priority && same_effect effect (effect_in ap.0 ap.1)
+-- the cells of one priority: denials before permissions, tags before the resource
+abbrev pub cell_in : Side → Effect → Option ℕ
+cell_in Tag Deny = Some 1
+cell_in Resource Deny = Some 2
+cell_in Tag Allow = Some 3
+cell_in Resource Allow = Some 4
+cell_in Tag Nothing = None
+cell_in Resource Nothing = None
 
--- the policies of a cell
-abbrev pub cell : ℤ → Effect → List (Ask × Policy) → List Policy
-cell priority effect asks = map (λ (ap : Ask × Policy). ap.1) (filter (stands_in priority effect) asks)
+-- the cell of a policy that gives this effect: those of priority 1 are the first four, those of priority 0 the last four
+abbrev pub cell_of : ℤ → Side → Effect → Option ℕ
+cell_of priority side effect =
+    if int_eq priority overriding then cell_in side effect
+    else (if int_eq priority normal then option_map (λ n. n + 4) (cell_in side effect) else None)
+
+-- the cell in which a candidate stands
+abbrev pub cell_at : Setting → Candidate → Option ℕ
+cell_at s c = cell_of c.source.policy.priority c.source.side (given s c)
+
+-- the candidate stands in this cell
+abbrev pub stands_in : Setting → ℕ → Candidate → Bool
+stands_in s n c = option_map_or (λ m. eqb m n) (cell_at s c) false
+
+-- the policies in a cell
+abbrev pub policies_in : Setting → List Candidate → ℕ → List Policy
+policies_in s cs n = map (λ (c : Candidate). c.source.policy) (filter (stands_in s n) cs)
 
 -- the one id is less than the other
 abbrev pub has_lesser_id : Policy → Policy → Bool
 has_lesser_id p q = int_lt p.id.0 q.id.0
 
--- the first policy with the least id
-abbrev pub least_of : List Policy → Option Policy
-least_of ps = first_by has_lesser_id ps
+-- the policy with the least id in a cell, and the cell
+abbrev pub decided_in : Setting → List Candidate → ℕ → Option (ℕ × Policy)
+decided_in s cs n = option_map (λ p. (n, p)) (first_by has_lesser_id (policies_in s cs n))
 
--- the eight cells in their order, each with the access that it gives
-abbrev pub cells : List (Ask × Policy) → List (Ask × Policy) → List (Access × List Policy)
-cells by_tags by_resource =
-    (Denied, cell (pos 1) Deny by_tags)
-    ∷ (Denied, cell (pos 1) Deny by_resource)
-    ∷ (Allowed, cell (pos 1) Allow by_tags)
-    ∷ (Allowed, cell (pos 1) Allow by_resource)
-    ∷ (Denied, cell (pos 0) Deny by_tags)
-    ∷ (Denied, cell (pos 0) Deny by_resource)
-    ∷ (Allowed, cell (pos 0) Allow by_tags)
-    ∷ (Allowed, cell (pos 0) Allow by_resource) ∷ []
+abbrev pub cells : List ℕ
+cells = 1 ∷ 2 ∷ 3 ∷ 4 ∷ 5 ∷ 6 ∷ 7 ∷ 8 ∷ []
 
--- this policy decides
-abbrev pub decided : Access → Policy → Verdict
-decided access p = record { access = access; policy = p.id; audited = p.audited; filter = None; mask = None }
+-- the first cell that isn't empty decides, and in it the policy with the least id
+abbrev pub decider : Setting → List Candidate → Option (ℕ × Policy)
+decider s cs = first_some (map (decided_in s cs) cells)
 
--- in a cell the policy with the least id decides
-abbrev pub decided_in : Access × List Policy → Option Verdict
-decided_in c = option_map (decided c.0) (least_of c.1)
+-- the cells 1, 2, 5 and 6 deny, the others allow
+abbrev pub denies : ℕ → Bool
+denies n = eqb n 1 || (eqb n 2 || (eqb n 5 || eqb n 6))
 
--- no policy decides
-abbrev pub undecided : Bool → Verdict
-undecided fallback = record { access = (if fallback then Undetermined else Denied); policy = record { 0 = negsuc 0 }; audited = true; filter = None; mask = None }
-
--- the first cell that isn't empty decides
-abbrev pub flow : Bool → List (Ask × Policy) → List (Ask × Policy) → Verdict
-flow fallback by_tags by_resource = unwrap_or (first_some (map decided_in (cells by_tags by_resource))) (undecided fallback)
+-- what the deciding cell gives; where no policy decides access is denied, or left undetermined
+abbrev pub access_in : Bool → Option (ℕ × Policy) → Access
+access_in fallback (Some d) = if denies d.0 then Denied else Allowed
+access_in fallback None = if fallback then Undetermined else Denied
 
 abbrev pub is_allowed : Access → Bool
 is_allowed Allowed = true
 is_allowed Denied = false
 is_allowed Undetermined = false
 
+-- what a request gets: the access, the policy that decides, and the chosen items
+pub record Outcome : Type 0 where
+  pub access : Access
+  pub policy : Option Policy
+  pub filter : Option Choice
+  pub mask : Option Choice
+
 -- a row filter and a mask are given beside Allowed alone
-abbrev pub with_choices : List (Ask × Policy) → List (Ask × Policy) → Verdict → Verdict
-with_choices by_tags by_resource v = if is_allowed v.access
-    then record v { filter = chosen_filter by_tags by_resource; mask = chosen_mask by_tags by_resource }
-    else v
+abbrev pub outcome_from : Bool → Option (ℕ × Policy) → Option Choice → Option Choice → Outcome
+outcome_from fallback decided filter mask = record {
+  access = access_in fallback decided;
+  policy = option_map (λ d. d.1) decided;
+  filter = if is_allowed (access_in fallback decided) then filter else None;
+  mask = if is_allowed (access_in fallback decided) then option_and_then unless_no_mask mask else None;
+}
+
+-- what these candidates give
+unfoldable pub outcome_of : Bool → Setting → List Candidate → Outcome
+outcome_of fallback s cs = outcome_from fallback (decider s cs) (chosen s Filter cs) (chosen s Mask cs)
 
 -- the written flow over every policy and tag
-unfoldable pub eval : Facts → AccessRequest → Verdict
-eval facts q = with_choices (tag_asks facts q) (resource_asks facts q) (flow facts.fallback (tag_asks facts q) (resource_asks facts q))
+abbrev pub outcome : Facts → AccessRequest → Outcome
+outcome facts q = outcome_of facts.fallback (setting_of facts q) (candidates facts q)
+
+-- where an item stands
+abbrev pub is_tag : Side → Bool
+is_tag Tag = true
+is_tag Resource = false
+
+abbrev pub place_of : Choice → ItemPlace
+place_of c = record { policy = c.policy.id; tag = is_tag c.side; item = c.place }
+
+-- the outcome in numbers; no policy has the number -1, and where none decides the request is audited
+abbrev pub verdict_of : Outcome → Verdict
+verdict_of o = record {
+  access = o.access;
+  policy = option_map_or (λ (p : Policy). p.id) o.policy (record { 0 = negsuc 0 });
+  audited = option_map_or (λ (p : Policy). p.audited) o.policy true;
+  filter = option_map place_of o.filter;
+  mask = option_map place_of o.mask;
+}
+
+-- the evaluation of a request
+abbrev pub eval : Facts → AccessRequest → Verdict
+eval facts q = verdict_of (outcome facts q)

@@ -1,4 +1,4 @@
--- Values joined one after the other.
+-- For proofs: values joined one after the other.
 use Rattle.std.specs.Prelude.{ℕ, List, ◌∷◌, ◌++◌, Option, Some, None}
 
 -- a text with one more value, where there is one, behind a `/` where it isn't the first

@@ -41,6 +41,7 @@ pub struct Answer {
     pub serial: Serial,
     pub policy_version: Version,
     pub tag_version: Version,
+    pub role_version: Version,
 }
 
 /// A mask as text.
@@ -64,6 +65,7 @@ pub struct Decision {
     pub serial: Serial,
     pub policy_version: Version,
     pub tag_version: Version,
+    pub role_version: Version,
     /// The values of the named levels from the root, joined by `/`.
     pub path: Text,
 }
@@ -106,6 +108,7 @@ impl TryCopy for Decision {
             serial: self.serial,
             policy_version: self.policy_version,
             tag_version: self.tag_version,
+            role_version: self.role_version,
             path: self.path.try_copy(alloc)?,
         })
     }

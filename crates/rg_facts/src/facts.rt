@@ -26,6 +26,7 @@ pub struct Facts {
     pub time_zones: Seq<TimeZoneRow>,
     pub policy_version: Version,
     pub tag_version: Version,
+    pub role_version: Version,
 }
 
 /// Letting facts go is one call.
@@ -44,6 +45,7 @@ impl Drop for Facts {
             time_zones: _,
             policy_version: _,
             tag_version: _,
+            role_version: _,
         } = self;
     }
 }
@@ -102,6 +104,7 @@ impl TryCopy for Facts {
             time_zones,
             policy_version: self.policy_version,
             tag_version: self.tag_version,
+            role_version: self.role_version,
         })
     }
 }

@@ -1,54 +1,16 @@
 // The resource of a request as text.
-ghost use Rattle.std.specs.Prelude.{◌≡◌, [], IfOk, None, ℕ, map, option_map, unwrap_or};
+ghost use Rattle.std.specs.Prelude.{◌≡◌, [], IfOk, None, map, option_map, unwrap_or};
 ghost use Rattle.std.specs.List.{filter_map, find, join_with_byte, last_or};
 ghost use Rattle.std.specs.Str.{bytes_eq, chars};
-ghost use Rattle.rg_base.specs.Listed.{Listed, listed};
 ghost use Rattle.rg_policy.specs.declared.request.Element.{Element};
-ghost use Rattle.rg_defs.specs.PathTests.{paths_of};
 ghost use Rattle.rg_resmatch.specs.Tests.{value_at};
-ghost use Rattle.rg_facts.specs.Texts.{all_lie_on, path_for, value_of_place, values_along};
+ghost use Rattle.rg_facts.specs.Texts.{value_of_place, values_along};
 ghost use Rattle.rg_facts.specs.Joining.{after_value};
 
-use rg_base::{NoMemory, Seq, Text, TryCopy, same_text};
-use rg_defs::{Level, lies_on};
+use rg_base::{NoMemory, Text, TryCopy, same_text};
+use rg_defs::Level;
 use rg_policy::Element;
 use std::alloc::Global;
-
-fn all_lie_on(levels: &[Level], elements: &[Element], path: &[u32]) -> bool
-    ensures { result ≡ all_lie_on levels.now elements.now path.now }
-{
-    elements
-        .iter()
-        .all(|element| lies_on(levels, path, element.level.as_str()))
-}
-
-/// The first of these paths on which the levels of all elements lie.
-fn first_for<'a>(
-    levels: &[Level],
-    paths: &'a [Seq<u32>],
-    elements: &[Element],
-) -> Option<&'a Seq<u32>>
-    ensures { option_map (λ p. p.now) result ≡ find (λ (p : Listed ℕ). all_lie_on levels.now elements.now p.items) paths.now }
-{
-    paths
-        .iter()
-        .find(|path| all_lie_on(levels, elements, path.as_slice()))
-}
-
-/// The first path on which the levels of all elements lie. The paths are those of the levels.
-pub(crate) fn path_for<'a>(
-    levels: &[Level],
-    paths: &'a [Seq<u32>],
-    elements: &[Element],
-) -> Option<&'a [u32]>
-    requires { paths.now ≡ map listed (paths_of levels.now) }
-    ensures { option_map (λ p. p.now) result ≡ path_for levels.now elements.now }
-{
-    match first_for(levels, paths, elements) {
-        Some(path) => Some(path.as_slice()),
-        None => None,
-    }
-}
 
 fn element_at<'a>(elements: &'a [Element], name: &str) -> Option<&'a Element>
     ensures { option_map (λ e. e.now) result ≡ find (λ (e : Element). bytes_eq e.level (chars name.now)) elements.now }

@@ -1,34 +1,28 @@
 // The plain engine: every request is asked of every policy.
-ghost use Rattle.std.specs.Prelude.{◌≡◌, IfOk, List, None, option_map, true};
-ghost use Rattle.std.specs.List.{AllZip, list_all};
-ghost use Rattle.rg_base.specs.Listed.{listed};
-ghost use Rattle.rg_policy.specs.declared.policy.TimeZoneRow.{TimeZoneRow};
-ghost use Rattle.rg_policy.specs.declared.request.Element.{Element};
-ghost use Rattle.rg_defs.specs.Rules.{def_fault};
-ghost use Rattle.rg_facts.specs.Asks.{ask_of, resource_asks, tag_asks, tag_def_of, zone_at};
-ghost use Rattle.rg_facts.specs.Cells.{firsts, none_yet};
-ghost use Rattle.rg_facts.specs.Flow.{eval};
-ghost use Rattle.rg_facts.specs.Engines.{AreCompiled};
-ghost use Rattle.rg_facts.specs.Plans.{IsPlan, IsRowMatcher, row_fits};
-ghost use Rattle.rg_facts.specs.PolicyRules.{policy_sound};
+ghost use Rattle.std.specs.Prelude.{◌≡◌, IfOk, Some, flat_map, map, option_map, true};
+ghost use Rattle.rg_evalr.specs.Sources.{Source};
+ghost use Rattle.rg_facts.specs.Best.{after, none_yet};
+ghost use Rattle.rg_facts.specs.Candidates.{resource_candidates, row_lies, setting_of, tag_candidates, tags_of, zone_at};
+ghost use Rattle.rg_facts.specs.Engines.{asked_for, row_matching};
+ghost use Rattle.rg_facts.specs.Flow.{eval, outcome};
 ghost use Rattle.rg_facts.specs.Sound.{sound};
-ghost use Rattle.rg_facts.specs.Texts.{decision_of};
-ghost use Rattle.rg_zones.specs.Compiled.{found_in};
-ghost use Rattle.rg_zones.specs.Zones.{zone_of};
+ghost use Rattle.rg_facts.specs.Texts.{decide};
+ghost use Rattle.rg_facts.specs.declared.best.Pass.TheVariants as Pass;
+ghost use Rattle.rg_facts.specs.declared.facts.Facts.{Facts};
 
-use crate::asking::{Asking, tag_def_of};
+use crate::best::{Best, Candidate, Pass};
+use crate::building::{compile, paths_of, roles_of, zones_of};
 use crate::decision::{Decision, Verdict};
 use crate::facts::Facts;
-use crate::flow::{Cells, Choices, Found, Planned, after_policies, after_rows};
-use crate::plan::{Plan, compile_plan};
-use crate::texts::decision_of;
-use crate::verdict::judged;
-use rg_base::{NoMemory, Seq, Serial};
-use rg_cond::{TimeZoneFault, TimeZones};
-use rg_defs::{ServiceDef, paths};
-use rg_policy::{AccessRequest, Policy, TimeZoneRow};
-use rg_resmatch::{Matcher, Reach};
-use rg_roles::{RoleRow, Roles};
+use crate::outcome::Outcome;
+use crate::setting::Setting;
+use crate::texts::Published;
+use rg_base::{NoMemory, Seq, Serial, Steps};
+use rg_defs::Paths;
+use rg_evalr::Evaluator;
+use rg_policy::{AccessRequest, Policy, Tag};
+use rg_resmatch::Matcher;
+use rg_roles::Roles;
 use rg_tags::TagRow;
 use rg_zones::{ZoneMap, ZoneRow};
 use std::alloc::Global;
@@ -37,8 +31,8 @@ use std::marker::Model;
 /// What is compiled of the policies and the tag rows.
 #[derive(Drop)]
 pub(crate) struct Compiled {
-    pub plans: Seq<Plan>,
-    pub tag_plans: Seq<Plan>,
+    pub evaluators: Seq<Evaluator>,
+    pub tag_evaluators: Seq<Evaluator>,
     pub row_matchers: Seq<Matcher>,
 }
 
@@ -48,145 +42,108 @@ pub struct Plain {
     held: Facts,
     roles: Roles,
     zones: ZoneMap,
-    paths: Seq<Seq<u32>>,
+    paths: Paths,
     compiled: Compiled,
 }
 
 impl Model for Plain {
-    ghost use Rattle.std.specs.Prelude.{◌≡◌, List, map};
-    ghost use Rattle.rg_base.specs.Listed.{listed};
-    ghost use Rattle.rg_policy.specs.declared.request.Element.{Element};
-    ghost use Rattle.rg_defs.specs.PathTests.{paths_of};
+    ghost use Rattle.std.specs.Prelude.{◌≡◌};
     ghost use Rattle.rg_facts.specs.Engines.{AreCompiled};
     ghost use Rattle.rg_facts.specs.declared.facts.Facts.{Facts};
-    ghost use Rattle.rg_zones.specs.Compiled.{found_in};
-    ghost use Rattle.rg_zones.specs.Zones.{zone_of};
 
     ghost Value = { Facts };
 
     ghost view = { λ p. p.held };
 
     ghost invariant = { λ p. (p.roles ≡ p.held.roles.items)
-        × ((elements : List Element) → found_in p.zones elements ≡ zone_of p.held.service p.held.def p.held.zones.items elements)
-        × (p.paths ≡ listed (map listed (paths_of p.held.def.levels.items)))
+        × (p.zones ≡ record { zones = p.held.zones.items; service = p.held.service; def = p.held.def })
+        × (p.paths ≡ p.held.def.levels.items)
         × AreCompiled p.held p.compiled };
 }
 
-/// The time zones of sound facts.
-fn time_zones(alloc: Global, rows: &[TimeZoneRow]) -> Result<TimeZones, NoMemory>
-    ensures { IfOk result (λ zones. zones ≡ rows.now) }
+/// What is found after these policies, of which these are the evaluators, were asked for the tag.
+fn ask_policies<'a>(
+    setting: &Setting,
+    pass: Pass,
+    best: Best<'a>,
+    policies: &'a [Policy],
+    evaluators: &'a [Evaluator],
+    tag: Option<&'a Tag>,
+) -> Best<'a>
+    requires { map (λ (s : Source). s.policy) evaluators.now ≡ policies.now }
+    ensures { result ≡ after pass setting.now (asked_for (option_map (λ t. t.now) tag.entry) evaluators.now) best.entry }
 {
-    match TimeZones::build(alloc, rows) {
-        Ok(zones) => Ok(zones),
-        Err(_) => Err(NoMemory),
+    let mut steps = Steps::silent();
+    let mut best = best;
+    let mut policies = policies;
+    let mut evaluators = evaluators;
+    'policies: while let (Some((policy, later)), Some((evaluator, more))) = (
+        policies.split_first(),
+        evaluators.split_first(),
+    ) {
+        let candidate = Candidate::new(policy, evaluator, tag);
+        best = best.ask(pass, setting, &candidate, &mut steps);
+        policies = later;
+        evaluators = more;
     }
+    best
 }
 
-/// The roles of sound facts.
-fn roles_of(alloc: Global, rows: &[RoleRow]) -> Result<Roles, NoMemory>
-    ensures { IfOk result (λ roles. roles ≡ rows.now) }
+/// What is found after these tag policies were asked for each of these tags.
+#[tactic(auto, using(crate::proofs::Passes::passes))]
+fn ask_tags<'a>(
+    setting: &Setting,
+    best: Best<'a>,
+    policies: &'a [Policy],
+    evaluators: &'a [Evaluator],
+    tags: &'a [Tag],
+) -> Best<'a>
+    requires { map (λ (s : Source). s.policy) evaluators.now ≡ policies.now }
+    ensures { result ≡ after Pass.All setting.now (flat_map (λ tag. asked_for (Some tag) evaluators.now) tags.now) best.entry }
 {
-    match Roles::build(alloc, rows) {
-        Ok(roles) => Ok(roles),
-        Err(_) => Err(NoMemory),
+    let mut best = best;
+    let mut tags = tags;
+    'tags: while let Some((tag, later)) = tags.split_first() {
+        best = ask_policies(setting, Pass::All, best, policies, evaluators, Some(tag));
+        tags = later;
     }
+    best
 }
 
-/// The plan of each policy.
-fn plans_of(
-    alloc: Global,
-    def: &ServiceDef,
-    zones: &TimeZones,
-    policies: &[Policy],
-) -> Result<Seq<Plan>, NoMemory>
-    requires def { def_fault def.now ≡ None }
-    requires policies { list_all (policy_sound def.now zones.now) policies.now ≡ true }
-    ensures { IfOk result (λ plans. AllZip (IsPlan def.now zones.now) policies.now plans.items) }
+/// Whether the row, of which this is the matcher, reaches down to the resource.
+fn row_lies(request: &AccessRequest, row: &TagRow, matcher: &Matcher) -> bool
+    ensures { (facts : Facts) → matcher.now ≡ row_matching facts.def row.now → result ≡ row_lies facts request.now row.now }
 {
-    let mut plans = Seq::new(alloc);
-    for policy in policies {
-        let plan = compile_plan(alloc, def, zones, policy)?;
-        match plans.push(plan) {
-            Ok(()) => {}
-            Err(_) => return Err(NoMemory),
+    let mut steps = Steps::silent();
+    matcher.matches(&request.resource, "", &mut steps)
+}
+
+/// What is found after these tag policies were asked for each tag of these rows, of which these are the matchers.
+fn ask_rows<'a>(
+    setting: &Setting,
+    facts: &'a Facts,
+    evaluators: &'a [Evaluator],
+    matchers: &[Matcher],
+) -> Best<'a>
+    requires policies { map (λ (s : Source). s.policy) evaluators.now ≡ facts.now.tag_policies.items }
+    requires rows { matchers.now ≡ map (row_matching facts.now.def) facts.now.tag_rows.items }
+    ensures { result ≡ after Pass.All setting.now (flat_map (λ tag. asked_for (Some tag) evaluators.now) (tags_of facts.now setting.now.request)) none_yet }
+{
+    let mut best = Best::none();
+    let mut rows = facts.tag_rows.as_slice();
+    let mut matchers = matchers;
+    let policies = facts.tag_policies.as_slice();
+    'rows: while let (Some((row, later)), Some((matcher, more))) = (
+        rows.split_first(),
+        matchers.split_first(),
+    ) {
+        if row_lies(setting.request, row, matcher) {
+            best = ask_tags(setting, best, policies, evaluators, row.tags.as_slice());
         }
+        rows = later;
+        matchers = more;
     }
-    Ok(plans)
-}
-
-fn row_matcher(alloc: Global, def: &ServiceDef, row: &TagRow) -> Result<Matcher, NoMemory>
-    requires def { def_fault def.now ≡ None }
-    requires row { row_fits def.now row.now ≡ true }
-    ensures { IfOk result (λ m. IsRowMatcher def.now row.now m) }
-{
-    let matcher = Matcher::compile(alloc, def, row.resources.as_slice(), Reach::Down)?;
-    Ok(matcher)
-}
-
-/// The matcher of each tag row.
-fn matchers_of(alloc: Global, def: &ServiceDef, rows: &[TagRow]) -> Result<Seq<Matcher>, NoMemory>
-    requires def { def_fault def.now ≡ None }
-    requires rows { list_all (row_fits def.now) rows.now ≡ true }
-    ensures { IfOk result (λ matchers. AllZip (IsRowMatcher def.now) rows.now matchers.items) }
-{
-    let mut matchers = Seq::new(alloc);
-    for row in rows {
-        let matcher = row_matcher(alloc, def, row)?;
-        match matchers.push(matcher) {
-            Ok(()) => {}
-            Err(_) => return Err(NoMemory),
-        }
-    }
-    Ok(matchers)
-}
-
-/// Nothing is found yet.
-fn none_yet<'a>() -> Found<'a>
-    ensures { result ≡ none_yet }
-{
-    Found {
-        cells: Cells {
-            override_deny: None,
-            override_allow: None,
-            deny: None,
-            allow: None,
-        },
-        masks: Choices {
-            overriding: None,
-            normal: None,
-        },
-        filters: Choices {
-            overriding: None,
-            normal: None,
-        },
-    }
-}
-
-/// What is compiled of the policies and the tag rows of sound facts.
-fn compile(alloc: Global, facts: &Facts) -> Result<Compiled, NoMemory>
-    requires { sound facts.now ≡ true }
-    ensures { IfOk result (λ c. AreCompiled facts.now c) }
-{
-    let times = time_zones(alloc, facts.time_zones.as_slice())?;
-    let plans = plans_of(alloc, &facts.def, &times, facts.policies.as_slice())?;
-    let tag_def = tag_def_of(facts);
-    let tag_plans = plans_of(alloc, tag_def, &times, facts.tag_policies.as_slice())?;
-    let row_matchers = matchers_of(alloc, &facts.def, facts.tag_rows.as_slice())?;
-    Ok(Compiled {
-        plans,
-        tag_plans,
-        row_matchers,
-    })
-}
-
-/// The zones of sound facts.
-fn zones_of(alloc: Global, facts: &Facts) -> Result<ZoneMap, NoMemory>
-    requires { sound facts.now ≡ true }
-    ensures { IfOk result (λ m. (elements : List Element) → found_in m elements ≡ zone_of facts.now.service facts.now.def facts.now.zones.items elements) }
-{
-    let zones = facts.zones.as_slice();
-    let map = ZoneMap::build(alloc, zones, facts.service.as_str(), &facts.def)?;
-    Ok(map)
+    best
 }
 
 impl Plain {
@@ -197,7 +154,7 @@ impl Plain {
     {
         let roles = roles_of(alloc, facts.roles.as_slice())?;
         let zones = zones_of(alloc, &facts)?;
-        let paths = paths(alloc, &facts.def)?;
+        let paths = paths_of(alloc, &facts)?;
         let compiled = compile(alloc, &facts)?;
         Ok(Plain {
             held: facts,
@@ -216,60 +173,70 @@ impl Plain {
         self.held.zones.as_slice().get(place as usize)
     }
 
-    /// What resource policies are asked.
-    fn asking<'a>(&'a self, request: &'a AccessRequest) -> Asking<'a>
-        ensures { result ≡ ask_of self.now request.now None }
+    fn setting<'a>(&'a self, request: &'a AccessRequest) -> Setting<'a>
+        ensures { result ≡ setting_of self.now request.now }
     {
-        Asking {
-            facts: &self.held,
-            roles: &self.roles,
+        Setting {
             request,
+            roles: &self.roles,
             zone: self.zone_at(request),
-            tag: None,
         }
     }
 
-    #[tactic(auto, using(crate::proofs::Bests::firsts_found))]
-    fn found_by_resource(&self, asking: &Asking) -> Found<'_>
-        requires { asking.now ≡ ask_of self.now asking.now.request None }
-        ensures { result ≡ firsts (resource_asks self.now asking.now.request) }
+    /// What is found by tag policies. Where there are none, no tag row is looked at.
+    fn ask_tag_policies(&self, setting: &Setting) -> Best<'_>
+        ensures { result ≡ after Pass.All setting.now (flat_map (tag_candidates self.now) (tags_of self.now setting.now.request)) none_yet }
     {
-        let planned = Planned {
-            policies: self.held.policies.as_slice(),
-            plans: self.compiled.plans.as_slice(),
-        };
-        after_policies(asking, none_yet(), planned)
-    }
-
-    #[tactic(auto, using(crate::proofs::Bests::firsts_found))]
-    fn found_by_tags(&self, asking: &Asking) -> Found<'_>
-        requires { asking.now ≡ ask_of self.now asking.now.request None }
-        ensures { result ≡ firsts (tag_asks self.now asking.now.request) }
-    {
-        let planned = Planned {
-            policies: self.held.tag_policies.as_slice(),
-            plans: self.compiled.tag_plans.as_slice(),
-        };
-        after_rows(
-            asking,
-            none_yet(),
-            planned,
-            self.held.tag_rows.as_slice(),
+        if self.held.tag_policies.is_empty() {
+            return Best::none();
+        }
+        ask_rows(
+            setting,
+            &self.held,
+            self.compiled.tag_evaluators.as_slice(),
             self.compiled.row_matchers.as_slice(),
         )
     }
 
+    /// What is found after the resource policies were asked.
+    fn ask_resource_policies<'a>(
+        &'a self,
+        setting: &Setting,
+        pass: Pass,
+        best: Best<'a>,
+    ) -> Best<'a>
+        ensures { result ≡ after pass setting.now (resource_candidates self.now) best.entry }
+    {
+        ask_policies(
+            setting,
+            pass,
+            best,
+            self.held.policies.as_slice(),
+            self.compiled.evaluators.as_slice(),
+            None,
+        )
+    }
+
+    /// The written flow over all policies and tags. Resource policies are asked for row filters and masks only where access
+    /// is allowed.
+    fn outcome(&self, request: &AccessRequest) -> Outcome<'_>
+        ensures { result ≡ outcome self.now request.now }
+    {
+        let setting = self.setting(request);
+        let best = self.ask_tag_policies(&setting);
+        let best = self.ask_resource_policies(&setting, Pass::Access, best);
+        if !best.allows() {
+            return best.outcome(self.held.fallback);
+        }
+        let best = self.ask_resource_policies(&setting, Pass::Choices, best);
+        best.outcome(self.held.fallback)
+    }
+
     /// The written flow over all policies and tags. It takes no memory.
-    #[tactic(auto, using(crate::proofs::Bests::flows))]
     pub fn scan(&self, request: &AccessRequest) -> Verdict
         ensures { result ≡ eval self.now request.now }
     {
-        let asking = self.asking(request);
-        judged(
-            self.held.fallback,
-            self.found_by_tags(&asking),
-            self.found_by_resource(&asking),
-        )
+        self.outcome(request).verdict()
     }
 
     /// The verdict with its texts, published under this serial. It takes memory for the texts alone.
@@ -279,12 +246,10 @@ impl Plain {
         request: &AccessRequest,
         serial: Serial,
     ) -> Result<Decision, NoMemory>
-        ensures { IfOk result (λ d. d ≡ decision_of self.now request.now serial (eval self.now request.now)) }
+        ensures { IfOk result (λ d. d ≡ decide self.now request.now serial) }
     {
-        let verdict = self.scan(request);
-        let paths = self.paths.as_slice();
-        let decision = decision_of(alloc, &self.held, paths, request, verdict, serial)?;
-        Ok(decision)
+        let published = Published::of(&self.held, &self.paths, serial);
+        self.outcome(request).decision(alloc, &published, request)
     }
 
     /// The facts that the engine was made of.

@@ -1,11 +1,15 @@
 // Tests of a decision's texts over tables, worked out by hand from Ranger's policy model.
-use crate::Decision;
-use crate::decision::{Access, ItemPlace, Verdict};
+ghost use Rattle.std.specs.Prelude.{◌≡◌, IfOk, IfSome};
+
+use crate::choice::Choice;
+use crate::decision::Access;
 use crate::facts::Facts;
 use crate::masks::replaced;
-use crate::texts::decision_of;
+use crate::outcome::Outcome;
+use crate::texts::Published;
 use rg_base::{Moment, NoMemory, PolicyId, Seq, Serial, Text, Version};
-use rg_defs::{AccessType, Level, MaskType, ServiceDef, check_def, paths};
+use rg_defs::{AccessType, Level, MaskType, Paths, ServiceDef, check_def};
+use rg_evalr::Side;
 use rg_policy::{AccessRequest, Element, Item, MaskInfo, Policy, Resource};
 use std::alloc::Global;
 
@@ -42,32 +46,24 @@ mask({col})|c|mask(c)
 \u{1f600}{col}||\u{1f600}
 ||";
 
-/// The elements of a request, a place (policy, side, item), the resource as text, and the mask and the row filter.
+/// The elements of a request, an item's side and place, the resource as text, and the mask and the row filter.
 const TEXTS: &str = "\
-table=t;database=d|10 - 0|d/t|MASK|mask(t)|dept = '{col}'
-database=d;table=t|10 - 1|d/t|CUSTOM|left(t, 2)|true
-database=d;table=t|10 - 2|d/t|OTHER||false
-database=d;table=t|10 tag 0|d/t|MASK|tagged(t)|tagged
-database=d;table=t|10 - 3|d/t|-||-
-database=d;table=t|10 tag 1|d/t|-||-
-database=d;table=t|11 - 0|d/t|-||-
-column=c;database=d|10 - 1|d/c|CUSTOM|left(c, 2)|true
-column=c|10 - 1|c|CUSTOM|left(c, 2)|true
-udf=f;database=d|10 - 1|d/f|CUSTOM|left(f, 2)|true
-database=d;url=/u|10 - 1|d//u|CUSTOM|left(/u, 2)|true
-url=/u;database=d|10 - 1|/u/d|CUSTOM|left(d, 2)|true
-table=t;database=d;host=h|10 - 1|t/d/h|CUSTOM|left(h, 2)|true
-table=t;database=d;table=u|10 - 1|d/t|CUSTOM|left(t, 2)|true
-database=d;url=u;database=e|10 - 1|d/u/e|CUSTOM|left(e, 2)|true
-database=;table=t|10 - 1|/t|CUSTOM|left(t, 2)|true
-|10 - 1||CUSTOM|left(, 2)|true";
-
-fn put<T: Drop>(list: &mut Seq<T>, item: T) -> Result<(), NoMemory> {
-    match list.push(item) {
-        Ok(()) => Ok(()),
-        Err(_) => Err(NoMemory),
-    }
-}
+table=t;database=d|- 0|d/t|MASK|mask(t)|dept = '{col}'
+database=d;table=t|- 1|d/t|CUSTOM|left(t, 2)|true
+database=d;table=t|- 2|d/t|OTHER||false
+database=d;table=t|tag 0|d/t|MASK|tagged(t)|tagged
+database=d;table=t|- 3|d/t|-||-
+database=d;table=t|tag 1|d/t|-||-
+column=c;database=d|- 1|d/c|CUSTOM|left(c, 2)|true
+column=c|- 1|c|CUSTOM|left(c, 2)|true
+udf=f;database=d|- 1|d/f|CUSTOM|left(f, 2)|true
+database=d;url=/u|- 1|d//u|CUSTOM|left(/u, 2)|true
+url=/u;database=d|- 1|/u/d|CUSTOM|left(d, 2)|true
+table=t;database=d;host=h|- 1|t/d/h|CUSTOM|left(h, 2)|true
+table=t;database=d;table=u|- 1|d/t|CUSTOM|left(t, 2)|true
+database=d;url=u;database=e|- 1|d/u/e|CUSTOM|left(e, 2)|true
+database=;table=t|- 1|/t|CUSTOM|left(t, 2)|true
+|- 1||CUSTOM|left(, 2)|true";
 
 fn number(written: &str) -> i64 {
     written.parse::<i64>().unwrap_or(0)
@@ -112,14 +108,14 @@ fn access_types(alloc: Global) -> Result<Seq<AccessType>, NoMemory> {
         name: Text::copy_of(alloc, "select")?,
         implied: Seq::new(alloc),
     };
-    put(&mut list, select)?;
+    list.add(select)?;
     Ok(list)
 }
 
 fn levels(alloc: Global, lines: &str) -> Result<Seq<Level>, NoMemory> {
     let mut list = Seq::new(alloc);
     for line in lines.lines() {
-        put(&mut list, level(alloc, line)?)?;
+        list.add(level(alloc, line)?)?;
     }
     Ok(list)
 }
@@ -127,7 +123,7 @@ fn levels(alloc: Global, lines: &str) -> Result<Seq<Level>, NoMemory> {
 fn mask_types(alloc: Global, lines: &str) -> Result<Seq<MaskType>, NoMemory> {
     let mut list = Seq::new(alloc);
     for line in lines.lines() {
-        put(&mut list, mask_type(alloc, line)?)?;
+        list.add(mask_type(alloc, line)?)?;
     }
     Ok(list)
 }
@@ -169,7 +165,7 @@ fn item(alloc: Global, line: &str) -> Result<Item, NoMemory> {
 fn items(alloc: Global, lines: &str) -> Result<Seq<Item>, NoMemory> {
     let mut list = Seq::new(alloc);
     for line in lines.lines() {
-        put(&mut list, item(alloc, line)?)?;
+        list.add(item(alloc, line)?)?;
     }
     Ok(list)
 }
@@ -185,6 +181,7 @@ fn policies(alloc: Global, lines: &str) -> Result<Seq<Policy>, NoMemory> {
         policy_type: 1,
         priority: 0,
         resources: Seq::new(alloc),
+        additional: Seq::new(alloc),
         conditions: Seq::new(alloc),
         items: Seq::new(alloc),
         deny_items: Seq::new(alloc),
@@ -199,7 +196,7 @@ fn policies(alloc: Global, lines: &str) -> Result<Seq<Policy>, NoMemory> {
         audited: true,
     };
     let mut list = Seq::new(alloc);
-    put(&mut list, policy)?;
+    list.add(policy)?;
     Ok(list)
 }
 
@@ -217,6 +214,7 @@ fn facts(alloc: Global) -> Result<Facts, NoMemory> {
         time_zones: Seq::new(alloc),
         policy_version: Version(3),
         tag_version: Version(4),
+        role_version: Version(5),
     })
 }
 
@@ -231,7 +229,7 @@ fn request(alloc: Global, written: &str) -> Result<AccessRequest, NoMemory> {
     let mut elements = Seq::new(alloc);
     for part in written.split(';') {
         if let Some((level, value)) = part.split_once('=') {
-            put(&mut elements, element(alloc, level, value)?)?;
+            elements.add(element(alloc, level, value)?)?;
         }
     }
     Ok(AccessRequest {
@@ -248,36 +246,42 @@ fn request(alloc: Global, written: &str) -> Result<AccessRequest, NoMemory> {
     })
 }
 
-fn place(written: &str) -> ItemPlace {
+/// The side and the place of an item.
+fn place(written: &str) -> (Side, u32) {
     let mut words = written.split(' ');
-    let policy = PolicyId(number(words.next().unwrap_or("")));
-    let tag = words.next().unwrap_or("-") == "tag";
+    let side = match words.next().unwrap_or("-") {
+        "tag" => Side::Tag,
+        _ => Side::Resource,
+    };
     let item = words.next().unwrap_or("").parse::<u32>().unwrap_or(0);
-    ItemPlace { policy, tag, item }
+    (side, item)
 }
 
-/// The decision for elements, of a verdict with a mask and a row filter of this place. None where the definition
-/// doesn't pass its rules.
-fn decided(
-    alloc: Global,
-    facts: &Facts,
-    written: &str,
-    at: ItemPlace,
-) -> Result<Option<Decision>, NoMemory> {
-    let request = request(alloc, written)?;
+/// The item at this place of the one policy of the side.
+fn choice<'a>(facts: &'a Facts, side: Side, place: u32) -> Option<Choice<'a>> {
+    let policies = match side {
+        Side::Tag => facts.tag_policies.as_slice(),
+        Side::Resource => facts.policies.as_slice(),
+    };
+    match policies.first() {
+        Some(policy) => Some(Choice {
+            policy,
+            side,
+            place,
+        }),
+        None => None,
+    }
+}
+
+/// The paths of the definition, None where it doesn't pass its rules.
+fn paths(alloc: Global, facts: &Facts) -> Result<Option<Paths>, NoMemory>
+    ensures { IfOk result (λ made. IfSome made (λ p. p ≡ facts.now.def.levels.items)) }
+{
     if check_def(alloc, &facts.def).is_err() {
         return Ok(None);
     }
-    let all = paths(alloc, &facts.def)?;
-    let verdict = Verdict {
-        access: Access::Allowed,
-        policy: PolicyId(7),
-        audited: true,
-        filter: Some(at),
-        mask: Some(at),
-    };
-    let decision = decision_of(alloc, facts, all.as_slice(), &request, verdict, Serial(2))?;
-    Ok(Some(decision))
+    let paths = Paths::of(alloc, &facts.def)?;
+    Ok(Some(paths))
 }
 
 /// What a text is written as: `-` for none.
@@ -302,17 +306,28 @@ fn columns_are_put_in(rt: HostRuntime) {
 
 #[test]
 fn decisions_have_texts(rt: HostRuntime) {
-    let facts = facts(rt.alloc()).expect(&rt, "ample memory");
+    let alloc = rt.alloc();
+    let facts = facts(alloc).expect(&rt, "ample memory");
+    let made = paths(alloc, &facts).expect(&rt, "ample memory");
+    let paths = made.expect(&rt, "a lawful definition");
+    let published = Published::of(&facts, &paths, Serial(2));
     for row in TEXTS.lines() {
         let mut fields = row.split('|');
-        let written = fields.next().expect(&rt, "elements");
-        let at = place(fields.next().expect(&rt, "a place"));
+        let request = request(alloc, fields.next().expect(&rt, "elements"));
+        let request = request.expect(&rt, "ample memory");
+        let (side, at) = place(fields.next().expect(&rt, "a place"));
         let path = fields.next().expect(&rt, "a path");
         let kind = fields.next().expect(&rt, "a kind");
         let expr = fields.next().expect(&rt, "an expression");
         let filter = fields.next().expect(&rt, "a filter");
-        let found = decided(rt.alloc(), &facts, written, at).expect(&rt, "ample memory");
-        let decision = found.expect(&rt, "a lawful definition");
+        let outcome = Outcome {
+            access: Access::Allowed,
+            policy: None,
+            filter: choice(&facts, side, at),
+            mask: choice(&facts, side, at),
+        };
+        let decided = outcome.decision(alloc, &published, &request);
+        let decision = decided.expect(&rt, "ample memory");
         assert_eq!(rt; decision.path.as_str(), path, "{row}");
         assert_eq!(rt; written_as(&decision.filter), filter, "{row}");
         match &decision.mask {
@@ -326,32 +341,27 @@ fn decisions_have_texts(rt: HostRuntime) {
 }
 
 #[test]
-fn a_verdict_without_places_has_no_texts(rt: HostRuntime) {
-    let facts = facts(rt.alloc()).expect(&rt, "ample memory");
-    let request = request(rt.alloc(), "database=d").expect(&rt, "ample memory");
-    check_def(rt.alloc(), &facts.def).expect(&rt, "a lawful definition");
-    let all = paths(rt.alloc(), &facts.def).expect(&rt, "ample memory");
-    let verdict = Verdict {
+fn a_denial_has_no_texts(rt: HostRuntime) {
+    let alloc = rt.alloc();
+    let facts = facts(alloc).expect(&rt, "ample memory");
+    let made = paths(alloc, &facts).expect(&rt, "ample memory");
+    let paths = made.expect(&rt, "a lawful definition");
+    let request = request(alloc, "database=d").expect(&rt, "ample memory");
+    let outcome = Outcome {
         access: Access::Denied,
-        policy: PolicyId(-1),
-        audited: true,
+        policy: None,
         filter: None,
         mask: None,
     };
-    let made = decision_of(
-        rt.alloc(),
-        &facts,
-        all.as_slice(),
-        &request,
-        verdict,
-        Serial(2),
-    );
-    let decision = made.expect(&rt, "ample memory");
+    let published = Published::of(&facts, &paths, Serial(2));
+    let decided = outcome.decision(alloc, &published, &request);
+    let decision = decided.expect(&rt, "ample memory");
     assert_eq!(rt; decision.access, Access::Denied);
     assert_eq!(rt; decision.policy, PolicyId(-1));
     assert_eq!(rt; decision.serial, Serial(2));
     assert_eq!(rt; decision.policy_version, Version(3));
     assert_eq!(rt; decision.tag_version, Version(4));
+    assert_eq!(rt; decision.role_version, Version(5));
     assert!(rt; decision.filter.is_none());
     assert!(rt; decision.mask.is_none());
 }

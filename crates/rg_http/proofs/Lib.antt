@@ -2,6 +2,9 @@ pub mod Waiting
 pub mod Room
 pub mod Texts
 pub mod Standing
+pub mod Statuses
 pub mod Finishing
 pub mod Sparing
 pub mod Unique
+pub mod Decided
+pub mod Reading

@@ -1,89 +1,100 @@
--- No more is read than the answer takes.
-use Rattle.std.proofs.Common.{◌≡◌, ◌≤◌, ◌<◌, ◌+◌, ℕ, List, [], ◌++◌, length, take, drop, Option, Some, None, Result, Ok, Err, OnOk, refl, sym, ap, ◌∙◌, subst, arith, append_assoc, append-nil, length-append, inl, inr}
-use Rattle.std.proofs.lemmas.List.{take_all, take_at, drop_at, take-append-drop}
+-- No more is read than the answer takes, and no byte is lost.
+use Rattle.std.proofs.Common.{◌≡◌, ◌≢◌, ◌≤◌, ◌<◌, ◌+◌, ℕ, List, [], ◌++◌, length, take, drop, Option, Some, None, Result, MatchResult, refl, sym, ap, ◌∙◌, subst, arith, append_assoc, append-nil, length-append, inl, inr}
+use Rattle.std.proofs.lemmas.List.{take_at, take-append-drop}
+use Rattle.rg_ports.specs.Bytes.{Gave}
+use Rattle.rg_http.specs.declared.message.FrameFault.{FrameFault}
+use Rattle.rg_http.specs.declared.message.FrameFault.TheVariants.{Failed, NoMemory}
 use Rattle.rg_http.specs.declared.message.Message.{Message}
-use Rattle.rg_http.specs.Framing.{IsUnfinished}
-use Rattle.rg_http.specs.Answers.{all_of, piece_limit, IsSparing, ReadsSparingly}
-use Rattle.rg_http.specs.Places.{Begins, FillsTo, Grows}
-use Rattle.rg_http.proofs.Finishing.{body_unfinished}
+use Rattle.rg_http.specs.declared.message.Next.{Next}
+use Rattle.rg_http.specs.declared.message.Next.TheVariants.{Message as Whole, Ended, Cut, Bad}
+use Rattle.rg_http.specs.Framing.{HasBad, IsUnfinished}
+use Rattle.rg_http.specs.Answers.{piece_limit, IsRead, IsSparing, Answers, Leaves}
+use Rattle.rg_http.specs.Places.{Begins, Took, FillsTo, Fills, Grows, Breaks}
+use Rattle.rg_http.proofs.Finishing.{body_unfinished, body_cut, message_came, with_body}
 
--- what a read put behind the bytes
-split_new : (held new : List ℕ) → take (length held) new ≡ held → new ≡ held ++ drop (length held) new
-split_new held new t = sym (take-append-drop (length held) new) ∙ ap (λ xs. xs ++ drop (length held) new) t
+-- ---- what was read
 
-piece_short : (held new : List ℕ) → take (length held) new ≡ held → length new ≤ length held + piece_limit → length (drop (length held) new) ≤ piece_limit
-piece_short held new t l =
-    let e = ap length (split_new held new t) in
-    let a = length-append held (drop (length held) new) in
-    omega (arith, e, a, l)
+pub read_none : (left : Option (List ℕ)) → IsRead left [] left
+read_none None = refl
+read_none (Some bytes) = (bytes, refl, refl)
 
-pub grows_none : (old : List ℕ) → Grows old old
-grows_none old = ([], sym (append-nil old), inl refl)
+pub read_more : (before middle after : Option (List ℕ)) (first second : List ℕ) → IsRead before first middle → IsRead middle second after
+    → IsRead before (first ++ second) after
+read_more None middle after first second x y = subst (λ m. IsRead m second after) x y
+read_more (Some bytes) middle after first second x y =
+    let z : IsRead (Some x.0) second after = subst (λ m. IsRead m second after) x.2 y in
+    (z.0, x.1 ∙ (ap (λ xs. first ++ xs) z.1 ∙ sym (append_assoc first second z.0)), z.2)
 
-pub grows_more : (old held new : List ℕ) → Grows old held → IsUnfinished held → take (length held) new ≡ held → length new ≤ length held + piece_limit → Grows old new
-grows_more old held new g u t l =
-    let piece = drop (length held) new in (
-      g.0 ++ piece,
-      split_new held new t ∙ (ap (λ xs. xs ++ piece) g.1 ∙ append_assoc old g.0 piece),
-      inr (g.0, piece, refl, piece_short held new t l, subst IsUnfinished g.1 u),
-    )
+read_gave : (before after : Option (List ℕ)) (n : ℕ) (room : List ℕ) → Gave before after n room → IsRead before (take n room) after
+read_gave None after n room x = x
+read_gave (Some bytes) after n room x = (drop n bytes, sym (take-append-drop n bytes) ∙ ap (λ xs. xs ++ drop n bytes) (sym x.1), x.2)
 
-pub fills_none : (old : List ℕ) (need : ℕ) → FillsTo old old need
-fills_none old need = inl refl
+-- a read that put n bytes into the room for a piece, which were put behind the old ones
+pub took_piece : (before after : Option (List ℕ)) (n : ℕ) (room old new : List ℕ) → Gave before after n room → length (take n room) ≤ piece_limit
+    → new ≡ old ++ take n room → Took before after old new
+took_piece before after n room old new x l e = (take n room, read_gave before after n room x, e, l)
 
-fills_step : (old held new read : List ℕ) (need : ℕ) → held ≡ old ++ read → length held < need → take (length held) new ≡ held
-    → length new ≤ length held + piece_limit → FillsTo old new need
-fills_step old held new read need e s t l =
-    let piece = drop (length held) new in
-    inr (
-      read,
-      piece,
-      split_new held new t ∙ (ap (λ xs. xs ++ piece) e ∙ append_assoc old read piece),
-      piece_short held new t l,
-      subst (λ xs. length xs < need) e s,
-    )
+pub took_none : (left : Option (List ℕ)) (old : List ℕ) → Took left left old old
+took_none left old = ([], read_none left, sym (append-nil old), omega arith)
 
-pub fills_more : (old held new : List ℕ) (need : ℕ) → FillsTo old held need → length held < need → take (length held) new ≡ held
-    → length new ≤ length held + piece_limit → FillsTo old new need
-fills_more old held new need (inl e) s t l = fills_step old held new [] need (e ∙ sym (append-nil old)) s t l
-fills_more old held new need (inr x) s t l = fills_step old held new (x.0 ++ x.1) need x.2 s t l
+pub took_short : (before after : Option (List ℕ)) (old new : List ℕ) → Took before after old new → length new ≤ length old + piece_limit
+took_short before after old new t = let e = ap length t.2 in omega (arith, e, length-append old t.0, t.3)
 
-pub fills_front : (old new : List ℕ) (need : ℕ) → FillsTo old new need → take (length old) new ≡ old
-fills_front old new need (inl e) = ap (take (length old)) e ∙ take_all (length old) old (omega arith)
-fills_front old new need (inr x) = ap (take (length old)) x.2 ∙ take_at old (x.0 ++ x.1) (length old) refl
+-- ---- in a loop
 
-pub body_grows : (old new : List ℕ) (m : Message) (len n : ℕ) → Begins old m len n → FillsTo old new (len + n) → Grows old new
-body_grows old new m len n b (inl e) = ([], e ∙ sym (append-nil old), inl refl)
-body_grows old new m len n b (inr x) = (
-  x.0 ++ x.1,
-  x.2,
-  inr (x.0, x.1, refl, x.3, body_unfinished old (old ++ x.0) m len n b (take_at old x.0 (length old) refl) x.4),
+pub grows_none : (left : Option (List ℕ)) (old : List ℕ) → Grows left left old old
+grows_none left old = ([], read_none left, sym (append-nil old), inl refl)
+
+pub grows_more : (before middle after : Option (List ℕ)) (old held new : List ℕ) → Grows before middle old held → IsUnfinished held
+    → Took middle after held new → Grows before after old new
+grows_more before middle after old held new g u t = (
+  g.0 ++ t.0,
+  read_more before middle after g.0 t.0 g.1 t.1,
+  t.2 ∙ (ap (λ xs. xs ++ t.0) g.2 ∙ append_assoc old g.0 t.0),
+  inr (g.0, t.0, refl, t.3, subst IsUnfinished g.2 u),
 )
 
-abbrev some_of : Option (List ℕ) → List ℕ
-some_of None = []
-some_of (Some bytes) = bytes
+pub fills_none : (need : ℕ) (left : Option (List ℕ)) (old : List ℕ) → Fills need left left old old
+fills_none need left old = ([], read_none left, sym (append-nil old), inl refl)
 
-abbrev is_told : Option (List ℕ) → ℕ
-is_told None = 0
-is_told (Some bytes) = 1
-
-same_rest : (a x y : List ℕ) → a ++ x ≡ a ++ y → x ≡ y
-same_rest a x y e = sym (drop_at a x (length a) refl) ∙ (ap (drop (length a)) e ∙ drop_at a y (length a) refl)
-
--- what was read was to come before, and what is to come now was to come behind it
-left_after : (old new read before : List ℕ) (after : Option (List ℕ)) → new ≡ old ++ read → all_of new after ≡ Some (old ++ before)
-    → (rest : List ℕ) × (before ≡ read ++ rest) × (after ≡ Some rest)
-left_after old new read before None e a = (let n = ap is_told a in absurd (omega (arith, n)))
-left_after old new read before (Some rest) e a = (
-  rest,
-  sym (same_rest old (read ++ rest) before (sym (append_assoc old read rest) ∙ (ap (λ xs. xs ++ rest) (sym e) ∙ ap some_of a))),
-  refl,
+pub fills_more : (need : ℕ) (before middle after : Option (List ℕ)) (old held new : List ℕ) → Fills need before middle old held → length held < need
+    → Took middle after held new → Fills need before after old new
+fills_more need before middle after old held new f s t = (
+  f.0 ++ t.0,
+  read_more before middle after f.0 t.0 f.1 t.1,
+  t.2 ∙ (ap (λ xs. xs ++ t.0) f.2 ∙ append_assoc old f.0 t.0),
+  inr (f.0, t.0, refl, t.3, subst (λ xs. length xs < need) f.2 s),
 )
 
-pub sparing_all : (old new : List ℕ) (before after : Option (List ℕ)) → all_of new after ≡ all_of old before → Grows old new → ReadsSparingly old before after
-sparing_all old new None after e g = tt
-sparing_all old new (Some before) after e g = (let x = left_after old new g.0 before after g.1 e in (g.0, x.0, x.1, x.2, g.2))
+-- ---- answers by the place that was found
+
+pub breaks : (kept : List ℕ) (fault : FrameFault) → IsUnfinished kept → Breaks kept fault
+breaks kept Failed u = u
+breaks kept NoMemory u = tt
+
+abbrev pub Told : Option (List ℕ) → Option (List ℕ) → List ℕ → Result Next FrameFault → List ℕ → Type 0
+Told before after old result new =
+    (read : List ℕ) × IsRead before read after × IsSparing old read
+    × MatchResult result (λ next. Answers (old ++ read) next new) (λ fault. Leaves (old ++ read) fault new)
+
+abbrev pub Answered : Option (List ℕ) → Option (List ℕ) → List ℕ → Next → List ℕ → Type 0
+Answered before after old next new = (read : List ℕ) × IsRead before read after × IsSparing old read × Answers (old ++ read) next new
+
+abbrev pub Left : Option (List ℕ) → Option (List ℕ) → List ℕ → FrameFault → List ℕ → Type 0
+Left before after old fault new = (read : List ℕ) × IsRead before read after × IsSparing old read × Leaves (old ++ read) fault new
+
+pub placed_ended : (before after : Option (List ℕ)) (old held : List ℕ) → Grows before after old held → held ≡ [] → Answered before after old Ended held
+placed_ended before after old held g x = (g.0, g.1, g.3, (sym g.2 ∙ x, x))
+
+pub placed_cut : (before after : Option (List ℕ)) (old held : List ℕ) → Grows before after old held → (held ≢ []) × IsUnfinished held → Answered before after old Cut held
+placed_cut before after old held g x = (g.0, g.1, g.3, (λ e. x.0 (g.2 ∙ e), subst IsUnfinished g.2 x.1, g.2))
+
+pub placed_bad : (before after : Option (List ℕ)) (old held : List ℕ) (status : ℕ) → Grows before after old held → HasBad held status → Answered before after old (Bad status) held
+placed_bad before after old held status g x = (g.0, g.1, g.3, (subst (λ xs. HasBad xs status) g.2 x, g.2))
+
+pub placed_fault : (before after : Option (List ℕ)) (old held : List ℕ) (fault : FrameFault) → Grows before after old held → Breaks held fault → Left before after old fault held
+placed_fault before after old held Failed g x = (g.0, g.1, g.3, (subst IsUnfinished g.2 x, g.2))
+placed_fault before after old held NoMemory g x = (g.0, g.1, g.3, g.2)
 
 both_sparing : (old held first second : List ℕ) → held ≡ old ++ first → IsSparing old first → IsSparing held second → IsSparing old (first ++ second)
 both_sparing old held first second e s (inl x) = subst (IsSparing old) (sym (ap (λ xs. first ++ xs) x ∙ append-nil first)) s
@@ -96,19 +107,39 @@ both_sparing old held first second e s (inr x) = inr (
 )
 
 -- one sparing stretch of reads after another
-pub sparing_both : (old held : List ℕ) (before middle after : Option (List ℕ)) → all_of held middle ≡ all_of old before → Grows old held
-    → ReadsSparingly held middle after → ReadsSparingly old before after
-sparing_both old held None middle after e g r = tt
-sparing_both old held (Some before) middle after e g r =
-    let x = left_after old held g.0 before middle g.1 e in
-    let y = subst (λ told. ReadsSparingly held told after) x.2 r in (
-      g.0 ++ y.0,
-      y.1,
-      x.1 ∙ (ap (λ xs. g.0 ++ xs) y.2 ∙ sym (append_assoc g.0 y.0 y.1)),
-      y.3,
-      both_sparing old held g.0 y.0 g.1 g.2 y.4,
-    )
+pub placed_begun : (before middle after : Option (List ℕ)) (old held new : List ℕ) (result : Result Next FrameFault) → Grows before middle old held
+    → Told middle after held result new → Told before after old result new
+placed_begun before middle after old held new result g y = (
+  g.0 ++ y.0,
+  read_more before middle after g.0 y.0 g.1 y.1,
+  both_sparing old held g.0 y.0 g.2 g.3 y.2,
+  subst (λ xs. MatchResult result (λ next. Answers xs next new) (λ fault. Leaves xs fault new)) (ap (λ xs. xs ++ y.0) g.2 ∙ append_assoc old g.0 y.0) y.3,
+)
 
-pub on_ok : {A B : Type 0} → (P Q : Type 0) (r : Result A B) → (P → Q) → OnOk r P → OnOk r Q
-on_ok P Q (Ok x) f p = f p
-on_ok P Q (Err e) f p = tt
+-- ---- the body
+
+module _ (before after : Option (List ℕ)) (old new : List ℕ) (m : Message) (len n : ℕ) (b : Begins old m len n) (f : Fills (len + n) before after old new) where
+  body_sparing : (read : List ℕ) → FillsTo (len + n) old read → IsSparing old read
+  body_sparing read (inl e) = inl e
+  body_sparing read (inr x) = inr (x.0, x.1, x.2, x.3, body_unfinished old (old ++ x.0) m len n b (take_at old x.0 (length old) refl) x.4)
+
+  front : take (length old) (old ++ f.0) ≡ old
+  front = take_at old f.0 (length old) refl
+
+  short : length new < len + n → length (old ++ f.0) < len + n
+  short l = subst (λ xs. length xs < len + n) f.2 l
+
+  pub finished_cut : length new < len + n → Answered before after old Cut new
+  finished_cut l = (f.0, f.1, body_sparing f.0 f.3, (body_cut old (old ++ f.0) m len n b front, body_unfinished old (old ++ f.0) m len n b front (short l), f.2))
+
+  pub finished_fault : (fault : FrameFault) → length new < len + n → Left before after old fault new
+  finished_fault Failed l = (f.0, f.1, body_sparing f.0 f.3, (body_unfinished old (old ++ f.0) m len n b front (short l), f.2))
+  finished_fault NoMemory l = (f.0, f.1, body_sparing f.0 f.3, f.2)
+
+  pub finished_refused : Left before after old NoMemory new
+  finished_refused = (f.0, f.1, body_sparing f.0 f.3, f.2)
+
+  pub finished_whole : len + n ≤ length new → Answered before after old (Whole (with_body m (take n (drop len new)))) (drop (len + n) new)
+  finished_whole l =
+      let e : take (length old) new ≡ old = ap (take (length old)) f.2 ∙ front in
+      (f.0, f.1, body_sparing f.0 f.3, subst (λ xs. Answers xs (Whole (with_body m (take n (drop len new)))) (drop (len + n) new)) f.2 (message_came old new m len n b e l))

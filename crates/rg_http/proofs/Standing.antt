@@ -1,5 +1,5 @@
 -- What the bytes that are kept say of all.
-use Rattle.std.proofs.Common.{◌≡◌, ◌≢◌, ◌≤◌, ◌<◌, ◌+◌, ◌-◌, ◌⊎◌, ℕ, List, [], ◌∷◌, ◌++◌, length, take, drop, get_or, Option, Some, None, IfSome, IsTrue, not, refl, sym, ap, ◌∙◌, subst, arith, append_assoc, append-nil, length-append, inl, inr}
+use Rattle.std.proofs.Common.{◌≡◌, ◌≢◌, ◌≤◌, ◌<◌, ◌+◌, ◌-◌, ◌⊎◌, ℕ, List, [], ◌∷◌, ◌++◌, length, take, drop, get_or, IsTrue, not, refl, sym, ap, ◌∙◌, subst, arith, append_assoc, append-nil, length-append, inl, inr}
 use Rattle.std.proofs.Math.Seq.{take-append-add}
 use Rattle.std.proofs.lemmas.Bool.{cases_lt}
 use Rattle.std.proofs.lemmas.List.{take_all, take_at, take-take, take-append-le, take-append-drop, length-take}
@@ -15,8 +15,9 @@ use Rattle.rg_http.specs.declared.message.Message.{Message}
 use Rattle.rg_http.specs.declared.rules.Ruling.TheVariants.{Refused, Body}
 use Rattle.rg_http.specs.Rules.{body_limit}
 use Rattle.rg_http.specs.Framing.{window, head_limit, IsHopeless, IsOpen, HasHead, HasMessage, HasBad, IsUnfinished, ruling_of, message_of, ends_target}
-use Rattle.rg_http.specs.Answers.{all_of}
-use Rattle.rg_http.specs.Places.{Begins}
+use Rattle.rg_http.specs.Places.{Begins, Judges}
+use Rattle.rg_http.specs.declared.heads.Judged.{Judged}
+use Rattle.rg_http.specs.declared.heads.Judged.TheVariants.{Open, Hopeless, Refused as RefusedHead, Head}
 use Rattle.rg_http.proofs.Waiting.{print_parts, after_target}
 
 append_split : (a b c d : List ℕ) → a ++ b ≡ c ++ d
@@ -122,36 +123,24 @@ head_some bytes h rest x e =
     let b = length-append h.method (space ∷ (h.target ++ space ∷ after_target h rest)) in
     omega (arith, size, a, b)
 
-pub stands_hopeless : (kept : List ℕ) (left : Option (List ℕ)) → IsHopeless (window kept) → IfSome (all_of kept left) (λ bytes. HasBad bytes 400)
-stands_hopeless kept None x = tt
-stands_hopeless kept (Some left) x = (let w = window_more kept left in inl (refl, subst IsHopeless (sym w.1) (hopeless_more (window kept) w.0 x)))
+pub stands_hopeless : (kept : List ℕ) → IsHopeless (window kept) → HasBad kept 400
+stands_hopeless kept x = inl (refl, x)
 
-pub stands_full : (kept : List ℕ) (left : Option (List ℕ)) → head_limit ≤ length kept → IsOpen (window kept) → IfSome (all_of kept left) (λ bytes. HasBad bytes 431)
-stands_full kept None l x = tt
-stands_full kept (Some left) l x = inr (inl (refl, omega (arith, length-append kept left, l), subst IsOpen (sym (take-append-le head_limit kept left l)) x))
+pub stands_full : (kept : List ℕ) → head_limit ≤ length kept → IsOpen (window kept) → HasBad kept 431
+stands_full kept l x = inr (inl (refl, l, x))
 
-head_more : (kept left : List ℕ) (h : RequestHead) (rest : List ℕ) → HasHead (window kept) h rest → HasHead (kept ++ left) h (rest ++ (drop head_limit kept ++ left))
-head_more kept left h rest x = (
-  (x.0.0, ap (λ xs. xs ++ left) (sym (take-append-drop head_limit kept)) ∙ (append_assoc (window kept) (drop head_limit kept) left ∙ (ap (λ xs. xs ++ (drop head_limit kept ++ left)) x.0.1 ∙ append_assoc (print_request h) rest (drop head_limit kept ++ left)))),
-  x.1,
-)
+pub head_more : (kept : List ℕ) (h : RequestHead) (rest : List ℕ) → HasHead (window kept) h rest → HasHead kept h (rest ++ drop head_limit kept)
+head_more kept h rest x =
+    subst (λ xs. HasHead xs h (rest ++ drop head_limit kept)) (take-append-drop head_limit kept) (head_stays (window kept) (drop head_limit kept) h rest x)
 
-pub stands_refused : (kept : List ℕ) (left : Option (List ℕ)) (status : ℕ) → (h : RequestHead) × (rest : List ℕ) × HasHead (window kept) h rest × (ruling_of h ≡ Refused status) → IfSome (all_of kept left) (λ bytes. HasBad bytes status)
-stands_refused kept None status x = tt
-stands_refused kept (Some left) status x = inr (inr (x.0, x.1 ++ (drop head_limit kept ++ left), head_more kept left x.0 x.1 x.2, x.3))
-
-pub stands_ended : (kept : List ℕ) (all : Option (List ℕ)) → IfSome all (λ bytes. bytes ≡ kept) → kept ≡ [] → IfSome all (λ bytes. bytes ≡ [])
-stands_ended kept None x e = tt
-stands_ended kept (Some bytes) x e = x ∙ e
+pub stands_refused : (kept : List ℕ) (status : ℕ) → (h : RequestHead) × (rest : List ℕ) × HasHead (window kept) h rest × (ruling_of h ≡ Refused status) → HasBad kept status
+stands_refused kept status x = inr (inr (x.0, x.1 ++ drop head_limit kept, head_more kept x.0 x.1 x.2, x.3))
 
 pub open_unfinished : (kept : List ℕ) → length kept < head_limit → IsOpen (window kept) → IsUnfinished kept
 open_unfinished kept l o = inl (l, subst IsOpen (take_all head_limit kept (omega (arith, l))) o)
 
-pub stands_cut : (kept : List ℕ) (all : Option (List ℕ)) → IfSome all (λ bytes. bytes ≡ kept) → 0 < length kept → IsUnfinished kept
-    → IfSome all (λ bytes. (bytes ≢ []) × IsUnfinished bytes)
-stands_cut kept None x s u = tt
-stands_cut kept (Some bytes) x s u =
-    subst (λ b. (b ≢ []) × IsUnfinished b) (sym x) ((λ e. let l = ap length e in omega (arith, l, s)), u)
+pub stands_cut : (kept : List ℕ) → 0 < length kept → IsUnfinished kept → (kept ≢ []) × IsUnfinished kept
+stands_cut kept s u = ((λ e. let l = ap length e in omega (arith, l, s)), u)
 
 pub stands_begun : (kept : List ℕ) (room : List HeaderSpan) (spans : RequestSpans) (m : Message) (n : ℕ) (h : RequestHead) → IsRequestWithin (window kept) room spans → IsRequestAt (window kept) room spans h → ruling_of h ≡ Body n
     → n ≤ body_limit → m ≡ message_of h [] → Begins kept m spans.len n
@@ -170,3 +159,22 @@ stands_begun kept room spans m n h w x b s e =
       small = s;
       message = e;
     }
+
+-- ---- the same from what was judged
+
+module _ (kept bytes : List ℕ) (room : List HeaderSpan) (judged : Judged) (e : bytes ≡ window kept) where
+  pub judged_hopeless : judged ≡ Hopeless → Judges bytes room judged → HasBad kept 400
+  judged_hopeless is x = stands_hopeless kept (subst (λ w. Judges w room Hopeless) e (subst (λ j. Judges bytes room j) is x))
+
+  pub judged_refused : (status : ℕ) → judged ≡ RefusedHead status → Judges bytes room judged → HasBad kept status
+  judged_refused status is x = stands_refused kept status (subst (λ w. Judges w room (RefusedHead status)) e (subst (λ j. Judges bytes room j) is x))
+
+  pub judged_open : judged ≡ Open → Judges bytes room judged → IsOpen (window kept)
+  judged_open is x = subst (λ w. Judges w room Open) e (subst (λ j. Judges bytes room j) is x)
+
+  pub judged_begun : (spans : RequestSpans) (n : ℕ) (m : Message) → judged ≡ Head spans n → Judges bytes room judged
+      → ((h : RequestHead) → IsRequestAt bytes room spans h → m ≡ message_of h []) → Begins kept m spans.len n
+  judged_begun spans n m is x message =
+      let y : Judges bytes room (Head spans n) = subst (λ j. Judges bytes room j) is x in
+      let z : Judges (window kept) room (Head spans n) = subst (λ w. Judges w room (Head spans n)) e y in
+      stands_begun kept room spans m n z.1 z.0 z.2 z.3 z.4 (subst (λ w. (h : RequestHead) → IsRequestAt w room spans h → m ≡ message_of h []) e message z.1 z.2)

@@ -1,7 +1,10 @@
--- What the answers of a framer say of the bytes: those that it keeps, and those that its link is still to give where the link tells them.
-use Rattle.std.specs.Prelude.{◌≡◌, ◌≢◌, ◌≤◌, ◌+◌, ◌⊎◌, ℕ, List, [], ◌++◌, length, Bool, true, false, Option, Some, None, IfSome}
+-- What the answers of a framer say of the bytes: those that it has read and that belong to no message yet, and those that its link is
+-- still to give where the link tells them.
+use Rattle.std.specs.Prelude.{◌≡◌, ◌≢◌, ◌≤◌, ◌<◌, ◌+◌, ◌⊎◌, ℕ, List, [], ◌++◌, length, Bool, true, false, Option, Some, None}
 use Rattle.rg_http.specs.declared.message.Next.{Next}
 use Rattle.rg_http.specs.declared.message.Next.TheVariants.{Message as Whole, Ended, Cut, Bad}
+use Rattle.rg_http.specs.declared.message.FrameFault.{FrameFault}
+use Rattle.rg_http.specs.declared.message.FrameFault.TheVariants.{Failed, NoMemory}
 use Rattle.rg_http.specs.Rules.{body_limit}
 use Rattle.rg_http.specs.Framing.{head_limit, HasMessage, HasBad, IsUnfinished}
 
@@ -14,31 +17,34 @@ pub record Framed : Type 0 where
 abbrev pub piece_limit : ℕ
 piece_limit = 4096
 
--- the bytes that are kept and those to come
-abbrev pub all_of : List ℕ → Option (List ℕ) → Option (List ℕ)
-all_of kept None = None
-all_of kept (Some left) = Some (kept ++ left)
+-- these bytes were read: with those that are left they make up what there was. A link that tells none goes on telling none
+abbrev pub IsRead : Option (List ℕ) → List ℕ → Option (List ℕ) → Type 0
+IsRead None read after = after ≡ None
+IsRead (Some before) read after = (rest : List ℕ) × (before ≡ read ++ rest) × (after ≡ Some rest)
 
--- the answer is what stands at the front of all the bytes before the call; after a message the bytes behind it are left, so none is
--- lost and none is read twice
-abbrev pub Answers : Option (List ℕ) → Next → Option (List ℕ) → Type 0
-Answers None next after = after ≡ None
-Answers (Some bytes) (Whole m) after = (rest : List ℕ) × (after ≡ Some rest) × HasMessage bytes m rest
-Answers (Some bytes) Ended after = bytes ≡ []
-Answers (Some bytes) Cut after = (bytes ≢ []) × IsUnfinished bytes
-Answers (Some bytes) (Bad status) after = HasBad bytes status
-
--- behind the bytes that are kept no more was read than the answer takes: nothing, or one last piece behind bytes in which no answer
+-- behind the bytes that were kept no more was read than the answer takes: nothing, or one last piece behind bytes in which no answer
 -- stood yet
 abbrev pub IsSparing : List ℕ → List ℕ → Type 0
 IsSparing kept read =
     (read ≡ [])
     ⊎ ((early : List ℕ) × (piece : List ℕ) × (read ≡ early ++ piece) × (length piece ≤ piece_limit) × IsUnfinished (kept ++ early))
 
--- so it is of what a link gave, where it tells the bytes to come
-abbrev pub ReadsSparingly : List ℕ → Option (List ℕ) → Option (List ℕ) → Type 0
-ReadsSparingly kept before after =
-    IfSome before (λ bytes. (read : List ℕ) × (rest : List ℕ) × (bytes ≡ read ++ rest) × (after ≡ Some rest) × IsSparing kept read)
+-- the answer by the bytes read so far, and what is kept of them: after a message those behind it, and else all
+abbrev pub Answers : List ℕ → Next → List ℕ → Type 0
+Answers bytes (Whole m) kept = HasMessage bytes m kept
+Answers bytes Ended kept = (bytes ≡ []) × (kept ≡ [])
+Answers bytes Cut kept = (bytes ≢ []) × IsUnfinished bytes × (kept ≡ bytes)
+Answers bytes (Bad status) kept = HasBad bytes status × (kept ≡ bytes)
+
+-- what a fault leaves of the bytes read so far: all of them. Where the link failed no answer stands in them
+abbrev pub Leaves : List ℕ → FrameFault → List ℕ → Type 0
+Leaves bytes Failed kept = IsUnfinished bytes × (kept ≡ bytes)
+Leaves bytes NoMemory kept = kept ≡ bytes
+
+-- the link's count of faults rises where the fault is the link's, and else stands still
+abbrev pub Counts : FrameFault → ℕ → ℕ → Type 0
+Counts Failed before after = before < after
+Counts NoMemory before after = after ≡ before
 
 -- the most bytes that are ever kept: a head, its body and what the last piece brought besides
 abbrev pub kept_limit : ℕ
@@ -57,3 +63,13 @@ is_end (Whole m) = false
 is_end Ended = true
 is_end Cut = true
 is_end (Bad status) = false
+
+-- a bad place is answered with one of these statuses
+abbrev pub IsRefusal : ℕ → Type 0
+IsRefusal status = (status ≡ 400) ⊎ ((status ≡ 411) ⊎ ((status ≡ 413) ⊎ ((status ≡ 431) ⊎ (status ≡ 501))))
+
+abbrev pub HasKnownStatus : Next → Type 0
+HasKnownStatus (Whole m) = Unit {0}
+HasKnownStatus Ended = Unit {0}
+HasKnownStatus Cut = Unit {0}
+HasKnownStatus (Bad status) = IsRefusal status

@@ -1,5 +1,5 @@
 -- What is known of the bytes on the way to an answer.
-use Rattle.std.specs.Prelude.{◌≡◌, ◌≢◌, ◌<◌, ◌≤◌, ◌⊎◌, ◌++◌, ℕ, List, [], length, take, Bool, true, false, Option, IfSome}
+use Rattle.std.specs.Prelude.{◌≡◌, ◌≢◌, ◌<◌, ◌≤◌, ◌⊎◌, ◌++◌, ℕ, List, [], length, take, Bool, true, false, Option}
 use Rattle.httparse.specs.declared.spans.HeaderSpan.{HeaderSpan}
 use Rattle.httparse.specs.Grammar.{RequestHead, IsRequestHead, print_request}
 use Rattle.httparse.specs.Spans.{IsRequestAt, IsRequestWithin}
@@ -11,7 +11,9 @@ use Rattle.rg_http.specs.declared.framer.Place.{Place}
 use Rattle.rg_http.specs.declared.framer.Place.TheVariants.{Ended, Cut, Bad, Begun}
 use Rattle.rg_http.specs.Rules.{body_limit}
 use Rattle.rg_http.specs.Framing.{head_limit, ruling_of, message_of, IsOpen, IsHopeless, HasHead, HasBad, IsUnfinished}
-use Rattle.rg_http.specs.Answers.{piece_limit, IsSparing}
+use Rattle.rg_http.specs.declared.message.FrameFault.{FrameFault}
+use Rattle.rg_http.specs.declared.message.FrameFault.TheVariants.{Failed, NoMemory}
+use Rattle.rg_http.specs.Answers.{piece_limit, IsRead, IsSparing}
 
 -- no fewer than the fields that the window of a head can hold: each takes three bytes at least
 abbrev pub field_room : ℕ
@@ -37,12 +39,12 @@ pub record Begins (kept : List ℕ) (m : Message) (len n : ℕ) : Type 0 where
   pub small : n ≤ body_limit
   pub message : m ≡ message_of head []
 
--- what stands at the front of the kept bytes, and of all bytes where they are told
-abbrev pub Stands : List ℕ → Option (List ℕ) → Place → Type 0
-Stands kept all Ended = IfSome all (λ bytes. bytes ≡ [])
-Stands kept all Cut = IfSome all (λ bytes. (bytes ≢ []) × IsUnfinished bytes)
-Stands kept all (Bad status) = IfSome all (λ bytes. HasBad bytes status)
-Stands kept all (Begun m len n) = Begins kept m len n
+-- what stands at the front of the kept bytes
+abbrev pub Stands : List ℕ → Place → Type 0
+Stands kept Ended = kept ≡ []
+Stands kept Cut = (kept ≢ []) × IsUnfinished kept
+Stands kept (Bad status) = HasBad kept status
+Stands kept (Begun m len n) = Begins kept m len n
 
 -- the place is told only where the link has ended
 abbrev pub says_end : Place → Bool
@@ -51,12 +53,23 @@ says_end Cut = true
 says_end (Bad status) = false
 says_end (Begun m len n) = false
 
+-- a piece was read behind the old bytes, or nothing
+abbrev pub Took : Option (List ℕ) → Option (List ℕ) → List ℕ → List ℕ → Type 0
+Took before after old new = (piece : List ℕ) × IsRead before piece after × (new ≡ old ++ piece) × (length piece ≤ piece_limit)
+
 -- more was read behind the old bytes: nothing, or a last piece behind fewer bytes than are needed
-abbrev pub FillsTo : List ℕ → List ℕ → ℕ → Type 0
-FillsTo old new need =
-    (new ≡ old)
-    ⊎ ((early : List ℕ) × (piece : List ℕ) × (new ≡ old ++ (early ++ piece)) × (length piece ≤ piece_limit) × (length (old ++ early) < need))
+abbrev pub FillsTo : ℕ → List ℕ → List ℕ → Type 0
+FillsTo need old read =
+    (read ≡ []) ⊎ ((early : List ℕ) × (piece : List ℕ) × (read ≡ early ++ piece) × (length piece ≤ piece_limit) × (length (old ++ early) < need))
+
+abbrev pub Fills : ℕ → Option (List ℕ) → Option (List ℕ) → List ℕ → List ℕ → Type 0
+Fills need before after old new = (read : List ℕ) × IsRead before read after × (new ≡ old ++ read) × FillsTo need old read
 
 -- more was read behind the old bytes, sparingly
-abbrev pub Grows : List ℕ → List ℕ → Type 0
-Grows old new = (read : List ℕ) × (new ≡ old ++ read) × IsSparing old read
+abbrev pub Grows : Option (List ℕ) → Option (List ℕ) → List ℕ → List ℕ → Type 0
+Grows before after old new = (read : List ℕ) × IsRead before read after × (new ≡ old ++ read) × IsSparing old read
+
+-- where the link fails no answer stands in the kept bytes
+abbrev pub Breaks : List ℕ → FrameFault → Type 0
+Breaks kept Failed = IsUnfinished kept
+Breaks kept NoMemory = Unit {0}

@@ -1,14 +1,15 @@
 // Messages in the bytes that a link gives.
-ghost use Rattle.std.specs.Prelude.{◌≡◌, ◌≢◌, ◌≤◌, ◌<◌, ◌+◌, [], length, take, drop, max, vec_len, true, false, IfOk, IfSome, OnOk, OnErr, IsErrOf, Ok, Some, Option, List, ℕ};
-ghost use Rattle.rg_http.specs.Rules.{body_limit};
+ghost use Rattle.std.specs.Prelude.{◌≡◌, ◌≤◌, ◌+◌, [], ◌++◌, length, max, true, false, IfOk, OnErr, MatchResult, List, ℕ};
+ghost use Rattle.rg_ports.specs.Bytes.{IsUsedUp};
 ghost use Rattle.rg_http.specs.Framing.{head_limit, window};
-ghost use Rattle.rg_http.specs.Answers.{Framed, Answers, ReadsSparingly, all_of, is_message, is_end, piece_limit, kept_limit};
-ghost use Rattle.rg_http.specs.Places.{Stands, Begins, Grows, says_end, field_room};
+ghost use Rattle.rg_http.specs.Answers.{Framed, Answers, Leaves, Counts, IsRead, IsSparing, HasKnownStatus, is_message, is_end, piece_limit, kept_limit};
+ghost use Rattle.rg_http.specs.Places.{Stands, Begins, Grows, Breaks, says_end};
 
 use crate::heads::{Judged, judge};
+use crate::inbox::Inbox;
 use crate::message::{FrameFault, Message, Next};
 use crate::parts::{begin_message, bytes_of};
-use crate::pieces::{fill_to, take_piece};
+use crate::rules::FIELD_LIMIT;
 use httparse::spans::{EMPTY_HEADER_SPAN, HeaderSpan};
 use rg_base::NoMemory;
 use rg_ports::Link;
@@ -17,9 +18,6 @@ use std::marker::Model;
 
 /// How many bytes of a message's place its head is looked for in.
 const HEAD_LIMIT: usize = 16384;
-
-/// Room for every field that these bytes can hold, so that the parser never runs out of it.
-const FIELD_ROOM: usize = 5461;
 
 /// What stands at the front of a stream, as far as its head tells.
 #[derive(Drop)]
@@ -45,38 +43,37 @@ fn window_of(held: &[u8]) -> &[u8]
 // Reads until it is known what stands at the front. The parts of a whole head are copied here, where its spans are fresh.
 fn find_head<T: Link>(
     alloc: Global,
-    held: &mut Vec<u8>,
-    room: &mut [HeaderSpan],
+    inbox: &mut Inbox,
+    room: &mut Vec<HeaderSpan>,
     link: &mut T,
 ) -> Result<Place, FrameFault>
-    requires { field_room ≤ length room.old }
-    ensures same { OnOk result (all_of held.new.items (T.left link.new) ≡ all_of held.old.items (T.left link.old)) }
-    ensures grows { OnOk result (Grows held.old.items held.new.items) }
-    ensures bounded { length held.new.items ≤ max (length held.old.items) (head_limit + piece_limit) }
-    ensures place { IfOk result (λ p. Stands held.new.items (all_of held.new.items (T.left link.new)) p) }
-    ensures end { IfOk result (λ p. says_end p ≡ true → T.ended link.new ≡ true) }
-    ensures kept { T.faults link.old ≤ T.faults link.new }
-    ensures failed { IsErrOf result FrameFault.Failed → T.faults link.old < T.faults link.new }
+    ensures grows { Grows (T.left link.old) (T.left link.new) inbox.old inbox.new }
+    ensures bounded { length inbox.new ≤ max (length inbox.old) (head_limit + piece_limit) }
+    ensures place { MatchResult result (Stands inbox.new) (Breaks inbox.new) }
+    ensures end { IfOk result (λ p. says_end p ≡ true → (T.ended link.new ≡ true) × IsUsedUp (T.left link.new)) }
+    ensures faults { MatchResult result (λ _. T.faults link.new ≡ T.faults link.old) (λ fault. Counts fault (T.faults link.old) (T.faults link.new)) }
     ensures unwritten { T.held link.new ≡ T.held link.old }
 {
     loop {
-        let window = window_of(held.as_slice());
-        match judge(window, room) {
+        let window = window_of(inbox.bytes());
+        match judge(window, room)? {
             Judged::Hopeless => return Ok(Place::Bad(400)),
             Judged::Refused(status) => return Ok(Place::Bad(status)),
             Judged::Head(head, n) => {
-                return match begin_message(alloc, window, room, head) {
-                    Ok(message) => Ok(Place::Begun(message, head.len, n)),
-                    Err(_) => Err(FrameFault::NoMemory),
-                };
+                let message = begin_message(alloc, window, room.as_slice(), head)?;
+                return Ok(Place::Begun(message, head.len, n));
             }
             Judged::Open => {}
         }
-        if held.len() >= HEAD_LIMIT {
+        if inbox.bytes().len() >= HEAD_LIMIT {
             return Ok(Place::Bad(431));
         }
-        if !take_piece(held, link)? {
-            if held.is_empty() {
+        let more = match inbox.take_piece(link) {
+            Ok(more) => more,
+            Err(fault) => return Err(fault),
+        };
+        if !more {
+            if inbox.bytes().is_empty() {
                 return Ok(Place::Ended);
             }
             return Ok(Place::Cut);
@@ -84,41 +81,36 @@ fn find_head<T: Link>(
     }
 }
 
-// Takes the first bytes out.
-fn remove_front(held: &mut Vec<u8>, n: usize)
-    requires { n ≤ vec_len held.old }
-    ensures { held.new.items ≡ drop n held.old.items }
-{
-    held.drain(..n);
-}
-
 // Reads the body of a message whose head came whole, and takes the message out.
 fn finish_message<T: Link>(
     alloc: Global,
-    held: &mut Vec<u8>,
+    inbox: &mut Inbox,
     message: Message,
     len: usize,
     n: u32,
     link: &mut T,
 ) -> Result<Next, FrameFault>
-    requires { Begins held.old.items message len n }
-    ensures answer { IfOk result (λ next. Answers (all_of held.old.items (T.left link.old)) next (all_of held.new.items (T.left link.new))) }
-    ensures sparing { OnOk result (ReadsSparingly held.old.items (T.left link.old) (T.left link.new)) }
-    ensures bounded { length held.new.items ≤ max (length held.old.items) kept_limit }
-    ensures end { IfOk result (λ next. is_end next ≡ true → T.ended link.new ≡ true) }
-    ensures kept { T.faults link.old ≤ T.faults link.new }
-    ensures failed { IsErrOf result FrameFault.Failed → T.faults link.old < T.faults link.new }
+    requires { Begins inbox.old message len n }
+    ensures answer { (read : List ℕ) × IsRead (T.left link.old) read (T.left link.new) × IsSparing inbox.old read
+        × MatchResult result (λ next. Answers (inbox.old ++ read) next inbox.new) (λ fault. Leaves (inbox.old ++ read) fault inbox.new) }
+    ensures bounded { length inbox.new ≤ max (length inbox.old) kept_limit }
+    ensures end { IfOk result (λ next. is_end next ≡ true → (T.ended link.new ≡ true) × IsUsedUp (T.left link.new)) }
+    ensures faults { MatchResult result (λ _. T.faults link.new ≡ T.faults link.old) (λ fault. Counts fault (T.faults link.old) (T.faults link.new)) }
     ensures unwritten { T.held link.new ≡ T.held link.old }
 {
     let need = len + n as usize;
-    if !fill_to(held, need, link)? {
+    let whole = match inbox.fill_to(need, link) {
+        Ok(whole) => whole,
+        Err(fault) => return Err(fault),
+    };
+    if !whole {
         return Ok(Next::Cut);
     }
-    let body = match bytes_of(alloc, &held[len..need]) {
+    let body = match bytes_of(alloc, &inbox.bytes()[len..need]) {
         Ok(body) => body,
-        Err(_) => return Err(FrameFault::NoMemory),
+        Err(NoMemory) => return Err(FrameFault::NoMemory),
     };
-    remove_front(held, need);
+    inbox.remove_front(need);
     Ok(Next::Message(Message {
         method: message.method,
         target: message.target,
@@ -131,24 +123,26 @@ fn finish_message<T: Link>(
 // Reads until it is known what stands at the front, and takes a message out.
 fn answer<T: Link>(
     alloc: Global,
-    held: &mut Vec<u8>,
-    room: &mut [HeaderSpan],
+    inbox: &mut Inbox,
+    room: &mut Vec<HeaderSpan>,
     link: &mut T,
 ) -> Result<Next, FrameFault>
-    requires { field_room ≤ length room.old }
-    ensures answer { IfOk result (λ next. Answers (all_of held.old.items (T.left link.old)) next (all_of held.new.items (T.left link.new))) }
-    ensures sparing { OnOk result (ReadsSparingly held.old.items (T.left link.old) (T.left link.new)) }
-    ensures bounded { length held.new.items ≤ max (length held.old.items) kept_limit }
-    ensures end { IfOk result (λ next. is_end next ≡ true → T.ended link.new ≡ true) }
-    ensures kept { T.faults link.old ≤ T.faults link.new }
-    ensures failed { IsErrOf result FrameFault.Failed → T.faults link.old < T.faults link.new }
+    ensures answer { (read : List ℕ) × IsRead (T.left link.old) read (T.left link.new) × IsSparing inbox.old read
+        × MatchResult result (λ next. Answers (inbox.old ++ read) next inbox.new) (λ fault. Leaves (inbox.old ++ read) fault inbox.new) }
+    ensures bounded { length inbox.new ≤ max (length inbox.old) kept_limit }
+    ensures end { IfOk result (λ next. is_end next ≡ true → (T.ended link.new ≡ true) × IsUsedUp (T.left link.new)) }
+    ensures faults { MatchResult result (λ _. T.faults link.new ≡ T.faults link.old) (λ fault. Counts fault (T.faults link.old) (T.faults link.new)) }
     ensures unwritten { T.held link.new ≡ T.held link.old }
 {
-    match find_head(alloc, held, room, link)? {
+    let place = match find_head(alloc, inbox, room, link) {
+        Ok(place) => place,
+        Err(fault) => return Err(fault),
+    };
+    match place {
         Place::Ended => Ok(Next::Ended),
         Place::Cut => Ok(Next::Cut),
         Place::Bad(status) => Ok(Next::Bad(status)),
-        Place::Begun(message, len, n) => finish_message(alloc, held, message, len, n, link),
+        Place::Begun(message, len, n) => finish_message(alloc, inbox, message, len, n, link),
     }
 }
 
@@ -156,7 +150,7 @@ fn answer<T: Link>(
 /// and whether it still answers.
 #[derive(Drop)]
 pub struct Framer {
-    held: Vec<u8>,
+    inbox: Inbox,
     room: Vec<HeaderSpan>,
     live: bool,
 }
@@ -164,48 +158,48 @@ pub struct Framer {
 impl Model for Framer {
     ghost use Rattle.std.specs.Prelude.{◌≤◌, length};
     ghost use Rattle.rg_http.specs.Answers.{Framed, kept_limit};
-    ghost use Rattle.rg_http.specs.Places.{field_room};
 
     ghost Value = { Framed };
 
-    ghost view = { λ f. record { bytes = f.held.items; live = f.live } };
+    ghost view = { λ f. record { bytes = f.inbox; live = f.live } };
 
-    ghost invariant = { λ f. (field_room ≤ length f.room.items) × (length f.held.items ≤ kept_limit) };
+    ghost invariant = { λ f. length f.inbox ≤ kept_limit };
 }
 
 impl Framer {
-    /// At the beginning of a stream.
+    /// At the beginning of a stream. It takes room for one piece, and for as many fields as a head may have and one more.
     pub fn new(alloc: Global) -> Result<Framer, NoMemory>
         ensures { IfOk result (λ f. f ≡ record { bytes = []; live = true }) }
     {
-        match vec![in alloc; EMPTY_HEADER_SPAN; FIELD_ROOM] {
-            Ok(room) => Ok(Framer {
-                held: Vec::new(alloc),
-                room,
-                live: true,
-            }),
-            Err(_) => Err(NoMemory),
-        }
+        Ok(Framer {
+            inbox: Inbox::new(alloc)?,
+            room: vec![in alloc; EMPTY_HEADER_SPAN; FIELD_LIMIT + 1]?,
+            live: true,
+        })
     }
 
     /// Reads until it is known what stands at the front of the stream, and takes a message out. It reads no further than that takes,
     /// in pieces of at most 4,096 bytes, and keeps what it read beyond a message for the next call. After anything but a message it
-    /// answers no more.
+    /// answers no more, and keeps all that it read. Want of memory costs no byte.
     pub fn next<T: Link>(&mut self, alloc: Global, link: &mut T) -> Result<Next, FrameFault>
         requires { self.old.live ≡ true }
-        ensures answer { IfOk result (λ next. Answers (all_of self.old.bytes (T.left link.old)) next (all_of self.new.bytes (T.left link.new))) }
-        ensures end { IfOk result (λ next. is_end next ≡ true → T.ended link.new ≡ true) }
-        ensures sparing { OnOk result (ReadsSparingly self.old.bytes (T.left link.old) (T.left link.new)) }
+        ensures answer { (read : List ℕ) × IsRead (T.left link.old) read (T.left link.new) × IsSparing self.old.bytes read
+            × MatchResult result (λ next. Answers (self.old.bytes ++ read) next self.new.bytes) (λ fault. Leaves (self.old.bytes ++ read) fault self.new.bytes) }
+        ensures end { IfOk result (λ next. is_end next ≡ true → (T.ended link.new ≡ true) × IsUsedUp (T.left link.new)) }
+        ensures status { IfOk result HasKnownStatus }
         ensures bounded { length self.new.bytes ≤ kept_limit }
         ensures live { IfOk result (λ next. self.new.live ≡ is_message next) }
         ensures dead { OnErr result (self.new.live ≡ false) }
-        ensures kept { T.faults link.old ≤ T.faults link.new }
-        ensures failed { IsErrOf result FrameFault.Failed → T.faults link.old < T.faults link.new }
+        ensures faults { MatchResult result (λ _. T.faults link.new ≡ T.faults link.old) (λ fault. Counts fault (T.faults link.old) (T.faults link.new)) }
         ensures unwritten { T.held link.new ≡ T.held link.old }
     {
         self.live = false;
-        let next = answer(alloc, &mut self.held, self.room.as_mut_slice(), link)?;
-        self.live = next.is_message();
-        Ok(next)
+        match answer(alloc, &mut self.inbox, &mut self.room, link) {
+            Ok(next) => {
+                self.live = next.is_message();
+                Ok(next)
+            }
+            Err(fault) => Err(fault),
+        }
     }
 }

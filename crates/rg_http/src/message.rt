@@ -2,7 +2,8 @@
 ghost use Rattle.std.specs.Prelude.{◌≡◌};
 ghost use Rattle.rg_http.specs.Answers.{is_message};
 
-use rg_base::{Seq, Text};
+use rg_base::{Failed, NoMemory, Seq, Text};
+use std::alloc::AllocError;
 use thiserror::Error;
 
 /// A message that came whole.
@@ -61,6 +62,39 @@ pub enum FrameFault {
     Failed,
     #[error("memory was refused")]
     NoMemory,
+}
+
+impl From<Failed> for FrameFault {
+    ghost use Rattle.std.specs.Prelude.{◌≡◌};
+    ghost use Rattle.rg_http.specs.declared.message.FrameFault.TheVariants as fault;
+
+    ghost from_gives = { λ _ f. f ≡ fault.Failed };
+
+    fn from(_: Failed) -> FrameFault {
+        FrameFault::Failed
+    }
+}
+
+impl From<NoMemory> for FrameFault {
+    ghost use Rattle.std.specs.Prelude.{◌≡◌};
+    ghost use Rattle.rg_http.specs.declared.message.FrameFault.TheVariants as fault;
+
+    ghost from_gives = { λ _ f. f ≡ fault.NoMemory };
+
+    fn from(_: NoMemory) -> FrameFault {
+        FrameFault::NoMemory
+    }
+}
+
+impl From<AllocError> for FrameFault {
+    ghost use Rattle.std.specs.Prelude.{◌≡◌};
+    ghost use Rattle.rg_http.specs.declared.message.FrameFault.TheVariants as fault;
+
+    ghost from_gives = { λ _ f. f ≡ fault.NoMemory };
+
+    fn from(_: AllocError) -> FrameFault {
+        FrameFault::NoMemory
+    }
 }
 
 /// What is answered to a message.

@@ -28,10 +28,8 @@ fn text_of(alloc: Global, bytes: &[u8]) -> Result<Text, NoMemory>
 pub fn bytes_of(alloc: Global, bytes: &[u8]) -> Result<Seq<u8>, NoMemory>
     ensures { IfOk result (λ copy. copy ≡ listed bytes.now) }
 {
-    match Vec::from_slice(alloc, bytes) {
-        Ok(copy) => Ok(Seq::from_vec(copy)),
-        Err(_) => Err(NoMemory),
-    }
+    let copy = Vec::from_slice(alloc, bytes)?;
+    Ok(Seq::from_vec(copy))
 }
 
 fn value_of(alloc: Global, value: Option<&[u8]>) -> Result<Option<Seq<u8>>, NoMemory>

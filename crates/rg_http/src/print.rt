@@ -9,6 +9,9 @@ use http::StatusCode;
 use rg_base::{NoMemory, Seq};
 use std::alloc::{AllocError, Global};
 
+/// No fewer bytes than the longest head has: 46 of the status line, 19, 38 and 32 of the fields, and the empty line.
+const HEAD_ROOM: usize = 144;
+
 // Whether a response with this status has no length.
 fn is_bare(status: u16) -> bool
     ensures { result ≡ is_bare status }
@@ -58,12 +61,13 @@ fn length_lines(text: &mut String, status: u16, len: usize) -> Result<(), AllocE
     type_line(text, len)
 }
 
-// All before the body.
+// All before the body, with room for the body behind it.
 fn head_text(alloc: Global, response: &Response) -> Result<String, AllocError>
     requires { IsStatusCode response.now.status }
     ensures { IfOk result (λ s. string_bytes s ++ response.now.body.items ≡ response_text response.now) }
 {
-    let mut text = String::new(alloc);
+    let room = response.body.len().saturating_add(HEAD_ROOM);
+    let mut text = String::with_capacity(alloc, room)?;
     status_line(&mut text, response.status)?;
     close_line(&mut text, response.close)?;
     length_lines(&mut text, response.status, response.body.len())?;
@@ -71,21 +75,13 @@ fn head_text(alloc: Global, response: &Response) -> Result<String, AllocError>
     Ok(text)
 }
 
-/// The bytes of a response. Its status is one of 100 to 999, those that `http` knows as numbers of statuses.
+/// The bytes of a response. Its status is one of 100 to 999, those that `http` knows as numbers of statuses. The bytes are written
+/// into one room, taken at once.
 pub fn print_response(alloc: Global, response: &Response) -> Result<Seq<u8>, NoMemory>
     requires { IsStatusCode response.now.status }
     ensures { IfOk result (λ bytes. bytes ≡ listed (response_text response.now)) }
 {
-    let head = match head_text(alloc, response) {
-        Ok(head) => head,
-        Err(_) => return Err(NoMemory),
-    };
-    let mut all = match Vec::from_slice(alloc, head.as_bytes()) {
-        Ok(all) => all,
-        Err(_) => return Err(NoMemory),
-    };
-    if all.extend_from_slice(response.body.as_slice()).is_err() {
-        return Err(NoMemory);
-    }
+    let mut all = head_text(alloc, response)?.into_bytes();
+    all.extend_from_slice(response.body.as_slice())?;
     Ok(Seq::from_vec(all))
 }

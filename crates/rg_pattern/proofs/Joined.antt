@@ -1,14 +1,15 @@
 -- Patterns one after the other: the twin, covering, and the literal prefix.
-use Rattle.std.proofs.Common.{◌≡◌, ℕ, List, [], ◌∷◌, ◌++◌, Bool, true, false, ◌||◌, cond, map, refl, subst, sym, ap, ◌∙◌, arith, append_assoc, inl, inr}
-use Rattle.std.proofs.lemmas.Bool.{false≢true, and_parts, and_from}
+use Rattle.std.proofs.Common.{◌≡◌, nat_eq, ℕ, List, [], ◌∷◌, ◌++◌, Bool, true, false, ◌||◌, cond, refl, subst, sym, ap, ◌∙◌, arith, append_assoc, inl, inr}
+use Rattle.std.proofs.lemmas.Bool.{false≢true, and_parts, and_from, eq-eqb}
 use Rattle.std.proofs.lemmas.Bool.Decides.{nat_tests}
 use Rattle.std.proofs.lemmas.List.{append-nil, map-append}
 use Rattle.std.specs.Char.{to_ascii_lowercase}
+use Rattle.std.specs.List.{starts_with}
 use Rattle.std.specs.Str.{all_scalars}
 use lib.Utf8.{scalar}
 use Rattle.rg_pattern.specs.declared.atoms.Atom.{Atom}
 use Rattle.rg_pattern.specs.declared.atoms.Atom.TheVariants.{Character, One, Any, User}
-use Rattle.rg_pattern.specs.Folding.{folded}
+use Rattle.rg_base.specs.Folding.{folded, folded_char}
 use Rattle.rg_pattern.specs.Atoms.{is_user, has_user, are_scalars, is_slash, ends_in_slash, twin, literal_prefix}
 use Rattle.rg_pattern.specs.Standing.{Stands, IsBelow}
 use Rattle.rg_pattern.specs.Covering.{Covers, IsSingle}
@@ -43,7 +44,7 @@ stands_join fold user (Any ∷ p) q front rest h s = (h.0, h.1 ++ rest, ap (λ z
 lower_slash : (x : ℕ) → 47 ≡ to_ascii_lowercase x → x ≡ 47
 lower_slash x e = grind (arith, nat_tests)
 
-only_slash : (fold : Bool) (x : ℕ) → folded fold 47 ≡ folded fold x → x ≡ 47
+only_slash : (fold : Bool) (x : ℕ) → folded_char fold 47 ≡ folded_char fold x → x ≡ 47
 only_slash false x e = sym e
 only_slash true x e = lower_slash x e
 
@@ -92,27 +93,27 @@ covers_stands fold user (User ∷ q) p t k h =
     let o = subst (λ (z : List Atom). Stands fold user z t) k.1 h in
     (o.0, o.1, o.2, o.3, covers_stands fold user q k.0 o.1 k.2 o.4)
 
-pub prefix_begins : (fold : Bool) (user : List ℕ) (p : List Atom) (t : List ℕ) → Stands fold user p t → (rest : List ℕ) × (map (folded fold) t ≡ literal_prefix fold p ++ rest)
-prefix_begins fold user [] t h = (map (folded fold) t, refl)
+prefix_begins : (fold : Bool) (user : List ℕ) (p : List Atom) (t : List ℕ) → Stands fold user p t → (rest : List ℕ) × (folded fold t ≡ literal_prefix fold p ++ rest)
+prefix_begins fold user [] t h = (folded fold t, refl)
 prefix_begins fold user (Character c ∷ p) t h =
     let o = prefix_begins fold user p h.1 h.4 in
-    (o.0, ap (map (folded fold)) h.2 ∙ ap (λ y. y ∷ map (folded fold) h.1) (sym h.3) ∙ ap (λ s. folded fold c ∷ s) o.1)
-prefix_begins fold user (One ∷ p) t h = (map (folded fold) t, refl)
-prefix_begins fold user (Any ∷ p) t h = (map (folded fold) t, refl)
-prefix_begins fold user (User ∷ p) t h = (map (folded fold) t, refl)
+    (o.0, ap (folded fold) h.2 ∙ ap (λ y. y ∷ folded fold h.1) (sym h.3) ∙ ap (λ s. folded_char fold c ∷ s) o.1)
+prefix_begins fold user (One ∷ p) t h = (folded fold t, refl)
+prefix_begins fold user (Any ∷ p) t h = (folded fold t, refl)
+prefix_begins fold user (User ∷ p) t h = (folded fold t, refl)
 
 pub ends_in_slash_push : (p : List Atom) (a : Atom) → ends_in_slash (p ++ a ∷ []) ≡ is_slash a
 ends_in_slash_push [] a = refl
 ends_in_slash_push (b ∷ []) a = refl
 ends_in_slash_push (b ∷ c ∷ p) a = ends_in_slash_push (c ∷ p) a
 
-pub twin_prefix_begins : (fold : Bool) (user : List ℕ) (p : List Atom) (t : List ℕ) → Stands fold user (twin p) t → (rest : List ℕ) × (map (folded fold) t ≡ literal_prefix fold p ++ rest)
+twin_prefix_begins : (fold : Bool) (user : List ℕ) (p : List Atom) (t : List ℕ) → Stands fold user (twin p) t → (rest : List ℕ) × (folded fold t ≡ literal_prefix fold p ++ rest)
 twin_prefix_begins fold user p t h =
     let b = twin_below fold user p t h in
     let o = prefix_begins fold user p b.0 b.2 in
     let added = cond (ends_in_slash p) b.1 (47 ∷ b.1) in (
-      o.0 ++ map (folded fold) added,
-      ap (map (folded fold)) b.3 ∙ map-append (folded fold) b.0 added ∙ ap (λ z. z ++ map (folded fold) added) o.1 ∙ append_assoc (literal_prefix fold p) o.0 (map (folded fold) added),
+      o.0 ++ folded fold added,
+      ap (folded fold) b.3 ∙ map-append (folded_char fold) b.0 added ∙ ap (λ z. z ++ folded fold added) o.1 ∙ append_assoc (literal_prefix fold p) o.0 (folded fold added),
     )
 
 pub same_for_all : (fold : Bool) (user other : List ℕ) (p : List Atom) (t : List ℕ) → has_user p ≡ false → Stands fold user p t → Stands fold other p t
@@ -142,3 +143,17 @@ tail_user false = refl
 
 pub has_user-twin : (p : List Atom) → has_user (twin p) ≡ has_user p
 has_user-twin p = has_user-append p (tail (ends_in_slash p)) (tail_user (ends_in_slash p))
+
+-- the same, as a walk of a trie asks it
+begins : (needle rest : List ℕ) → starts_with nat_eq (needle ++ rest) needle ≡ true
+begins [] rest = refl
+begins (c ∷ needle) rest = and_from _ _ (eq-eqb c c refl) (begins needle rest)
+
+starts : (prefix text : List ℕ) → (rest : List ℕ) × (text ≡ prefix ++ rest) → starts_with nat_eq text prefix ≡ true
+starts prefix text o = ap (λ s. starts_with nat_eq s prefix) o.1 ∙ begins prefix o.0
+
+pub prefix_starts : (fold : Bool) (user : List ℕ) (p : List Atom) (t : List ℕ) → Stands fold user p t → starts_with nat_eq (folded fold t) (literal_prefix fold p) ≡ true
+prefix_starts fold user p t h = starts (literal_prefix fold p) (folded fold t) (prefix_begins fold user p t h)
+
+pub twin_prefix_starts : (fold : Bool) (user : List ℕ) (p : List Atom) (t : List ℕ) → Stands fold user (twin p) t → starts_with nat_eq (folded fold t) (literal_prefix fold p) ≡ true
+twin_prefix_starts fold user p t h = starts (literal_prefix fold p) (folded fold t) (twin_prefix_begins fold user p t h)

@@ -1,12 +1,12 @@
 -- Reading a written value atom by atom.
-use Rattle.std.proofs.Common.{◌≡◌, ◌<◌, ◌≤◌, ℕ, zero, suc, List, [], ◌∷◌, ◌++◌, Bool, true, false, ◌&&◌, Option, Some, None, cond, length, nat_eq, refl, sym, ap, ◌∙◌, arith}
+use Rattle.std.proofs.Common.{◌≡◌, ◌||◌, ◌<◌, ◌≤◌, ℕ, zero, suc, List, [], ◌∷◌, ◌++◌, Bool, true, false, ◌&&◌, Option, Some, None, cond, length, nat_eq, refl, sym, ap, ◌∙◌, arith}
 use Rattle.std.proofs.lemmas.Bool.{and_parts, and_from, eqb-true}
 use Rattle.std.specs.Option.{is_some}
 use Rattle.std.specs.Str.{all_scalars, chars}
 use lib.Utf8.{scalar}
 use Rattle.rg_pattern.specs.declared.atoms.Atom.{Atom}
 use Rattle.rg_pattern.specs.declared.atoms.Atom.TheVariants.{Character, One, Any, User}
-use Rattle.rg_pattern.specs.Atoms.{are_scalars, twin, ends_in_slash}
+use Rattle.rg_pattern.specs.Atoms.{are_scalars, has_user, is_user, twin, ends_in_slash}
 use Rattle.rg_pattern.specs.Tests.{same_char, strip_prefix}
 use Rattle.rg_pattern.specs.Reading.{user_mark, atom_of, atoms_past, atoms_of}
 use Rattle.rg_pattern.proofs.Walks.{chosen, strip_prefix_le}
@@ -92,3 +92,18 @@ scalars-twin p e = scalars-append p (cond (ends_in_slash p) (Any ∷ []) (Charac
   of_tail : (b : Bool) → are_scalars (cond b (Any ∷ []) (Character 47 ∷ Any ∷ [])) ≡ true
   of_tail true = refl
   of_tail false = refl
+
+-- a character of its own is no user, and so it plays no part whether wildcards are on
+no_user : (any one : Bool) (c : ℕ) → is_user (cond any Any (cond one One (Character c))) ≡ false
+no_user true one c = refl
+no_user false true c = refl
+no_user false false c = refl
+
+pub user_past : (wild : Bool) (skip : ℕ) (t : List ℕ) → has_user (atoms_past wild skip t) ≡ has_user (atoms_past false skip t)
+user_past wild skip [] = refl
+user_past wild (suc skip) (c ∷ t) = user_past wild skip t
+user_past wild zero (c ∷ t) = at (is_some (strip_prefix false user_mark (c ∷ t))) (user_past wild 0 t) where
+  at : (b : Bool) → has_user (atoms_past wild 0 t) ≡ has_user (atoms_past false 0 t)
+      → has_user (cond b (User ∷ atoms_past wild 5 t) (atom_of wild c ∷ atoms_past wild 0 t)) ≡ has_user (cond b (User ∷ atoms_past false 5 t) (atom_of false c ∷ atoms_past false 0 t))
+  at true later = refl
+  at false later = ap (λ b. b || has_user (atoms_past wild 0 t)) (no_user (wild && nat_eq c 42) (wild && nat_eq c 63) c) ∙ later

@@ -5,7 +5,7 @@ use Rattle.std.specs.Str.{all_scalars}
 use lib.Utf8.{scalar}
 use Rattle.rg_pattern.specs.declared.atoms.Atom.{Atom}
 use Rattle.rg_pattern.specs.declared.atoms.Atom.TheVariants.{Character, One, Any, User}
-use Rattle.rg_pattern.specs.Folding.{folded}
+use Rattle.rg_base.specs.Folding.{folded_char}
 use Rattle.rg_pattern.specs.Atoms.{is_user, has_user, are_scalars}
 use Rattle.rg_pattern.specs.Standing.{Overlap}
 use Rattle.rg_pattern.specs.Tests.{same_char, stands, some_suffix, is_any, share_char, row, all_any, overlaps}
@@ -26,10 +26,10 @@ same_char_self : (fold : Bool) (c : ℕ) → same_char fold c c ≡ true
 same_char_self fold c = eq-eqb _ _ refl
 
 same_char_sym : (fold : Bool) (c d : ℕ) → same_char fold c d ≡ true → same_char fold d c ≡ true
-same_char_sym fold c d e = eq-eqb _ _ (sym (eqb-true (folded fold c) (folded fold d) e))
+same_char_sym fold c d e = eq-eqb _ _ (sym (eqb-true (folded_char fold c) (folded_char fold d) e))
 
 same_char_trans : (fold : Bool) (c d x : ℕ) → same_char fold c d ≡ true → same_char fold d x ≡ true → same_char fold c x ≡ true
-same_char_trans fold c d x e h = eq-eqb _ _ (eqb-true (folded fold c) (folded fold d) e ∙ eqb-true (folded fold d) (folded fold x) h)
+same_char_trans fold c d x e h = eq-eqb _ _ (eqb-true (folded_char fold c) (folded_char fold d) e ∙ eqb-true (folded_char fold d) (folded_char fold x) h)
 
 all_any-stands : (fold : Bool) (q : List Atom) → all_any q ≡ true → stands fold [] q [] ≡ true
 all_any-stands fold [] e = refl

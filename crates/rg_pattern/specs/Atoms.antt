@@ -4,7 +4,7 @@ use Rattle.std.specs.List.{list_any}
 use Rattle.std.specs.Str.{all_scalars}
 use Rattle.rg_pattern.specs.declared.atoms.Atom.{Atom}
 use Rattle.rg_pattern.specs.declared.atoms.Atom.TheVariants.{Character, One, Any, User}
-use Rattle.rg_pattern.specs.Folding.{folded}
+use Rattle.rg_base.specs.Folding.{folded_char}
 
 abbrev pub is_user : Atom → Bool
 is_user User = true
@@ -47,7 +47,7 @@ twin p = p ++ (if ends_in_slash p then Any ∷ [] else Character 47 ∷ Any ∷ 
 -- the characters before the first atom that is no character, folded if asked
 abbrev pub literal_prefix : Bool → List Atom → List ℕ
 literal_prefix fold [] = []
-literal_prefix fold (Character c ∷ p) = folded fold c ∷ literal_prefix fold p
+literal_prefix fold (Character c ∷ p) = folded_char fold c ∷ literal_prefix fold p
 literal_prefix fold (One ∷ p) = []
 literal_prefix fold (Any ∷ p) = []
 literal_prefix fold (User ∷ p) = []

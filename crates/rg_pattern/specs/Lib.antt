@@ -1,4 +1,3 @@
-pub mod Folding
 pub mod Atoms
 pub mod Reading
 pub mod Standing

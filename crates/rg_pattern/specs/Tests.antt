@@ -2,11 +2,11 @@
 use Rattle.std.specs.Prelude.{ℕ, Bool, true, false, ◌&&◌, ◌||◌, List, [], ◌∷◌, Option, Some, None, if◌then◌else◌, nat_eq}
 use Rattle.rg_pattern.specs.declared.atoms.Atom.{Atom}
 use Rattle.rg_pattern.specs.declared.atoms.Atom.TheVariants.{Character, One, Any, User}
-use Rattle.rg_pattern.specs.Folding.{folded}
+use Rattle.rg_base.specs.Folding.{folded_char}
 
 -- two characters are the same, folded if asked
 abbrev pub same_char : Bool → ℕ → ℕ → Bool
-same_char fold c x = nat_eq (folded fold c) (folded fold x)
+same_char fold c x = nat_eq (folded_char fold c) (folded_char fold x)
 
 -- what follows the prefix in a text that begins with it
 abbrev pub strip_prefix : Bool → List ℕ → List ℕ → Option (List ℕ)

@@ -1,9 +1,10 @@
 // Laws of patterns, each the contract of a function that does nothing.
-ghost use Rattle.std.specs.Prelude.{◌≡◌, ◌↔◌, ◌≤◌, ℕ, Bool, false, List, [], ◌∷◌, ◌++◌, length, map, IsTrue};
+ghost use Rattle.std.specs.Prelude.{◌≡◌, ◌↔◌, ◌≤◌, ℕ, Bool, false, true, List, [], ◌∷◌, ◌++◌, length, nat_eq, IsTrue};
+ghost use Rattle.std.specs.List.{starts_with};
 ghost use Rattle.std.specs.Str.{all_scalars};
 ghost use Rattle.rg_pattern.specs.declared.atoms.Atom.{Atom};
 ghost use Rattle.rg_pattern.specs.declared.atoms.Atom.TheVariants.{User};
-ghost use Rattle.rg_pattern.specs.Folding.{folded};
+ghost use Rattle.rg_base.specs.Folding.{folded};
 ghost use Rattle.rg_pattern.specs.Reading.{user_mark, atom_of, atoms_of};
 ghost use Rattle.rg_pattern.specs.Atoms.{are_scalars, has_user, twin, literal_prefix};
 ghost use Rattle.rg_pattern.specs.Standing.{Stands, Overlap, IsBelow};
@@ -57,9 +58,14 @@ pub fn covers_keeps_stands()
 /// A text that a pattern or its twin stands for begins with the literal prefix of the pattern, both folded alike.
 pub fn prefix_begins_text()
     ensures pattern { (fold : Bool) (user : List ℕ) (p : List Atom) (t : List ℕ) → Stands fold user p t
-        → (rest : List ℕ) × (map (folded fold) t ≡ literal_prefix fold p ++ rest) }
+        → starts_with nat_eq (folded fold t) (literal_prefix fold p) ≡ true }
     ensures twin { (fold : Bool) (user : List ℕ) (p : List Atom) (t : List ℕ) → Stands fold user (twin p) t
-        → (rest : List ℕ) × (map (folded fold) t ≡ literal_prefix fold p ++ rest) }
+        → starts_with nat_eq (folded fold t) (literal_prefix fold p) ≡ true }
+{}
+
+/// Whether wildcards are on or off, `{USER}` stands in the same written values.
+pub fn user_is_read_alike()
+    ensures { (wild : Bool) (t : List ℕ) → has_user (atoms_of wild t) ≡ has_user (atoms_of false t) }
 {}
 
 /// The twin of a pattern stands for exactly the texts below those that the pattern stands for.

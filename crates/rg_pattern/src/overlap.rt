@@ -1,5 +1,6 @@
 // Whether some text is stood for by two patterns, by a table over the pairs of their rests.
-ghost use Rattle.std.specs.Prelude.{◌≡◌, ◌+◌, ◌∷◌, [], IfOk, length};
+ghost use Rattle.std.specs.Prelude.{◌≡◌, ◌+◌, ◌∷◌, [], IfOk, IfSome, length};
+ghost use Rattle.rg_pattern.specs.declared.atoms.Atom.TheVariants.{Character};
 ghost use Rattle.rg_pattern.specs.Tests.{is_any, cell, share_char, overlaps};
 ghost use Rattle.rg_pattern.specs.Steps.{IsRow};
 
@@ -65,7 +66,36 @@ fn fill_row(atom: Atom, after: &[Atom], other: &[Atom], row: &mut [bool], fold: 
     }
 }
 
-/// Whether some text is stood for by both patterns. One row of the table is kept, and taken before the walk.
+/// The table over these patterns. One row of it is kept, and taken before the walk.
+fn table(alloc: Global, pattern: &[Atom], other: &[Atom], fold: bool) -> Result<bool, NoMemory>
+    ensures { IfOk result (λ b. b ≡ overlaps fold pattern.now other.now) }
+{
+    let mut cells = vec![in alloc; false; other.len() + 1]?;
+    let row = cells.as_mut_slice();
+    fill_last_row(other, row, fold);
+    for at in (0..pattern.len()).rev() {
+        fill_row(pattern[at], pattern.split_at(at + 1).1, other, row, fold);
+    }
+    Ok(row[0])
+}
+
+/// The first characters of two patterns that both begin with one, and what follows each.
+fn leading_characters<'a>(
+    pattern: &'a [Atom],
+    other: &'a [Atom],
+) -> Option<(char, char, &'a [Atom], &'a [Atom])>
+    ensures { IfSome result (λ l. (pattern.now ≡ Character l.0 ∷ l.2.now) × (other.now ≡ Character l.1 ∷ l.3.now)) }
+{
+    match (pattern, other) {
+        ([Atom::Character(c), after @ ..], [Atom::Character(d), later @ ..]) => {
+            Some((*c, *d, after, later))
+        }
+        _ => None,
+    }
+}
+
+/// Whether some text is stood for by both patterns. The table begins where one of them has another atom than a
+/// character; where the characters before differ there is none.
 pub(crate) fn overlaps(
     alloc: Global,
     pattern: &[Atom],
@@ -74,13 +104,14 @@ pub(crate) fn overlaps(
 ) -> Result<bool, NoMemory>
     ensures { IfOk result (λ b. b ≡ overlaps fold pattern.now other.now) }
 {
-    let Ok(mut cells) = vec![in alloc; false; other.len() + 1] else {
-        return Err(NoMemory);
-    };
-    let row = cells.as_mut_slice();
-    fill_last_row(other, row, fold);
-    for at in (0..pattern.len()).rev() {
-        fill_row(pattern[at], pattern.split_at(at + 1).1, other, row, fold);
+    let mut pattern = pattern;
+    let mut other = other;
+    while let Some((c, d, after, later)) = leading_characters(pattern, other) {
+        if !same_char(c, d, fold) {
+            return Ok(false);
+        }
+        pattern = after;
+        other = later;
     }
-    Ok(row[0])
+    table(alloc, pattern, other, fold)
 }

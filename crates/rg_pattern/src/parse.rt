@@ -23,7 +23,7 @@ fn atom_of(c: char, wild: bool) -> Atom
 }
 
 /// The first atom of a written value, and what follows it.
-fn split_atom(text: &str, wild: bool) -> Option<(Atom, &str)>
+pub(crate) fn split_atom(text: &str, wild: bool) -> Option<(Atom, &str)>
     ensures read { MatchOption result (chars text.now ≡ []) (λ p. atoms_of wild (chars text.now) ≡ p.0 ∷ atoms_of wild (chars p.1.now)) }
     ensures shorter { MatchOption result (chars text.now ≡ []) (λ p. length (chars p.1.now) < length (chars text.now)) }
 {
@@ -57,9 +57,7 @@ fn read_atoms(alloc: Global, text: &str, wild: bool) -> Result<Vec<Atom>, NoMemo
     let mut atoms = Vec::new(alloc);
     let mut rest = text;
     while let Some((atom, more)) = split_atom(rest, wild) {
-        if atoms.push(atom).is_err() {
-            return Err(NoMemory);
-        }
+        atoms.push(atom)?;
         rest = more;
     }
     Ok(atoms)

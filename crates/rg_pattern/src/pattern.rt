@@ -10,10 +10,10 @@ use crate::atoms::{Atom, Pattern};
 use crate::covering::covers_whole;
 use crate::matching::matches_whole;
 use crate::overlap::overlaps;
-use rg_base::{NoMemory, Tally, Text};
+use rg_base::{NoMemory, Tally, Text, folded_char};
 use std::alloc::Global;
 
-fn is_user(atom: Atom) -> bool
+pub(crate) fn is_user(atom: Atom) -> bool
     ensures { result ≡ is_user atom }
 {
     matches!(atom, Atom::User)
@@ -42,17 +42,11 @@ fn ends_in_slash(atoms: &[Atom]) -> bool
 fn twin_atoms(alloc: Global, atoms: &[Atom]) -> Result<Vec<Atom>, NoMemory>
     ensures { IfOk result (λ v. v.items ≡ twin atoms.now) }
 {
-    let Ok(mut twin) = Vec::from_slice(alloc, atoms) else {
-        return Err(NoMemory);
-    };
+    let mut twin = Vec::from_slice(alloc, atoms)?;
     if !ends_in_slash(atoms) {
-        if twin.push(Atom::Character('/')).is_err() {
-            return Err(NoMemory);
-        }
+        twin.push(Atom::Character('/'))?;
     }
-    if twin.push(Atom::Any).is_err() {
-        return Err(NoMemory);
-    }
+    twin.push(Atom::Any)?;
     Ok(twin)
 }
 
@@ -86,8 +80,8 @@ impl Pattern {
         matches_whole(&self.atoms, value, user, fold, work)
     }
 
-    /// Whether some text is stood for by both patterns. The memory taken is a byte for each atom of `other`,
-    /// and one more.
+    /// Whether some text is stood for by both patterns. No memory is taken where their leading characters differ,
+    /// else at most a byte for each atom of `other`, and one more.
     pub fn overlap(&self, alloc: Global, other: &Pattern, fold: bool) -> Result<bool, NoMemory>
         requires no_user { has_user self.now ≡ false }
         requires no_other_user { has_user other.now ≡ false }
@@ -112,7 +106,7 @@ impl Pattern {
         let mut text = Text::empty(alloc);
         let mut rest = self.atoms.as_slice();
         while let Some((Atom::Character(c), more)) = rest.split_first() {
-            text.push(if fold { c.to_ascii_lowercase() } else { *c })?;
+            text.push(folded_char(fold, *c))?;
             rest = more;
         }
         Ok(text)

@@ -1,6 +1,7 @@
 // Answers worked out by hand from the definitions, in tables of one row a line. The fields of a row are parted by
 // `|`. Among the flags `w` says that wildcards are on, and `f` that ASCII letters are folded.
-use crate::{Pattern, PatternFault};
+use crate::{Pattern, PatternFault, pattern_of, value_fits, value_patterns};
+use rg_base::{NoMemory, Text, is_name};
 use std::alloc::{AllocError, Global};
 
 /// Pattern, flags, user, value, whether the pattern stands for the value.
@@ -102,7 +103,15 @@ A|a|w|no
 A|a|wf|yes
 \u{c9}|\u{e9}|wf|no
 ?|\u{1f600}|w|yes
-{USER|{U*|w|yes";
+{USER|{U*|w|yes
+sales|sales|w|yes
+sales|hr|w|no
+sales|sal|w|no
+sales|sal*|w|yes
+sales*|SALES_eu|wf|yes
+sales*|SALES_eu|w|no
+/data/a*|/data/b*|w|no
+/data/a?|/data/a*z|w|yes";
 
 /// The covering pattern, the other one, flags, whether it covers.
 const COVERS: &str = "\
@@ -272,4 +281,76 @@ fn lengths(rt: HostRuntime) {
         );
         assert!(rt; twin.covers(&twin, false));
     }
+}
+
+/// A written value, whether it is a pattern without `{USER}`.
+const VALUES: &str = "\
+a|yes
+*|yes
+|no
+{USER}|no
+/data/{USER}/x|no
+{USER{USER}|no
+{USER|yes
+{user}|yes
+USER}|yes";
+
+#[test]
+fn values(rt: HostRuntime) {
+    for row in VALUES.lines() {
+        let (written, want) = row.split_once('|').expect(&rt, "a value and an answer");
+        assert_eq!(rt; value_fits(written), want == "yes", "{row}");
+    }
+    for (times, want) in [(256, true), (257, false)] {
+        let text = repeated(rt.alloc(), '\u{1f600}', times).expect(&rt, "ample memory");
+        assert_eq!(rt; value_fits(text.as_str()), want, "{times} characters");
+    }
+}
+
+/// Whether one of the patterns of this value stands for the text when ann asks, and how many there are.
+fn stands_of_value(
+    alloc: Global,
+    written: &str,
+    recursive: bool,
+    text: &str,
+) -> Result<(bool, usize), NoMemory> {
+    if !is_name(written) {
+        return Ok((false, 0));
+    }
+    let value = Text::copy_of(alloc, written)?;
+    let mut values = Vec::new(alloc);
+    values.push(value)?;
+    let patterns = value_patterns(alloc, &values, true, recursive)?;
+    let found = patterns
+        .iter()
+        .any(|pattern| pattern.matches(text, "ann", false));
+    Ok((found, patterns.len()))
+}
+
+/// Whether the pattern of this value stands for the text.
+fn stands_alone(alloc: Global, written: &str, wild: bool, text: &str) -> Result<bool, NoMemory> {
+    if !is_name(written) {
+        return Ok(false);
+    }
+    let pattern = pattern_of(alloc, written, wild)?;
+    Ok(pattern.matches(text, "ann", false))
+}
+
+#[test]
+fn patterns_of_values(rt: HostRuntime) {
+    for (written, recursive, text, want, count) in [
+        ("/data", false, "/data/x", false, 1),
+        ("/data", true, "/data/x", true, 2),
+        ("/data", true, "/data", true, 2),
+        ("/data", true, "/database", false, 2),
+    ] {
+        let found = stands_of_value(rt.alloc(), written, recursive, text).expect(
+            &rt,
+            "ample memory",
+        );
+        assert_eq!(rt; found, (want, count), "{written} and {text}");
+    }
+    let wild = stands_alone(rt.alloc(), "a*", true, "ab").expect(&rt, "ample memory");
+    let plain = stands_alone(rt.alloc(), "a*", false, "ab").expect(&rt, "ample memory");
+    assert_eq!(rt; (wild, plain), (true, false));
 }

@@ -1,5 +1,5 @@
 // The records of a policy (Ranger's RangerPolicy).
-use rg_base::{NoMemory, PolicyId, Seq, Text, TryCopy, Version};
+use rg_base::{Named, NoMemory, PolicyId, Seq, Text, TryCopy, Version};
 use std::alloc::Global;
 
 /// One access that an item names (RangerPolicyItemAccess).
@@ -77,6 +77,12 @@ pub struct PolicyResource {
     pub recursive: bool,
 }
 
+/// Values of some levels, which together stand for resources (a resource map of RangerPolicy).
+#[derive(Drop)]
+pub struct ResourceMap {
+    pub levels: Seq<PolicyResource>,
+}
+
 /// A policy.
 #[derive(Drop)]
 pub struct Policy {
@@ -90,6 +96,8 @@ pub struct Policy {
     /// 0 for normal, 1 for override.
     pub priority: i64,
     pub resources: Seq<PolicyResource>,
+    /// Further resource maps: the policy is for the resources of any of its maps.
+    pub additional: Seq<ResourceMap>,
     pub conditions: Seq<PolicyCondition>,
     pub items: Seq<Item>,
     pub deny_items: Seq<Item>,
@@ -180,6 +188,14 @@ impl TryCopy for PolicyResource {
     }
 }
 
+impl TryCopy for ResourceMap {
+    fn try_copy(&self, alloc: Global) -> Result<ResourceMap, NoMemory> {
+        Ok(ResourceMap {
+            levels: self.levels.try_copy(alloc)?,
+        })
+    }
+}
+
 impl TryCopy for Policy {
     fn try_copy(&self, alloc: Global) -> Result<Policy, NoMemory> {
         Ok(Policy {
@@ -191,6 +207,7 @@ impl TryCopy for Policy {
             policy_type: self.policy_type,
             priority: self.priority,
             resources: self.resources.try_copy(alloc)?,
+            additional: self.additional.try_copy(alloc)?,
             conditions: self.conditions.try_copy(alloc)?,
             items: self.items.try_copy(alloc)?,
             deny_items: self.deny_items.try_copy(alloc)?,
@@ -204,5 +221,45 @@ impl TryCopy for Policy {
             enabled: self.enabled,
             audited: self.audited,
         })
+    }
+}
+
+impl Named for AccessEntry {
+    ghost named = { λ e. e.access };
+
+    fn name(&self) -> &str {
+        self.access.as_str()
+    }
+}
+
+impl Named for PolicyCondition {
+    ghost named = { λ c. c.name };
+
+    fn name(&self) -> &str {
+        self.name.as_str()
+    }
+}
+
+impl Named for TimeZoneRow {
+    ghost named = { λ z. z.name };
+
+    fn name(&self) -> &str {
+        self.name.as_str()
+    }
+}
+
+impl Named for PolicyResource {
+    ghost named = { λ r. r.level };
+
+    fn name(&self) -> &str {
+        self.level.as_str()
+    }
+}
+
+impl Named for Policy {
+    ghost named = { λ p. p.name };
+
+    fn name(&self) -> &str {
+        self.name.as_str()
     }
 }

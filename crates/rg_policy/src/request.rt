@@ -1,5 +1,5 @@
 // The records of a request (Ranger's RangerAccessRequest).
-use rg_base::{Moment, NoMemory, Pair, Seq, Text, TryCopy};
+use rg_base::{Moment, Named, NoMemory, Pair, Seq, Text, TryCopy};
 use std::alloc::Global;
 
 /// One resource level that a request names.
@@ -61,5 +61,13 @@ impl TryCopy for AccessRequest {
             address: self.address.try_copy(alloc)?,
             context: self.context.try_copy(alloc)?,
         })
+    }
+}
+
+impl Named for Element {
+    ghost named = { λ e. e.level };
+
+    fn name(&self) -> &str {
+        self.level.as_str()
     }
 }

@@ -3,6 +3,7 @@
 
 mod calls;
 mod counter;
+mod gate;
 mod list_clock;
 mod machine;
 mod mem_link;
@@ -16,6 +17,7 @@ mod tcp;
 mod tests;
 mod unread;
 
+pub use gate::{FreeGate, Gate, MeetingGate};
 pub use list_clock::ListClock;
 pub use machine::{StdSink, StdSource, WallClock};
 pub use mem_link::MemLink;

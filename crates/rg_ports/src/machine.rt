@@ -1,6 +1,6 @@
 // The outside of the machine. These forms tell no content: which bytes and moments pass through them is trusted.
-ghost use Rattle.std.specs.Prelude.{◌≡◌, ◌≤◌, ◌-◌, ◌^◌, length, IfOk, false, min};
-ghost use Rattle.rg_ports.specs.Machine.{ReaderState, WriterState};
+ghost use Rattle.std.specs.Prelude.{◌≡◌, ◌≤◌, ◌<◌, ◌+◌, ◌-◌, ◌^◌, length, IfOk, OnOk, OnErr, false, min};
+ghost use Rattle.rg_ports.specs.Machine.{ReaderState, WriterState, after_machine_read};
 
 use crate::counter::Counter;
 use crate::ports::{Clock, Sink, Source};
@@ -11,10 +11,7 @@ use std::rt;
 use std::time::{SystemTime, UNIX_EPOCH};
 
 // Reads, and reads again where a signal interrupts it. Interrupts without end are a failure.
-pub(crate) fn read_past_interrupts<R: Read>(
-    reader: &mut R,
-    room: &mut [u8],
-) -> Result<usize, Failed>
+fn read_past_interrupts<R: Read>(reader: &mut R, room: &mut [u8]) -> Result<usize, Failed>
     ensures within { IfOk result (λ n. n ≤ length room.old) }
 {
     for _ in 0..u64::MAX {
@@ -28,7 +25,7 @@ pub(crate) fn read_past_interrupts<R: Read>(
 }
 
 // Writes, and writes again where a signal interrupts it. Interrupts without end are a failure.
-pub(crate) fn write_past_interrupts<W: Write>(writer: &mut W, piece: &[u8]) -> Result<usize, Failed>
+fn write_past_interrupts<W: Write>(writer: &mut W, piece: &[u8]) -> Result<usize, Failed>
     ensures within { IfOk result (λ n. n ≤ length piece.now) }
 {
     for _ in 0..u64::MAX {
@@ -41,13 +38,86 @@ pub(crate) fn write_past_interrupts<W: Write>(writer: &mut W, piece: &[u8]) -> R
     Err(Failed)
 }
 
+/// The calls on a reader, a writer or both: whether a read has met the end, and how many calls failed.
+#[derive(Drop)]
+pub(crate) struct Watched {
+    met_end: bool,
+    faults: Counter,
+}
+
+impl Model for Watched {
+    ghost use Rattle.rg_ports.specs.Machine.{ReaderState};
+
+    ghost Value = { ReaderState };
+
+    ghost view = { λ w. record { ended = w.met_end; faults = w.faults } };
+}
+
+impl Watched {
+    /// No call so far.
+    pub(crate) fn new() -> Watched
+        ensures { result ≡ record { ended = false; faults = 0 } }
+    {
+        Watched {
+            met_end: false,
+            faults: Counter::zero(),
+        }
+    }
+
+    /// One read. It meets the end where it gives 0 for a room that isn't empty.
+    pub(crate) fn read<R: Read>(&mut self, reader: &mut R, room: &mut [u8]) -> Result<usize, Failed>
+        ensures within { IfOk result (λ n. n ≤ length room.old) }
+        ensures after { IfOk result (λ n. self.new ≡ after_machine_read (length room.old) n self.old) }
+        ensures failed { OnErr result (self.new ≡ record self.old { faults = self.old.faults + 1 }) }
+    {
+        match read_past_interrupts(reader, room) {
+            Ok(n) => {
+                if n == 0 && !room.is_empty() {
+                    self.met_end = true;
+                }
+                Ok(n)
+            }
+            Err(failed) => {
+                self.faults.add();
+                Err(failed)
+            }
+        }
+    }
+
+    /// One write. It fails too where nothing is taken of a piece that isn't empty.
+    pub(crate) fn write<W: Write>(&mut self, writer: &mut W, piece: &[u8]) -> Result<usize, Failed>
+        ensures within { IfOk result (λ n. n ≤ length piece.now) }
+        ensures some { IfOk result (λ n. 0 < length piece.now → 0 < n) }
+        ensures after { OnOk result (self.new ≡ self.old) }
+        ensures failed { OnErr result (self.new ≡ record self.old { faults = self.old.faults + 1 }) }
+    {
+        match write_past_interrupts(writer, piece) {
+            Ok(0) if !piece.is_empty() => {
+                self.faults.add();
+                Err(Failed)
+            }
+            Ok(n) => Ok(n),
+            Err(failed) => {
+                self.faults.add();
+                Err(failed)
+            }
+        }
+    }
+
+    /// How many calls failed; from the last `u64` on the number stands still.
+    pub(crate) fn failures(&self) -> u64
+        ensures { result ≡ min self.now.faults (2 ^ 64 - 1) }
+    {
+        self.faults.seen()
+    }
+}
+
 /// A source over a reader. It tells no bytes: that the reader gives those of the outside, and 0 for a room that isn't empty at
 /// their end alone, is trusted.
 #[derive(Drop)]
 pub struct StdSource<R: Read + Drop> {
     reader: R,
-    met_end: bool,
-    faults: Counter,
+    watched: Watched,
 }
 
 impl<R: Read + Drop> Model for StdSource<R> {
@@ -55,7 +125,7 @@ impl<R: Read + Drop> Model for StdSource<R> {
 
     ghost Value = { ReaderState };
 
-    ghost view = { λ s. record { ended = s.met_end; faults = s.faults } };
+    ghost view = { λ s. s.watched };
 }
 
 impl<R: Read + Drop> StdSource<R> {
@@ -65,8 +135,7 @@ impl<R: Read + Drop> StdSource<R> {
     {
         StdSource {
             reader,
-            met_end: false,
-            faults: Counter::zero(),
+            watched: Watched::new(),
         }
     }
 
@@ -74,7 +143,7 @@ impl<R: Read + Drop> StdSource<R> {
     pub fn failures(&self) -> u64
         ensures { result ≡ min self.now.faults (2 ^ 64 - 1) }
     {
-        self.faults.seen()
+        self.watched.failures()
     }
 }
 
@@ -88,18 +157,7 @@ impl<R: Read + Drop> Source for StdSource<R> {
     ghost faults = { λ s. s.faults };
 
     fn read(&mut self, room: &mut [u8]) -> Result<usize, Failed> {
-        match read_past_interrupts(&mut self.reader, room) {
-            Ok(n) => {
-                if n == 0 && !room.is_empty() {
-                    self.met_end = true;
-                }
-                Ok(n)
-            }
-            Err(failed) => {
-                self.faults.add();
-                Err(failed)
-            }
-        }
+        self.watched.read(&mut self.reader, room)
     }
 }
 
@@ -107,7 +165,7 @@ impl<R: Read + Drop> Source for StdSource<R> {
 #[derive(Drop)]
 pub struct StdSink<W: Write + Drop> {
     writer: W,
-    faults: Counter,
+    watched: Watched,
 }
 
 impl<W: Write + Drop> Model for StdSink<W> {
@@ -115,7 +173,7 @@ impl<W: Write + Drop> Model for StdSink<W> {
 
     ghost Value = { WriterState };
 
-    ghost view = { λ s. record { faults = s.faults } };
+    ghost view = { λ s. record { faults = s.watched.faults } };
 }
 
 impl<W: Write + Drop> StdSink<W> {
@@ -125,7 +183,7 @@ impl<W: Write + Drop> StdSink<W> {
     {
         StdSink {
             writer,
-            faults: Counter::zero(),
+            watched: Watched::new(),
         }
     }
 
@@ -133,7 +191,7 @@ impl<W: Write + Drop> StdSink<W> {
     pub fn failures(&self) -> u64
         ensures { result ≡ min self.now.faults (2 ^ 64 - 1) }
     {
-        self.faults.seen()
+        self.watched.failures()
     }
 }
 
@@ -145,17 +203,7 @@ impl<W: Write + Drop> Sink for StdSink<W> {
     ghost faults = { λ s. s.faults };
 
     fn write(&mut self, piece: &[u8]) -> Result<usize, Failed> {
-        match write_past_interrupts(&mut self.writer, piece) {
-            Ok(0) if !piece.is_empty() => {
-                self.faults.add();
-                Err(Failed)
-            }
-            Ok(n) => Ok(n),
-            Err(failed) => {
-                self.faults.add();
-                Err(failed)
-            }
-        }
+        self.watched.write(&mut self.writer, piece)
     }
 }
 

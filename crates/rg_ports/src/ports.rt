@@ -6,7 +6,7 @@ ghost use Rattle.rg_ports.specs.Moments.{Told};
 
 use rg_base::{Failed, Moment};
 
-/// Bytes that come from outside, in order. A call fails only where the count of its faults rises, which never falls.
+/// Bytes that come from outside, in order. The count of its faults rises where a call fails, and stands still where it succeeds.
 pub trait Source {
     /// The bytes to come, where the object tells them.
     ghost left: { Self → Option (List ℕ) };
@@ -24,12 +24,12 @@ pub trait Source {
         ensures gave { IfOk result (λ n. Gave (left self.old) (left self.new) n room.new) }
         ensures ended { IfOk result (λ n. ended self.new ≡ (ended self.old || (n == 0 && nat_lt 0 (length room.old)))) }
         ensures used_up { IfOk result (λ n. n ≡ 0 → 0 < length room.old → IsUsedUp (left self.old)) }
-        ensures kept { OnOk result (faults self.old ≤ faults self.new) }
+        ensures kept { OnOk result (faults self.new ≡ faults self.old) }
         ensures failed { OnErr result (faults self.old < faults self.new) }
         ensures unread { OnErr result ((left self.new ≡ left self.old) × (ended self.new ≡ ended self.old)) };
 }
 
-/// Where bytes go, in order. A call fails only where the count of its faults rises, which never falls.
+/// Where bytes go, in order. The count of its faults rises where a call fails, and stands still where it succeeds.
 pub trait Sink {
     /// The bytes taken, where the object tells them.
     ghost held: { Self → Option (List ℕ) };
@@ -43,13 +43,13 @@ pub trait Sink {
         ensures within { IfOk result (λ n. n ≤ length piece.now) }
         ensures some { IfOk result (λ n. 0 < length piece.now → 0 < n) }
         ensures took { IfOk result (λ n. Took (held self.old) (held self.new) n piece.now) }
-        ensures kept { OnOk result (faults self.old ≤ faults self.new) }
+        ensures kept { OnOk result (faults self.new ≡ faults self.old) }
         ensures failed { OnErr result (faults self.old < faults self.new) }
         ensures unwritten { OnErr result (held self.new ≡ held self.old) };
 }
 
 /// A way to a client, by which bytes come and go, each kind in its order. One count is kept of the failures of both kinds of
-/// call: a call fails only where it rises, and it never falls.
+/// call: it rises where a call fails, and stands still where it succeeds.
 pub trait Link: Send {
     /// The bytes to come, where the object tells them.
     ghost left: { Self → Option (List ℕ) };
@@ -70,7 +70,7 @@ pub trait Link: Send {
         ensures gave { IfOk result (λ n. Gave (left self.old) (left self.new) n room.new) }
         ensures ended { IfOk result (λ n. ended self.new ≡ (ended self.old || (n == 0 && nat_lt 0 (length room.old)))) }
         ensures used_up { IfOk result (λ n. n ≡ 0 → 0 < length room.old → IsUsedUp (left self.old)) }
-        ensures kept { OnOk result (faults self.old ≤ faults self.new) }
+        ensures kept { OnOk result (faults self.new ≡ faults self.old) }
         ensures failed { OnErr result (faults self.old < faults self.new) }
         ensures unread { OnErr result ((left self.new ≡ left self.old) × (ended self.new ≡ ended self.old)) }
         ensures unwritten { held self.new ≡ held self.old };
@@ -81,13 +81,13 @@ pub trait Link: Send {
         ensures within { IfOk result (λ n. n ≤ length piece.now) }
         ensures some { IfOk result (λ n. 0 < length piece.now → 0 < n) }
         ensures took { IfOk result (λ n. Took (held self.old) (held self.new) n piece.now) }
-        ensures kept { OnOk result (faults self.old ≤ faults self.new) }
+        ensures kept { OnOk result (faults self.new ≡ faults self.old) }
         ensures failed { OnErr result (faults self.old < faults self.new) }
         ensures unwritten { OnErr result (held self.new ≡ held self.old) }
         ensures unread { (left self.new ≡ left self.old) × (ended self.new ≡ ended self.old) };
 }
 
-/// Where links come from, one after another. A call fails only where the count of its faults rises, which never falls.
+/// Where links come from, one after another. The count of its faults rises where a call fails, and stands still where it succeeds.
 pub trait Listener {
     /// A link that it gives.
     type Link: Link + Drop;
@@ -103,7 +103,7 @@ pub trait Listener {
 
     /// Makes ready for links at this address, as `127.0.0.1:6080`.
     fn listen(&mut self, address: &str) -> Result<(), Failed>
-        ensures kept { OnOk result (faults self.old ≤ faults self.new) }
+        ensures kept { OnOk result (faults self.new ≡ faults self.old) }
         ensures failed { OnErr result (faults self.old < faults self.new) }
         ensures same { (given self.new ≡ given self.old) × (ended self.new ≡ ended self.old) };
 
@@ -111,7 +111,7 @@ pub trait Listener {
     fn accept(&mut self) -> Result<Option<Self::Link>, Failed>
         ensures given { IfOk result (λ link. given self.new ≡ given self.old + length (option_to_list link)) }
         ensures ended { IfOk result (λ link. MatchOption link (ended self.new ≡ true) (λ _. ended self.new ≡ ended self.old)) }
-        ensures kept { OnOk result (faults self.old ≤ faults self.new) }
+        ensures kept { OnOk result (faults self.new ≡ faults self.old) }
         ensures failed { OnErr result (faults self.old < faults self.new) }
         ensures unaccepted { OnErr result ((given self.new ≡ given self.old) × (ended self.new ≡ ended self.old)) };
 }

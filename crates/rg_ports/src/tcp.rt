@@ -3,7 +3,7 @@ ghost use Rattle.std.specs.Prelude.{◌≡◌, ◌-◌, ◌^◌, false, min, IfO
 ghost use Rattle.rg_ports.specs.Machine.{NetState, ReaderState};
 
 use crate::counter::Counter;
-use crate::machine::{read_past_interrupts, write_past_interrupts};
+use crate::machine::Watched;
 use crate::ports::{Link, Listener};
 use rg_base::Failed;
 use std::io::{ErrorKind, Read, Write};
@@ -15,8 +15,7 @@ use std::net::{Net, TcpListener, TcpStream};
 #[derive(Drop)]
 pub struct TcpLink<S: Read + Write + Send + Drop> {
     stream: S,
-    met_end: bool,
-    faults: Counter,
+    watched: Watched,
 }
 
 impl<S: Read + Write + Send + Drop> Model for TcpLink<S> {
@@ -24,7 +23,7 @@ impl<S: Read + Write + Send + Drop> Model for TcpLink<S> {
 
     ghost Value = { ReaderState };
 
-    ghost view = { λ l. record { ended = l.met_end; faults = l.faults } };
+    ghost view = { λ l. l.watched };
 }
 
 impl<S: Read + Write + Send + Drop> TcpLink<S> {
@@ -34,8 +33,7 @@ impl<S: Read + Write + Send + Drop> TcpLink<S> {
     {
         TcpLink {
             stream,
-            met_end: false,
-            faults: Counter::zero(),
+            watched: Watched::new(),
         }
     }
 
@@ -43,7 +41,7 @@ impl<S: Read + Write + Send + Drop> TcpLink<S> {
     pub fn failures(&self) -> u64
         ensures { result ≡ min self.now.faults (2 ^ 64 - 1) }
     {
-        self.faults.seen()
+        self.watched.failures()
     }
 }
 
@@ -59,32 +57,11 @@ impl<S: Read + Write + Send + Drop> Link for TcpLink<S> {
     ghost faults = { λ l. l.faults };
 
     fn read(&mut self, room: &mut [u8]) -> Result<usize, Failed> {
-        match read_past_interrupts(&mut self.stream, room) {
-            Ok(n) => {
-                if n == 0 && !room.is_empty() {
-                    self.met_end = true;
-                }
-                Ok(n)
-            }
-            Err(failed) => {
-                self.faults.add();
-                Err(failed)
-            }
-        }
+        self.watched.read(&mut self.stream, room)
     }
 
     fn write(&mut self, piece: &[u8]) -> Result<usize, Failed> {
-        match write_past_interrupts(&mut self.stream, piece) {
-            Ok(0) if !piece.is_empty() => {
-                self.faults.add();
-                Err(Failed)
-            }
-            Ok(n) => Ok(n),
-            Err(failed) => {
-                self.faults.add();
-                Err(failed)
-            }
-        }
+        self.watched.write(&mut self.stream, piece)
     }
 }
 

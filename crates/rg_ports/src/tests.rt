@@ -2,8 +2,8 @@
 ghost use Rattle.std.specs.Prelude.{◌<◌, All};
 
 use crate::{
-    Clock, Link, ListClock, Listener, MemLink, MemListener, MemSink, MemSource, Sink, Source,
-    StdSink, StdSource, TcpLink, TcpNet, WallClock,
+    Clock, FreeGate, Gate, Link, ListClock, Listener, MeetingGate, MemLink, MemListener, MemSink,
+    MemSource, Sink, Source, StdSink, StdSource, TcpLink, TcpNet, WallClock,
 };
 use rg_base::{Failed, Moment, Seq};
 use std::alloc::Global;
@@ -11,7 +11,7 @@ use std::io::{ErrorKind, Read, Write};
 use std::process::Abort;
 use std::test::Fail;
 use std::time::Duration;
-use std::{io, rt};
+use std::{io, rt, thread};
 
 const DIGITS: &[u8] = b"0123456789";
 
@@ -319,4 +319,15 @@ fn a_wall_clock_gives_whole_seconds(rt: HostRuntime) -> Result<(), Fail> {
     let year_2024 = Moment(1_704_067_200);
     assert!(rt; WallClock(rt.clone()?).now() > year_2024);
     Ok(())
+}
+
+#[test]
+fn two_workers_meet_at_a_gate(rt: HostRuntime) {
+    let gate = MeetingGate::new(2);
+    gate.reach(1, 2);
+    FreeGate.reach(1, 1);
+    thread::join(&rt, || gate.reach(1, 1), || gate.reach(2, 1));
+    assert!(rt; !gate.gave_up());
+    gate.reach(1, 1);
+    assert!(rt; !gate.gave_up());
 }

@@ -3,9 +3,10 @@ use Rattle.std.proofs.Common.{◌≡◌, ◌<◌, ◌↔◌, ◌&&◌, ℕ, Bool
 use Rattle.std.proofs.lemmas.Bool.{false≢true, and_parts, and_from, or_cases, or_left, or_right, not-true, not_from_false, false_from_ne_true}
 use Rattle.std.proofs.lemmas.Simd.{map-map}
 use Rattle.std.proofs.lemmas.Slice.Eq.{bytes_eq-Decides}
-use Rattle.std.specs.List.{list_all}
+use Rattle.std.specs.List.{list_all, list_any}
 use Rattle.std.specs.Option.{unwrap_or}
 use Rattle.std.specs.Str.{bytes_eq}
+use Rattle.rg_base.proofs.Lists.{all_from, all_holds, any_from, any_holds, list_any-map}
 use Rattle.rg_base.specs.Texts.{is_among}
 use Rattle.rg_defs.specs.declared.service_def.Level.{Level}
 use Rattle.rg_defs.specs.declared.service_def.ServiceDef.{ServiceDef}
@@ -17,13 +18,12 @@ use Rattle.rg_pattern.specs.Reading.{atoms_of}
 use Rattle.rg_pattern.specs.Standing.{Stands}
 use Rattle.rg_pattern.specs.Tests.{stands}
 use Rattle.rg_policy.specs.declared.policy.PolicyResource.{PolicyResource}
+use Rattle.rg_policy.specs.declared.policy.ResourceMap.{ResourceMap}
 use Rattle.rg_policy.specs.declared.request.Element.{Element}
 use Rattle.rg_resmatch.specs.declared.reach.Reach.{Reach}
 use Rattle.rg_resmatch.specs.declared.reach.Reach.TheVariants.{Exact, Down}
-use Rattle.rg_resmatch.specs.Lies.{Hit, Lies, LiesOn, SomeStands, Turned}
-use Rattle.rg_resmatch.specs.Tests.{any_stands, hit, is_hit, is_open, is_some_element, levels_of, lies, may_name, meets, patterns_of, some_stands, star, value_at}
-use Rattle.rg_resmatch.proofs.Named.{list_any-map}
-use Rattle.rg_resmatch.proofs.Quantified.{all_from, all_holds, any_from, any_holds}
+use Rattle.rg_resmatch.specs.Lies.{Hit, Lies, LiesOn, SomeLies, SomeStands, Turned}
+use Rattle.rg_resmatch.specs.Tests.{any_stands, hit, is_hit, is_open, is_some_element, levels_of, lies, may_name, meets, patterns_of, some_lies, some_stands, star, value_at}
 
 abbrev pub StandsLaw : Type 0
 StandsLaw = (fold : Bool) (user : List ℕ) (p : List Atom) (t : List ℕ) → IsTrue (stands fold user p t) ↔ Stands fold user p t
@@ -165,3 +165,31 @@ lies_from law def paths resources reach elements user k =
     (and_from _ _ (all_from (λ (r : PolicyResource). meets def user r (value_at elements r.level)) resources
     (λ r within. meets_from law def user elements r (λ v e. k.both r v within e) (λ e. k.alone r within e) (value_at elements r.level) refl))
     (all_from (may_name reach resources) elements (λ e within. may_from reach resources e (λ exact. k.exact exact e within)))))
+
+-- several maps
+
+pub some_lies_holds : StandsLaw → (def : ServiceDef) → PathsLaw def → (maps : List ResourceMap) (reach : Reach) (elements : List Element) (user : List ℕ)
+    → some_lies def maps reach elements user ≡ true → SomeLies def maps reach elements user
+some_lies_holds law def paths maps reach elements user h =
+    let m = any_holds (λ (m : ResourceMap). lies def m.levels.items reach elements user) maps h in
+    (m.0, m.1, lies_holds law def paths m.0.levels.items reach elements user m.2)
+
+pub some_lies_from : StandsLaw → (def : ServiceDef) → PathsLaw def → (maps : List ResourceMap) (reach : Reach) (elements : List Element) (user : List ℕ)
+    → SomeLies def maps reach elements user → some_lies def maps reach elements user ≡ true
+some_lies_from law def paths maps reach elements user m =
+    any_from (λ (m : ResourceMap). lies def m.levels.items reach elements user) maps m.0 m.1 (lies_from law def paths m.0.levels.items reach elements user m.2)
+
+both_ways : (a b : Bool) → (a ≡ true → b ≡ true) → (b ≡ true → a ≡ true) → a ≡ b
+both_ways true true f g = refl
+both_ways true false f g = absurd (false≢true (f refl))
+both_ways false true f g = absurd (false≢true (g refl))
+both_ways false false f g = refl
+
+any_among : {X : Type 0} (p : X → Bool) (xs ys : List X) → ((x : X) → Contains xs x → Contains ys x) → list_any p xs ≡ true → list_any p ys ≡ true
+any_among p xs ys f h = let x = any_holds p xs h in any_from p ys x.0 (f x.0 x.1) x.2
+
+pub same_maps : (def : ServiceDef) (maps others : List ResourceMap) → ((m : ResourceMap) → Contains maps m ↔ Contains others m)
+    → (reach : Reach) (elements : List Element) (user : List ℕ) → some_lies def maps reach elements user ≡ some_lies def others reach elements user
+same_maps def maps others same reach elements user =
+    let p = λ (m : ResourceMap). lies def m.levels.items reach elements user in
+    both_ways _ _ (any_among p maps others (λ m. (same m).0)) (any_among p others maps (λ m. (same m).1))

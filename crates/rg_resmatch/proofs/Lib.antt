@@ -2,5 +2,5 @@ pub mod Compiling
 pub mod Deciding
 pub mod Named
 pub mod Names
-pub mod Quantified
 pub mod Stars
+pub mod Weakening

@@ -1,4 +1,5 @@
 pub mod Compiled
 pub mod Lies
+pub mod Matching
 pub mod Rules
 pub mod Tests

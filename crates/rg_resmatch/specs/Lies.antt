@@ -8,6 +8,7 @@ use Rattle.rg_pattern.specs.Atoms.{twin}
 use Rattle.rg_pattern.specs.Reading.{atoms_of}
 use Rattle.rg_pattern.specs.Standing.{Stands}
 use Rattle.rg_policy.specs.declared.policy.PolicyResource.{PolicyResource}
+use Rattle.rg_policy.specs.declared.policy.ResourceMap.{ResourceMap}
 use Rattle.rg_policy.specs.declared.request.Element.{Element}
 use Rattle.rg_resmatch.specs.declared.reach.Reach.{Reach}
 use Rattle.rg_resmatch.specs.declared.reach.Reach.TheVariants.{Exact}
@@ -44,3 +45,7 @@ pub record Lies (def : ServiceDef) (resources : List PolicyResource) (reach : Re
   pub alone : (r : PolicyResource) → Contains resources r → value_at elements r.level ≡ None → (r.excludes ≡ false) × Contains r.values.items star
   -- where the reach is exact, the request names no level that the resources lack
   pub exact : reach ≡ Exact → (e : Element) → Contains elements e → (r : PolicyResource) × Contains resources r × (r.level ≡ e.level)
+
+-- some map lies on the request's resource
+abbrev pub SomeLies : ServiceDef → List ResourceMap → Reach → List Element → List ℕ → Type 0
+SomeLies def maps reach elements user = (m : ResourceMap) × Contains maps m × Lies def m.levels.items reach elements user

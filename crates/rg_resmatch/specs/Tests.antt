@@ -13,6 +13,7 @@ use Rattle.rg_pattern.specs.Atoms.{twin}
 use Rattle.rg_pattern.specs.Reading.{atoms_of}
 use Rattle.rg_pattern.specs.Tests.{stands}
 use Rattle.rg_policy.specs.declared.policy.PolicyResource.{PolicyResource}
+use Rattle.rg_policy.specs.declared.policy.ResourceMap.{ResourceMap}
 use Rattle.rg_policy.specs.declared.request.Element.{Element}
 use Rattle.rg_resmatch.specs.declared.reach.Reach.{Reach}
 use Rattle.rg_resmatch.specs.declared.reach.Reach.TheVariants.{Exact, Down}
@@ -78,6 +79,10 @@ lies def resources reach elements user = is_some_element elements
     && (on_one_path def.levels.items (levels_of resources elements)
     && (list_all (λ (r : PolicyResource). meets def user r (value_at elements r.level)) resources
     && list_all (may_name reach resources) elements))
+
+-- some map lies on the request's resource
+abbrev pub some_lies : ServiceDef → List ResourceMap → Reach → List Element → List ℕ → Bool
+some_lies def maps reach elements user = list_any (λ (m : ResourceMap). lies def m.levels.items reach elements user) maps
 
 -- the elements of a resource that is a tag
 abbrev pub tag_elements : List ℕ → List Element

@@ -1,23 +1,21 @@
-// How resources are compiled.
-ghost use Rattle.std.specs.Prelude.{◌≡◌, ◌++◌, IfOk, List, None, Option, ℕ, map, option_map, option_to_list, true, false};
+// How a resource map is compiled.
+ghost use Rattle.std.specs.Prelude.{◌≡◌, ◌++◌, IfOk, None, map, option_map, option_to_list, true};
 ghost use Rattle.std.specs.List.{slice_get};
 ghost use Rattle.rg_base.specs.Listed.{listed};
 ghost use Rattle.rg_defs.specs.declared.service_def.Level.{Level};
+ghost use Rattle.rg_defs.specs.PathTests.{paths_of};
 ghost use Rattle.rg_defs.specs.Rules.{def_fault};
-ghost use Rattle.rg_policy.specs.declared.policy.PolicyResource.{PolicyResource};
-ghost use Rattle.rg_policy.specs.declared.request.Element.{Element};
-ghost use Rattle.rg_resmatch.specs.Compiled.{compiled, level_form, matches_of, named_paths, path_names, paths_for};
-ghost use Rattle.rg_resmatch.specs.Rules.{are_written, levels_fit, values_fit};
-ghost use Rattle.rg_resmatch.specs.Tests.{lies};
+ghost use Rattle.rg_resmatch.specs.Compiled.{level_form, map_form, named_paths, path_names, paths_for};
+ghost use Rattle.rg_resmatch.specs.Rules.{are_written, values_fit};
 
 use crate::level::CompiledLevel;
-use crate::matcher::Matcher;
+use crate::map::CompiledMap;
 use crate::reach::Reach;
-use crate::rules::all_lie_on;
 use rg_base::{NoMemory, Seq, Text, TryCopy};
-use rg_defs::{Level, ServiceDef, paths};
+use rg_defs::{Level, Paths, ServiceDef};
 use rg_policy::PolicyResource;
 use std::alloc::Global;
+use std::snapshot::Snapshot;
 
 fn levels_of(
     alloc: Global,
@@ -30,9 +28,7 @@ fn levels_of(
     let mut levels = Vec::new(alloc);
     for resource in resources {
         let level = CompiledLevel::compile(alloc, def, resource)?;
-        if levels.push(level).is_err() {
-            return Err(NoMemory);
-        }
+        levels.push(level)?;
     }
     Ok(levels)
 }
@@ -60,9 +56,7 @@ fn with_name(
         return Ok(names);
     };
     let copy = name.try_copy(alloc)?;
-    if names.push(copy).is_err() {
-        return Err(NoMemory);
-    }
+    names.add(copy)?;
     Ok(names)
 }
 
@@ -79,19 +73,17 @@ fn path_names(alloc: Global, levels: &[Level], path: &[u32]) -> Result<Seq<Text>
 /// The names on each of the paths on which the resources lie.
 fn names_on_paths(
     alloc: Global,
-    levels: &[Level],
-    paths: &[Seq<u32>],
+    paths: &Paths,
     resources: &[PolicyResource],
 ) -> Result<Vec<Seq<Text>>, NoMemory>
-    ensures { IfOk result (λ v. v.items ≡ named_paths levels.now resources.now paths.now) }
+    ensures { IfOk result (λ v. v.items ≡ named_paths paths.now resources.now (map listed (paths_of paths.now))) }
 {
     let mut named = Vec::new(alloc);
-    for path in paths {
-        if all_lie_on(levels, path.as_slice(), resources) {
-            let names = path_names(alloc, levels, path.as_slice())?;
-            if named.push(names).is_err() {
-                return Err(NoMemory);
-            }
+    let all = paths.as_slice();
+    for path in all {
+        if paths.all_lie_on(path.as_slice(), resources) {
+            let names = path_names(alloc, paths.levels(), path.as_slice())?;
+            named.push(names)?;
         }
     }
     Ok(named)
@@ -109,46 +101,33 @@ fn paths_for(
     match reach {
         Reach::Exact => Ok(None),
         Reach::Down => {
-            let all = paths(alloc, def)?;
-            let levels = def.levels.as_slice();
-            let named = names_on_paths(alloc, levels, all.as_slice(), resources)?;
+            let paths = Paths::of(alloc, def)?;
+            let named = names_on_paths(alloc, &paths, resources)?;
             Ok(Some(named))
         }
     }
 }
 
-impl Matcher {
+impl CompiledMap {
+    /// The map with these resources, which have patterns as values.
     #[tactic(auto, using(crate::proofs::Names::written))]
-    fn build(
+    pub(crate) fn compile(
         alloc: Global,
         def: &ServiceDef,
-        resources: &[PolicyResource],
+        resources: &Seq<PolicyResource>,
         reach: Reach,
-    ) -> Result<Matcher, NoMemory>
+    ) -> Result<CompiledMap, NoMemory>
         requires lawful { def_fault def.now ≡ None }
-        requires values { values_fit def.now resources.now ≡ true }
-        ensures { IfOk result (λ m. m ≡ compiled def.now resources.now reach) }
+        requires values { values_fit def.now resources.now.items ≡ true }
+        ensures { IfOk result (λ m. m ≡ map_form def.now reach resources.now) }
     {
-        let levels = levels_of(alloc, def, resources)?;
-        let paths = paths_for(alloc, def, resources, reach)?;
-        Ok(Matcher { levels, paths })
-    }
-
-    /// The matcher of these resources, with each value read once. The definition and the resources pass their
-    /// rules, which need not ask for mandatory levels.
-    pub fn compile(
-        alloc: Global,
-        def: &ServiceDef,
-        resources: &[PolicyResource],
-        reach: Reach,
-    ) -> Result<Matcher, NoMemory>
-        requires lawful { def_fault def.now ≡ None }
-        requires levels { levels_fit def.now false resources.now ≡ true }
-        requires values { values_fit def.now resources.now ≡ true }
-        ensures form { IfOk result (λ m. m ≡ compiled def.now resources.now reach) }
-        ensures exact { IfOk result (λ m. (elements : List Element) (user : List ℕ) → matches_of m elements user ≡ lies def.now resources.now reach elements user) }
-    {
-        let matcher = Matcher::build(alloc, def, resources, reach)?;
-        Ok(matcher)
+        let levels = levels_of(alloc, def, resources.as_slice())?;
+        let paths = paths_for(alloc, def, resources.as_slice(), reach)?;
+        let written = Snapshot::of(resources);
+        Ok(CompiledMap {
+            levels,
+            paths,
+            written,
+        })
     }
 }

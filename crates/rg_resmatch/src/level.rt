@@ -1,17 +1,15 @@
 // One level of the resources, its values read once.
-ghost use Rattle.std.specs.Prelude.{◌≡◌, ◌&&◌, ◌||◌, IfOk, Option, option_map, map, true};
+ghost use Rattle.std.specs.Prelude.{◌≡◌, ◌&&◌, IfOk, Option, option_map, true};
 ghost use Rattle.std.specs.List.{list_all};
 ghost use Rattle.std.specs.Str.{chars};
 ghost use Rattle.rg_base.specs.Texts.{is_among, is_name};
 ghost use Rattle.rg_defs.specs.Paths.{level_of};
-ghost use Rattle.rg_pattern.specs.Atoms.{twin};
-ghost use Rattle.rg_pattern.specs.Reading.{atoms_of};
 ghost use Rattle.rg_resmatch.specs.Compiled.{folds, form_hit, form_meets, is_known, level_form, patterns_at};
 ghost use Rattle.rg_resmatch.specs.Tests.{any_stands, is_open};
 
-use rg_base::{NoMemory, Text, TryCopy, is_among};
+use rg_base::{Named, NoMemory, Text, TryCopy, is_among};
 use rg_defs::{Level, ServiceDef, level_of};
-use rg_pattern::{Pattern, PatternFault};
+use rg_pattern::{Pattern, value_patterns};
 use rg_policy::PolicyResource;
 use std::alloc::Global;
 use std::marker::Model;
@@ -20,9 +18,8 @@ use std::marker::Model;
 #[derive(Drop)]
 pub(crate) struct CompiledLevel {
     name: Text,
-    values: Vec<Pattern>,
-    /// What lies below the values, where the resource is recursive.
-    twins: Vec<Pattern>,
+    /// Those of the values, and of what lies below them where the resource is recursive.
+    patterns: Vec<Pattern>,
     excludes: bool,
     fold: bool,
     /// Whether the level matches where the request doesn't name it.
@@ -34,46 +31,7 @@ impl Model for CompiledLevel {
 
     ghost Value = { LevelForm };
 
-    ghost view = { λ l. record { name = l.name; values = l.values.items; twins = l.twins.items; excludes = l.excludes; fold = l.fold; alone = l.alone } };
-}
-
-/// The pattern of a written value.
-fn pattern_of(alloc: Global, text: &str, wild: bool) -> Result<Pattern, NoMemory>
-    requires { is_name (chars text.now) ≡ true }
-    ensures { IfOk result (λ p. p ≡ atoms_of wild (chars text.now)) }
-{
-    match Pattern::parse(alloc, text, wild) {
-        Ok(pattern) => Ok(pattern),
-        Err(PatternFault::NoMemory) => Err(NoMemory),
-        Err(PatternFault::Empty | PatternFault::TooLong) => unreachable!(),
-    }
-}
-
-fn patterns(alloc: Global, texts: &[Text], wild: bool) -> Result<Vec<Pattern>, NoMemory>
-    requires { list_all is_name texts.now ≡ true }
-    ensures { IfOk result (λ v. v.items ≡ map (atoms_of wild) texts.now) }
-{
-    let mut read = Vec::new(alloc);
-    for text in texts {
-        let pattern = pattern_of(alloc, text.as_str(), wild)?;
-        if read.push(pattern).is_err() {
-            return Err(NoMemory);
-        }
-    }
-    Ok(read)
-}
-
-fn twins(alloc: Global, patterns: &[Pattern]) -> Result<Vec<Pattern>, NoMemory>
-    ensures { IfOk result (λ v. v.items ≡ map twin patterns.now) }
-{
-    let mut below = Vec::new(alloc);
-    for pattern in patterns {
-        let twin = pattern.recursive(alloc)?;
-        if below.push(twin).is_err() {
-            return Err(NoMemory);
-        }
-    }
-    Ok(below)
+    ghost view = { λ l. record { name = l.name; patterns = l.patterns.items; excludes = l.excludes; fold = l.fold; alone = l.alone } };
 }
 
 fn patterns_at(
@@ -84,10 +42,15 @@ fn patterns_at(
     requires { list_all is_name resource.now.values.items ≡ true }
     ensures { IfOk result (λ v. v.items ≡ patterns_at (option_map (λ l. l.now) level.entry) resource.now) }
 {
-    match level {
-        Some(level) => patterns(alloc, resource.values.as_slice(), level.wild),
-        None => Ok(Vec::new(alloc)),
-    }
+    let Some(level) = level else {
+        return Ok(Vec::new(alloc));
+    };
+    value_patterns(
+        alloc,
+        resource.values.as_slice(),
+        level.wild,
+        resource.recursive,
+    )
 }
 
 fn folds(level: Option<&Level>) -> bool
@@ -124,6 +87,14 @@ pub(crate) fn any_stands(patterns: &[Pattern], value: &str, user: &str, fold: bo
         .any(|pattern| pattern.matches(value, user, fold))
 }
 
+impl Named for CompiledLevel {
+    ghost named = { λ l. l.name };
+
+    fn name(&self) -> &str {
+        self.name.as_str()
+    }
+}
+
 impl CompiledLevel {
     /// The level of the resource.
     pub(crate) fn compile(
@@ -136,36 +107,23 @@ impl CompiledLevel {
     {
         let level = level_of(def, resource.level.as_str());
         let name = resource.level.try_copy(alloc)?;
-        let values = patterns_at(alloc, level, resource)?;
-        let twins = if resource.recursive {
-            twins(alloc, &values)?
-        } else {
-            Vec::new(alloc)
-        };
+        let patterns = patterns_at(alloc, level, resource)?;
         let excludes = is_known(level) && resource.excludes;
         let fold = folds(level);
         let alone = is_open(resource);
         Ok(CompiledLevel {
             name,
-            values,
-            twins,
+            patterns,
             excludes,
             fold,
             alone,
         })
     }
 
-    pub(crate) fn name(&self) -> &str
-        ensures { chars result.now ≡ self.now.name }
-    {
-        self.name.as_str()
-    }
-
     fn is_hit(&self, value: &str, user: &str) -> bool
         ensures { result ≡ form_hit self.now (chars user.now) (chars value.now) }
     {
-        let found = any_stands(&self.values, value, user, self.fold)
-            || any_stands(&self.twins, value, user, self.fold);
+        let found = any_stands(&self.patterns, value, user, self.fold);
         if self.excludes { !found } else { found }
     }
 

@@ -1,166 +1,167 @@
 // The matching of the resource of a request.
-ghost use Rattle.std.specs.Prelude.{◌≡◌, ℕ, List, Option, option_map};
-ghost use Rattle.std.specs.List.{find, list_all, list_any};
-ghost use Rattle.std.specs.Str.{bytes_eq, chars};
+ghost use Rattle.std.specs.Prelude.{◌≡◌, ◌++◌, ◌∷◌, [], IfOk, None, false, true};
+ghost use Rattle.std.specs.Str.{chars};
 ghost use Rattle.rg_base.specs.Counts.{one_try};
-ghost use Rattle.rg_base.specs.Listed.{Listed};
-ghost use Rattle.rg_base.specs.Texts.{is_among};
-ghost use Rattle.rg_defs.specs.Rules.{tag_name};
-ghost use Rattle.rg_policy.specs.declared.request.Element.{Element};
-ghost use Rattle.rg_resmatch.specs.Compiled.{LevelForm, form_meets, in_reach, matches_of, names_form};
-ghost use Rattle.rg_resmatch.specs.Tests.{tag_elements, value_at};
+ghost use Rattle.rg_defs.specs.Rules.{def_fault};
+ghost use Rattle.rg_policy.specs.Maps.{maps_of};
+ghost use Rattle.rg_resmatch.specs.Compiled.{Answers, map_forms, some_form_lies, written_maps};
+ghost use Rattle.rg_resmatch.specs.Rules.{all_levels_fit, all_values_fit, levels_fit, values_fit};
+ghost use Rattle.rg_resmatch.specs.Tests.{some_lies, tag_elements};
 
-use crate::level::CompiledLevel;
-use rg_base::{Ledger, Seq, Steps, Text, is_among, same_text};
-use rg_defs::tag_name;
-use rg_policy::{Element, Resource};
+use crate::map::CompiledMap;
+use crate::reach::Reach;
+use rg_base::{Ledger, NoMemory, Seq, Steps};
+use rg_defs::ServiceDef;
+use rg_policy::{Element, Policy, PolicyResource, Resource, ResourceMap};
+use std::alloc::Global;
 use std::marker::Model;
+use std::snapshot::Snapshot;
 
-/// Resources, compiled. Contracts see what they are compiled to.
+/// Resource maps, compiled. Contracts see what they were compiled from.
 #[derive(Drop)]
 pub struct Matcher {
-    pub(crate) levels: Vec<CompiledLevel>,
-    /// Where the reach is down, the names of the levels on each path on which a request may lie.
-    pub(crate) paths: Option<Vec<Seq<Text>>>,
+    maps: Vec<CompiledMap>,
+    /// Which only contracts see.
+    def: Snapshot<ServiceDef>,
+    reach: Snapshot<Reach>,
 }
 
 impl Model for Matcher {
-    ghost use Rattle.std.specs.Prelude.{option_map, Vec, List, ℕ};
-    ghost use Rattle.rg_base.specs.Listed.{Listed};
-    ghost use Rattle.rg_resmatch.specs.Compiled.{Form};
+    ghost use Rattle.rg_resmatch.specs.Compiled.{Answers, written_maps};
+    ghost use Rattle.rg_resmatch.specs.Matching.{Matching};
 
-    ghost Value = { Form };
+    ghost Value = { Matching };
 
-    ghost view = { λ m. record { levels = m.levels.items; paths = option_map (λ v. v.items) m.paths } };
+    ghost view = { λ m. record { def = m.def.value; maps = written_maps m.maps.items; reach = m.reach.value } };
+
+    ghost invariant = { λ m. Answers m.maps.items m.def.value m.reach.value };
 }
 
-fn element_at<'a>(elements: &'a [Element], name: &str) -> Option<&'a Element>
-    ensures { option_map (λ e. e.now) result ≡ find (λ (e : Element). bytes_eq e.level (chars name.now)) elements.now }
+/// These maps after those that are compiled.
+fn with_maps(
+    alloc: Global,
+    mut compiled: Vec<CompiledMap>,
+    def: &ServiceDef,
+    maps: &[ResourceMap],
+    reach: Reach,
+) -> Result<Vec<CompiledMap>, NoMemory>
+    requires lawful { def_fault def.now ≡ None }
+    requires values { all_values_fit def.now maps.now ≡ true }
+    ensures { IfOk result (λ v. v.items ≡ compiled.items ++ map_forms def.now reach maps.now) }
 {
-    elements
-        .iter()
-        .find(|element| same_text(element.level.as_str(), name))
-}
-
-/// The value that the request has for this level.
-fn value_at<'a>(elements: &'a [Element], name: &str) -> Option<&'a str>
-    ensures { option_map (λ v. chars v.now) result ≡ value_at elements.now (chars name.now) }
-{
-    match element_at(elements, name) {
-        Some(element) => Some(element.value.as_str()),
-        None => None,
+    for map in maps {
+        let form = CompiledMap::compile(alloc, def, &map.levels, reach)?;
+        compiled.push(form)?;
     }
+    Ok(compiled)
 }
 
-fn all_met(levels: &[CompiledLevel], elements: &[Element], user: &str) -> bool
-    ensures { result ≡ list_all (λ (l : LevelForm). form_meets (chars user.now) l (value_at elements.now l.name)) levels.now }
+/// The one map with these resources.
+fn one_map(
+    alloc: Global,
+    def: &ServiceDef,
+    resources: &Seq<PolicyResource>,
+    reach: Reach,
+) -> Result<Vec<CompiledMap>, NoMemory>
+    requires lawful { def_fault def.now ≡ None }
+    requires values { values_fit def.now resources.now.items ≡ true }
+    ensures { IfOk result (λ v. v.items ≡ map_forms def.now reach (record { levels = resources.now } ∷ [])) }
 {
-    levels.iter().all(|level| level.meets(value_at(elements, level.name()), user))
+    let form = CompiledMap::compile(alloc, def, resources, reach)?;
+    let mut compiled = Vec::new(alloc);
+    compiled.push(form)?;
+    Ok(compiled)
 }
 
-fn names(levels: &[CompiledLevel], name: &str) -> bool
-    ensures { result ≡ names_form levels.now (chars name.now) }
+fn any_lies(maps: &[CompiledMap], elements: &[Element], user: &str) -> bool
+    ensures { result ≡ some_form_lies maps.now elements.now (chars user.now) }
 {
-    levels.iter().any(|level| same_text(level.name(), name))
+    maps.iter().any(|map| map.lies(elements, user))
 }
 
-fn all_named(levels: &[CompiledLevel], elements: &[Element]) -> bool
-    ensures { result ≡ list_all (λ (e : Element). names_form levels.now e.level) elements.now }
+fn any_lies_on_tag(maps: &[CompiledMap], tag: &str, user: &str) -> bool
+    ensures { result ≡ some_form_lies maps.now (tag_elements (chars tag.now)) (chars user.now) }
 {
-    elements
-        .iter()
-        .all(|element| names(levels, element.level.as_str()))
-}
-
-fn lie_on(path: &[Text], elements: &[Element]) -> bool
-    ensures { result ≡ list_all (λ (e : Element). is_among e.level path.now) elements.now }
-{
-    elements
-        .iter()
-        .all(|element| is_among(element.level.as_str(), path))
-}
-
-fn on_some_path(paths: &[Seq<Text>], elements: &[Element]) -> bool
-    ensures { result ≡ list_any (λ (names : Listed (List ℕ)). list_all (λ (e : Element). is_among e.level names.items) elements.now) paths.now }
-{
-    paths.iter().any(|path| lie_on(path.as_slice(), elements))
-}
-
-fn tag_value<'a>(name: &str, tag: &'a str) -> Option<&'a str>
-    ensures { option_map (λ v. chars v.now) result ≡ value_at (tag_elements (chars tag.now)) (chars name.now) }
-{
-    if same_text(tag_name(), name) {
-        Some(tag)
-    } else {
-        None
-    }
-}
-
-fn all_met_by_tag(levels: &[CompiledLevel], tag: &str, user: &str) -> bool
-    ensures { result ≡ list_all (λ (l : LevelForm). form_meets (chars user.now) l (value_at (tag_elements (chars tag.now)) l.name)) levels.now }
-{
-    levels
-        .iter()
-        .all(|level| level.meets(tag_value(level.name(), tag), user))
-}
-
-fn has_tag(paths: &[Seq<Text>]) -> bool
-    ensures { result ≡ list_any (λ (names : Listed (List ℕ)). is_among tag_name names.items) paths.now }
-{
-    paths
-        .iter()
-        .any(|path| is_among(tag_name(), path.as_slice()))
+    maps.iter().any(|map| map.lies_on_tag(tag, user))
 }
 
 impl Matcher {
-    fn reaches(&self, elements: &[Element]) -> bool
-        ensures { result ≡ in_reach self.now.levels elements.now self.now.paths }
+    fn from_compiled(maps: Vec<CompiledMap>, def: &ServiceDef, reach: Reach) -> Matcher
+        requires { Answers maps.items def.now reach }
+        ensures { result ≡ record { def = def.now; maps = written_maps maps.items; reach = reach } }
     {
-        match &self.paths {
-            Some(paths) => on_some_path(paths, elements),
-            None => all_named(&self.levels, elements),
+        Matcher {
+            maps,
+            def: Snapshot::of(def),
+            reach: Snapshot::of(&reach),
         }
     }
 
-    fn lies(&self, elements: &[Element], user: &str) -> bool
-        ensures { result ≡ matches_of self.now elements.now (chars user.now) }
+    /// A matcher of these maps, with each value read once. The definition and the maps pass their rules, which need
+    /// not ask for mandatory levels.
+    pub fn compile(
+        alloc: Global,
+        def: &ServiceDef,
+        maps: &[ResourceMap],
+        reach: Reach,
+    ) -> Result<Matcher, NoMemory>
+        requires lawful { def_fault def.now ≡ None }
+        requires levels { all_levels_fit def.now false maps.now ≡ true }
+        requires values { all_values_fit def.now maps.now ≡ true }
+        ensures { IfOk result (λ m. m ≡ record { def = def.now; maps = maps.now; reach = reach }) }
     {
-        match elements {
-            [] => false,
-            _ => all_met(&self.levels, elements, user) && self.reaches(elements),
-        }
+        let compiled = with_maps(alloc, Vec::new(alloc), def, maps, reach)?;
+        Ok(Matcher::from_compiled(compiled, def, reach))
     }
 
-    /// Whether the resources match the resource of a request of this user. One try is counted.
+    /// As `compile`, for the one map with these resources.
+    pub fn of_resources(
+        alloc: Global,
+        def: &ServiceDef,
+        resources: &Seq<PolicyResource>,
+        reach: Reach,
+    ) -> Result<Matcher, NoMemory>
+        requires lawful { def_fault def.now ≡ None }
+        requires levels { levels_fit def.now false resources.now.items ≡ true }
+        requires values { values_fit def.now resources.now.items ≡ true }
+        ensures { IfOk result (λ m. m ≡ record { def = def.now; maps = record { levels = resources.now } ∷ []; reach = reach }) }
+    {
+        let compiled = one_map(alloc, def, resources, reach)?;
+        Ok(Matcher::from_compiled(compiled, def, reach))
+    }
+
+    /// As `compile`, for the maps of a policy.
+    pub fn of_policy(
+        alloc: Global,
+        def: &ServiceDef,
+        policy: &Policy,
+        reach: Reach,
+    ) -> Result<Matcher, NoMemory>
+        requires lawful { def_fault def.now ≡ None }
+        requires levels { all_levels_fit def.now false (maps_of policy.now) ≡ true }
+        requires values { all_values_fit def.now (maps_of policy.now) ≡ true }
+        ensures { IfOk result (λ m. m ≡ record { def = def.now; maps = maps_of policy.now; reach = reach }) }
+    {
+        let first = one_map(alloc, def, &policy.resources, reach)?;
+        let compiled = with_maps(alloc, first, def, policy.additional.as_slice(), reach)?;
+        Ok(Matcher::from_compiled(compiled, def, reach))
+    }
+
+    /// Whether some map lies on the resource of a request of this user. One try is counted. It takes no memory.
     pub fn matches<L: Ledger>(&self, resource: &Resource, user: &str, steps: &mut Steps<L>) -> bool
-        ensures answer { result ≡ matches_of self.now resource.now.elements.items (chars user.now) }
+        ensures answer { result ≡ some_lies self.now.def self.now.maps self.now.reach resource.now.elements.items (chars user.now) }
         ensures tries { steps.new ≡ one_try steps.old }
     {
         steps.attempt();
-        self.lies(resource.elements.as_slice(), user)
-    }
-
-    fn lies_tag(&self, tag: &str, user: &str) -> bool
-        ensures { result ≡ matches_of self.now (tag_elements (chars tag.now)) (chars user.now) }
-    {
-        all_met_by_tag(&self.levels, tag, user) && self.reaches_tag(tag)
-    }
-
-    fn reaches_tag(&self, _tag: &str) -> bool
-        ensures { result ≡ in_reach self.now.levels (tag_elements (chars _tag.now)) self.now.paths }
-    {
-        match &self.paths {
-            Some(paths) => has_tag(paths),
-            None => names(&self.levels, tag_name()),
-        }
+        any_lies(&self.maps, resource.elements.as_slice(), user)
     }
 
     /// As `matches`, for a resource whose one element has the level `tag` and this value.
     pub fn matches_tag<L: Ledger>(&self, tag: &str, user: &str, steps: &mut Steps<L>) -> bool
-        ensures answer { result ≡ matches_of self.now (tag_elements (chars tag.now)) (chars user.now) }
+        ensures answer { result ≡ some_lies self.now.def self.now.maps self.now.reach (tag_elements (chars tag.now)) (chars user.now) }
         ensures tries { steps.new ≡ one_try steps.old }
     {
         steps.attempt();
-        self.lies_tag(tag, user)
+        any_lies_on_tag(&self.maps, tag, user)
     }
 }

@@ -1,41 +1,15 @@
-// The rules that resources have to pass before they are compiled.
-ghost use Rattle.std.specs.Prelude.{◌≡◌, ◌||◌, ℕ, not, Option, map, option_map};
-ghost use Rattle.std.specs.List.{list_all, list_any};
-ghost use Rattle.std.specs.Str.{bytes_eq, chars};
-ghost use Rattle.rg_base.specs.Listed.{Listed, listed};
-ghost use Rattle.rg_base.specs.Texts.{all_distinct, is_name};
-ghost use Rattle.rg_defs.specs.declared.service_def.Level.{Level};
-ghost use Rattle.rg_defs.specs.PathTests.{is_above, is_settled, is_spared, lies_on, mandatory_named, on_one_path, paths_of};
-ghost use Rattle.rg_defs.specs.Paths.{level_of};
+// The rules that resource maps have to pass before they are compiled.
+ghost use Rattle.std.specs.Prelude.{◌≡◌, None, Option, option_map};
+ghost use Rattle.std.specs.List.{list_all};
+ghost use Rattle.rg_base.specs.Texts.{is_name};
 ghost use Rattle.rg_defs.specs.Rules.{has_level};
 ghost use Rattle.rg_policy.specs.declared.policy.PolicyResource.{PolicyResource};
-ghost use Rattle.rg_resmatch.specs.Rules.{levels_fit, named_levels, supports, values_fit, values_fit_level};
-ghost use Rattle.rg_resmatch.specs.Tests.{names_level};
+ghost use Rattle.rg_resmatch.specs.Rules.{all_levels_fit, all_values_fit, levels_fit, names_no_user, supports, tagged_fit, values_fit, values_fit_level};
 
-use rg_base::{Seq, Text, is_name, is_named, same_text};
-use rg_defs::{Level, ServiceDef, is_above, level_of, lies_on};
-use rg_policy::PolicyResource;
-
-pub(crate) fn names_level(resources: &[PolicyResource], name: &str) -> bool
-    ensures { result ≡ names_level resources.now (chars name.now) }
-{
-    resources
-        .iter()
-        .any(|resource| same_text(resource.level.as_str(), name))
-}
-
-fn levels_distinct(resources: &[PolicyResource]) -> bool
-    ensures { result ≡ all_distinct (λ (r s : PolicyResource). bytes_eq s.level r.level) resources.now }
-{
-    let mut rest = resources;
-    while let Some((resource, later)) = rest.split_first() {
-        if names_level(later, resource.level.as_str()) {
-            return false;
-        }
-        rest = later;
-    }
-    true
-}
+use rg_base::{Text, is_name, is_named, names_distinct};
+use rg_defs::{Level, Paths, ServiceDef, level_of, mandatory_named};
+use rg_pattern::value_fits;
+use rg_policy::{PolicyResource, ResourceMap};
 
 fn are_levels(levels: &[Level], resources: &[PolicyResource]) -> bool
     ensures { result ≡ list_all (λ (r : PolicyResource). has_level levels.now r.level) resources.now }
@@ -45,89 +19,41 @@ fn are_levels(levels: &[Level], resources: &[PolicyResource]) -> bool
         .all(|resource| is_named(levels, resource.level.as_str()))
 }
 
-/// Whether the levels of all resources lie on the path.
-pub(crate) fn all_lie_on(levels: &[Level], path: &[u32], resources: &[PolicyResource]) -> bool
-    ensures { result ≡ list_all (lies_on levels.now path.now) (named_levels resources.now) }
-{
-    each_lies_on(levels, path, resources)
-}
-
-fn each_lies_on(levels: &[Level], path: &[u32], resources: &[PolicyResource]) -> bool
-    ensures { result ≡ list_all (λ (r : PolicyResource). lies_on levels.now path.now r.level) resources.now }
-{
-    resources
-        .iter()
-        .all(|resource| lies_on(levels, path, resource.level.as_str()))
-}
-
-fn on_some_path(levels: &[Level], paths: &[Seq<u32>], resources: &[PolicyResource]) -> bool
-    ensures { result ≡ list_any (λ (p : Listed ℕ). list_all (lies_on levels.now p.items) (named_levels resources.now)) paths.now }
-{
-    paths
-        .iter()
-        .any(|path| all_lie_on(levels, path.as_slice(), resources))
-}
-
-fn on_one_path(levels: &[Level], paths: &[Seq<u32>], resources: &[PolicyResource]) -> bool
-    requires { paths.now ≡ map listed (paths_of levels.now) }
-    ensures { result ≡ on_one_path levels.now (named_levels resources.now) }
-{
-    on_some_path(levels, paths, resources)
-}
-
-fn stands_above(levels: &[Level], upper: &str, resources: &[PolicyResource]) -> bool
-    ensures { result ≡ list_any (λ (r : PolicyResource). is_above levels.now (chars upper.now) r.level) resources.now }
-{
-    resources.iter().any(|resource| is_above(levels, upper, resource.level.as_str()))
-}
-
-fn is_some_or_above_none(levels: &[Level], resources: &[PolicyResource], name: &str) -> bool
-    ensures { result ≡ (names_level resources.now (chars name.now) || not (list_any (λ (r : PolicyResource). is_above levels.now (chars name.now) r.level) resources.now)) }
-{
-    names_level(resources, name) || !stands_above(levels, name, resources)
-}
-
-/// Whether the level of this name is named, or stands above none that is named.
-fn is_settled(levels: &[Level], resources: &[PolicyResource], name: &str) -> bool
-    ensures { result ≡ is_settled levels.now (named_levels resources.now) (chars name.now) }
-{
-    is_some_or_above_none(levels, resources, name)
-}
-
-fn is_spared(levels: &[Level], resources: &[PolicyResource], level: &Level) -> bool
-    ensures { result ≡ is_spared levels.now (named_levels resources.now) level.now }
-{
-    !level.mandatory || is_settled(levels, resources, level.name.as_str())
-}
-
-fn mandatory_named(levels: &[Level], resources: &[PolicyResource]) -> bool
-    ensures { result ≡ mandatory_named levels.now (named_levels resources.now) }
-{
-    levels
-        .iter()
-        .all(|level| is_spared(levels, resources, level))
-}
-
 /// Whether there is a level, the levels are distinct ones of the definition on one path, and, where `mandatory` is
-/// set, every mandatory level above a named one is named (rule V5 save its part on masks and row filters). The
-/// paths are those of the definition.
+/// set, every mandatory level above a named one is named (rule V5 of one map, save its part on masks and row
+/// filters). The paths are those of the definition. The work is linear in the number of resources: more than the
+/// definition has levels are refused as soon as one of them is named again.
+#[tactic(auto, using(crate::proofs::Named::levels_first))]
 pub fn levels_fit(
     def: &ServiceDef,
-    paths: &[Seq<u32>],
+    paths: &Paths,
     mandatory: bool,
     resources: &[PolicyResource],
 ) -> bool
-    requires { paths.now ≡ map listed (paths_of def.now.levels.items) }
+    requires { paths.now ≡ def.now.levels.items }
     ensures { result ≡ levels_fit def.now mandatory resources.now }
 {
-    let levels = def.levels.as_slice();
+    let levels = paths.levels();
     match resources {
         [] => false,
-        _ => levels_distinct(resources)
-            && (are_levels(levels, resources)
-                && (on_one_path(levels, paths, resources)
+        _ => are_levels(levels, resources)
+            && (names_distinct(resources)
+                && (paths.on_one_path(resources)
                     && (!mandatory || mandatory_named(levels, resources)))),
     }
+}
+
+/// As `levels_fit`, of each map.
+pub fn all_levels_fit(
+    def: &ServiceDef,
+    paths: &Paths,
+    mandatory: bool,
+    maps: &[ResourceMap],
+) -> bool
+    requires { paths.now ≡ def.now.levels.items }
+    ensures { result ≡ all_levels_fit def.now mandatory maps.now }
+{
+    maps.iter().all(|map| levels_fit(def, paths, mandatory, map.levels.as_slice()))
 }
 
 fn supports(level: Option<&Level>, resource: &PolicyResource) -> bool
@@ -157,11 +83,45 @@ fn values_fit_level(def: &ServiceDef, resource: &PolicyResource) -> bool
 }
 
 /// Whether each level has a value, each value is a pattern of 1 to 256 characters, and a resource excludes or is
-/// recursive only where its level supports it (rule V6).
+/// recursive only where its level supports it (rule V6 of one map).
 pub fn values_fit(def: &ServiceDef, resources: &[PolicyResource]) -> bool
     ensures { result ≡ values_fit def.now resources.now }
 {
     resources
         .iter()
         .all(|resource| values_fit_level(def, resource))
+}
+
+/// As `values_fit`, of each map.
+pub fn all_values_fit(def: &ServiceDef, maps: &[ResourceMap]) -> bool
+    ensures { result ≡ all_values_fit def.now maps.now }
+{
+    maps.iter()
+        .all(|map| values_fit(def, map.levels.as_slice()))
+}
+
+fn names_no_user(resource: &PolicyResource) -> bool
+    ensures { result ≡ names_no_user resource.now }
+{
+    resource
+        .values
+        .as_slice()
+        .iter()
+        .all(|value| value_fits(value.as_str()))
+}
+
+fn name_no_user(resources: &[PolicyResource]) -> bool
+    ensures { result ≡ list_all names_no_user resources.now }
+{
+    resources.iter().all(|resource| names_no_user(resource))
+}
+
+/// Whether the resources of a tag row pass rule G2: V5 without mandatory levels, V6, and no value has `{USER}`. The
+/// paths are those of the definition.
+pub fn tagged_fit(def: &ServiceDef, paths: &Paths, resources: &[PolicyResource]) -> bool
+    requires { paths.now ≡ def.now.levels.items }
+    ensures { result ≡ tagged_fit def.now resources.now }
+{
+    levels_fit(def, paths, false, resources)
+        && (values_fit(def, resources) && name_no_user(resources))
 }

@@ -1,7 +1,7 @@
 -- The chart of rows: what its steps say of chains of roles.
-use Rattle.std.proofs.Common.{◌≡◌, ◌<◌, ℕ, Bool, true, false, List, [], ◌∷◌, ◌++◌, length, map, get_or, Option, Some, None, Contains, refl, sym, ap, ◌∙◌, subst, ⊎_elim, arith}
+use Rattle.std.proofs.Common.{◌⊎◌, inl, inr, ◌*◌, ◌&&◌, ◌||◌, ◌≡◌, ◌<◌, ℕ, Bool, true, false, List, [], ◌∷◌, ◌++◌, length, map, get_or, Option, Some, None, Contains, refl, sym, ap, ◌∙◌, subst, ⊎_elim, arith}
 use Rattle.std.specs.List.{All, list_any}
-use Rattle.std.proofs.lemmas.Bool.{false_from_ne_true}
+use Rattle.std.proofs.lemmas.Bool.{and_from, and_parts, false_from_ne_true, or_cases, or_left, or_right}
 use Rattle.std.proofs.lemmas.Bool.Decides.{same_from_decides}
 use Rattle.std.proofs.lemmas.List.{get_or-map, length-map}
 use Rattle.std.proofs.lemmas.List.Elements.{All-weaker, All-contains, All-contains_itself, All-from_get_or, Contains-get_or, Contains-append_left, Contains-push, Contains-push_cases}
@@ -9,11 +9,12 @@ use Rattle.rg_roles.specs.declared.row.RoleRow.{RoleRow}
 use Rattle.rg_roles.specs.Chains.{Leads, here, there, leads}
 use Rattle.rg_roles.specs.Faults.{first_row, is_on_cycle, repeats}
 use Rattle.rg_roles.specs.Members.{name_at, names_of, names_role, passes_at}
-use Rattle.rg_roles.specs.Places.{AreBounded, AreReached, ExpandsTo, IsChart, Reaches, by_step, by_steps, place_in}
+use Rattle.rg_roles.specs.Places.{AreBounded, IsChart, IsKnown, Reaches, any_below, by_step, by_steps, has, place_in}
+use Rattle.rg_roles.proofs.Sets.{any_below_at, any_below_from, has_within}
 use Rattle.rg_roles.proofs.Decided.{leads-Decides}
 use Rattle.rg_roles.proofs.Lookup.{place_found}
 use Rattle.rg_roles.proofs.Rows.{element, get_map, name_is, names_count, passes_is, unique}
-use Rattle.rg_roles.proofs.Lists.{any_at, any_from, among_from, contains_among, contains_same}
+use Rattle.rg_base.proofs.Lists.{any_holds, any_from, among_from, among_holds, Contains-same}
 
 -- between two lists of which each element gives the one at its place
 maps_back : {X : Type 0} (f : X → Option ℕ) (xs : List X) (ks : List ℕ) (d : X) → map f xs ≡ map Some ks → (k : ℕ) → Contains ks k → (x : X) × Contains xs x × (f x ≡ Some k)
@@ -39,11 +40,11 @@ maps_on f xs ks e x c =
     )
 
 -- a chain that leads to a row that names a role goes on from that role
-follow : (rows : List RoleRow) (test : RoleRow → Bool) (middle role : List ℕ) → Leads rows (names_role middle) role → Leads rows test middle → Leads rows test role
-follow rows test middle role (here _ row c same names) rest = there role middle row c same (contains_among middle row.roles.items names) rest
+pub follow : (rows : List RoleRow) (test : RoleRow → Bool) (middle role : List ℕ) → Leads rows (names_role middle) role → Leads rows test middle → Leads rows test role
+follow rows test middle role (here _ row c same names) rest = there role middle row c same (among_holds middle row.roles.items names) rest
 follow rows test middle role (there _ other row c same names more) rest = there role other row c same names (follow rows test middle other more rest)
 
-prepend : (chart : List (List ℕ)) (p k t : ℕ) → Contains (get_or chart p []) k → Reaches chart k t → Reaches chart p t
+pub prepend : (chart : List (List ℕ)) (p k t : ℕ) → Contains (get_or chart p []) k → Reaches chart k t → Reaches chart p t
 prepend chart p k t c (by_step _ last) = by_steps k t (by_step k c) last
 prepend chart p k t c (by_steps q _ steps last) = by_steps q t (prepend chart p k q c steps) last
 
@@ -65,7 +66,7 @@ module _ (rows : List RoleRow) (chart : List (List ℕ)) (charted : IsChart rows
       let row = element rows p l in
       let named = maps_back (place_in (names_of rows)) row.0.roles.items (get_or chart p []) [] (links p row.0 l row.1) k c in
       let found = place_found (names_of rows) named.0 k named.2 in
-      (subst (λ n. k < n) (names_count rows) found.0, (row.0, row.1, contains_same row.0.roles.items named.0 (name_at rows k) (sym found.1) named.1))
+      (subst (λ n. k < n) (names_count rows) found.0, (row.0, row.1, Contains-same row.0.roles.items named.0 (name_at rows k) (sym found.1) named.1))
 
   pub chart_bounded : AreBounded chart
   chart_bounded = All-from_get_or (All (λ k. k < length chart)) chart [] (λ p l.
@@ -106,7 +107,7 @@ module _ (rows : List RoleRow) (chart : List (List ℕ)) (charted : IsChart rows
 
     leads_reaches : (t : ℕ) → t < length rows → (role : List ℕ) → Leads rows (names_role (name_at rows t)) role → (p : ℕ) → p < length rows → name_at rows p ≡ role → Reaches chart p t
     leads_reaches t lt role (here _ row c same names) p l at =
-        let s = step_of row c role p same l at (name_at rows t) (contains_among (name_at rows t) row.roles.items names) in
+        let s = step_of row c role p same l at (name_at rows t) (among_holds (name_at rows t) row.roles.items names) in
         by_step t (subst (Contains (get_or chart p [])) (unique rows distinct s.0 t s.1 lt s.3) s.2)
     leads_reaches t lt role (there _ other row c same names rest) p l at =
         let s = step_of row c role p same l at other names in
@@ -119,42 +120,48 @@ module _ (rows : List RoleRow) (chart : List (List ℕ)) (charted : IsChart rows
     off_cycle k l away = false_from_ne_true (is_on_cycle rows k) (λ h.
         away (leads_reaches k l (name_at rows k) ((leads-Decides rows (names_role (name_at rows k)) (name_at rows k)).0 h) k l refl))
 
-    module _ (place : ℕ) (l : place < length rows) (found : List ℕ) (reached : AreReached chart place found) (test : RoleRow → Bool) where
-      abbrev all : List ℕ
-      all = found ++ place ∷ []
+    -- where a chain leads on from a row, the row passes, or one that its steps lead to does
+    found : (test : RoleRow → Bool) (role : List ℕ) → Leads rows test role → (p : ℕ) → p < length rows → name_at rows p ≡ role
+        → (passes_at test rows p ≡ true) ⊎ ((q : ℕ) × Reaches chart p q × (passes_at test rows q ≡ true))
+    found test role (here _ row c same passes) p l at = inl (ap (passes_at test rows) (sym (place_is row c role p same l at)) ∙ passes_is test rows c.0 row c.1 c.2 ∙ passes)
+    found test role (there _ other row c same names rest) p l at =
+        let s = step_of row c role p same l at other names in
+        ⊎_elim
+        (λ passes. inr (s.0, by_step s.0 s.2, passes))
+        (λ later. inr (later.0, prepend chart p s.0 later.0 s.2 later.1, later.2))
+        (found test other rest s.0 s.1 s.3)
 
-      sound : list_any (passes_at test rows) all ≡ true → Leads rows test (name_at rows place)
-      sound h =
-          let a = any_at (passes_at test rows) all h in
-          ⊎_elim
-          (λ c. let r = All-contains (Reaches chart place) found a.0 reached.sound c in
-          follow rows test (name_at rows a.0) (name_at rows place) (reaches_leads place a.0 l r) (passing a.0 (reach_within place a.0 l r) a.2))
-          (λ same. passing place l (subst (λ k. passes_at test rows k ≡ true) (sym same) a.2))
-          (Contains-push_cases found place a.0 a.1) where
-            passing : (k : ℕ) → k < length rows → passes_at test rows k ≡ true → Leads rows test (name_at rows k)
-            passing k lk h =
-                let row = element rows k lk in
-                here (name_at rows k) row.0 (k, lk, row.1) (sym (name_is rows k row.0 lk row.1)) (sym (passes_is test rows k row.0 lk row.1) ∙ h)
+    leads_from : (test : RoleRow → Bool) (k : ℕ) → k < length rows → passes_at test rows k ≡ true → Leads rows test (name_at rows k)
+    leads_from test k l h =
+        let row = element rows k l in
+        here (name_at rows k) row.0 (k, l, row.1) (sym (name_is rows k row.0 l row.1)) (sym (passes_is test rows k row.0 l row.1) ∙ h)
 
-      on : (p k : ℕ) → Contains all p → Contains (get_or chart p []) k → Contains all k
-      on p k cp ck = Contains-append_left found (place ∷ []) k (⊎_elim
-          (λ c. All-contains (Contains found) (get_or chart p []) k (All-contains (λ q. All (Contains found) (get_or chart q [])) found p reached.closed c) ck)
-          (λ same. All-contains (Contains found) (get_or chart place []) k reached.first (subst (λ q. Contains (get_or chart q []) k) (sym same) ck))
-          (Contains-push_cases found place p cp))
+    -- the row and those of its set decide whether a chain leads to one that passes
+    pub known_leads : (place : ℕ) → place < length rows → (words : List ℕ) → IsKnown chart place words → (test : RoleRow → Bool)
+        → (passes_at test rows place || any_below (λ k. has words k && passes_at test rows k) (64 * length words)) ≡ leads rows test (name_at rows place)
+    known_leads place l words known test = same_from_decides (own || more) (leads rows test (name_at rows place)) (sound, complete)
+        (leads-Decides rows test (name_at rows place)) where
+          own : Bool
+          own = passes_at test rows place
 
-      complete : (role : List ℕ) → Leads rows test role → (p : ℕ) → Contains all p → p < length rows → name_at rows p ≡ role → list_any (passes_at test rows) all ≡ true
-      complete role (here _ row c same passes) p cp lp at =
-          any_from (passes_at test rows) all p cp
-          (ap (passes_at test rows) (sym (place_is row c role p same lp at)) ∙ passes_is test rows c.0 row c.1 c.2 ∙ passes)
-      complete role (there _ other row c same names rest) p cp lp at =
-          let s = step_of row c role p same lp at other names in
-          complete other rest s.0 (on p s.0 cp s.2) s.1 s.3
+          more : Bool
+          more = any_below (λ k. has words k && passes_at test rows k) (64 * length words)
 
-      expands : list_any (passes_at test rows) all ≡ leads rows test (name_at rows place)
-      expands = same_from_decides (list_any (passes_at test rows) all) (leads rows test (name_at rows place))
-          (sound, λ chain. complete (name_at rows place) chain place (Contains-push found place) l refl)
-          (leads-Decides rows test (name_at rows place))
+          sound : own || more ≡ true → Leads rows test (name_at rows place)
+          sound h = ⊎_elim
+              (λ passes. leads_from test place l passes)
+              (λ later.
+              let k = any_below_at (λ k. has words k && passes_at test rows k) (64 * length words) later in
+              let parts = and_parts (has words k.0) (passes_at test rows k.0) k.2 in
+              let r = (known.exact k.0).0 parts.0 in
+              follow rows test (name_at rows k.0) (name_at rows place) (reaches_leads place k.0 l r) (leads_from test k.0 (reach_within place k.0 l r) parts.1))
+              (or_cases own more h)
 
-    pub expanded_is : (place : ℕ) (list : List ℕ) → place < length rows → ExpandsTo chart place list → (test : RoleRow → Bool)
-        → list_any (passes_at test rows) list ≡ leads rows test (name_at rows place)
-    expanded_is place list l e test = ap (list_any (passes_at test rows)) e.3 ∙ expands place l e.0 e.1 test
+          complete : Leads rows test (name_at rows place) → own || more ≡ true
+          complete chain = ⊎_elim
+              (λ passes. or_left own more passes)
+              (λ later.
+              let kept = (known.exact later.0).1 later.1 in
+              or_right own more (any_below_from (λ k. has words k && passes_at test rows k) (64 * length words) later.0 (has_within words later.0 kept)
+              (and_from (has words later.0) (passes_at test rows later.0) kept later.2)))
+              (found test (name_at rows place) chain place l refl)

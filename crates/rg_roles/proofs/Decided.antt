@@ -9,7 +9,8 @@ use Rattle.std.proofs.lemmas.List.Sums.{count_by-le-length}
 use Rattle.std.proofs.lemmas.Slice.Eq.{bytes_eq-Decides}
 use Rattle.rg_roles.specs.declared.row.RoleRow.{RoleRow}
 use Rattle.rg_roles.specs.Chains.{Leads, here, there, leads, leads_within}
-use Rattle.rg_roles.proofs.Lists.{any_from, any_at, count_cases}
+use Rattle.rg_base.proofs.Lists.{any_from, any_holds}
+use Rattle.rg_roles.proofs.Lists.{count_cases}
 
 module _ (rows : List RoleRow) (test : RoleRow → Bool) where
   -- the row passes, or names a role from which a chain of at most n leads to one that does
@@ -22,7 +23,7 @@ module _ (rows : List RoleRow) (test : RoleRow → Bool) where
   -- what a chain of at most n + 1 begins with
   begins : (n : ℕ) (role : List ℕ) → leads_within (suc n) rows test role ≡ true → (row : RoleRow) × Contains rows row × (row.name ≡ role) × (steps n row ≡ true)
   begins n role h =
-      let a = any_at (named n role) rows h in
+      let a = any_holds (named n role) rows h in
       let parts = and_parts (bytes_eq a.0.name role) (steps n a.0) a.2 in
       (a.0, a.1, (bytes_eq-Decides a.0.name role).0 parts.0, parts.1)
 
@@ -35,14 +36,14 @@ module _ (rows : List RoleRow) (test : RoleRow → Bool) where
       let b = begins n role h in
       ⊎_elim
       (λ passes. here role b.0 b.1 b.2 passes)
-      (λ later. let a = any_at (leads_within n rows test) b.0.roles.items later in there role a.0 b.0 b.1 b.2 a.1 (found n a.0 a.2))
+      (λ later. let a = any_holds (leads_within n rows test) b.0.roles.items later in there role a.0 b.0 b.1 b.2 a.1 (found n a.0 a.2))
       (or_cases (test b.0) (list_any (leads_within n rows test) b.0.roles.items) b.3)
 
   -- where the test of shorter chains passes, so does that of longer ones
   steps_along : (m n : ℕ) → ((role : List ℕ) → leads_within m rows test role ≡ true → leads_within n rows test role ≡ true) → (row : RoleRow) → steps m row ≡ true → steps n row ≡ true
   steps_along m n up row h = ⊎_elim
       (λ passes. or_left (test row) (list_any (leads_within n rows test) row.roles.items) passes)
-      (λ later. let a = any_at (leads_within m rows test) row.roles.items later in
+      (λ later. let a = any_holds (leads_within m rows test) row.roles.items later in
       or_right (test row) (list_any (leads_within n rows test) row.roles.items) (any_from (leads_within n rows test) row.roles.items a.0 a.1 (up a.0 a.2)))
       (or_cases (test row) (list_any (leads_within m rows test) row.roles.items) h)
 

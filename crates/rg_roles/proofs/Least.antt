@@ -5,8 +5,9 @@ use Rattle.std.proofs.lemmas.Bool.{or_cases, or_left, or_right}
 use Rattle.rg_roles.specs.declared.row.RoleRow.{RoleRow}
 use Rattle.rg_roles.specs.Chains.{here, there}
 use Rattle.rg_roles.specs.Holding.{Holds, IsClosed}
-use Rattle.rg_roles.specs.Members.{everybody, is_among}
-use Rattle.rg_roles.proofs.Lists.{any_at, any_from, among_from, contains_among}
+use Rattle.rg_base.specs.Texts.{is_among}
+use Rattle.rg_roles.specs.Members.{everybody}
+use Rattle.rg_base.proofs.Lists.{any_holds, any_from, among_from, among_holds}
 
 module _ (rows : List RoleRow) (user : List ℕ) (groups : List (List ℕ)) where
   abbrev by_user : RoleRow → Bool
@@ -31,10 +32,10 @@ module _ (rows : List RoleRow) (user : List ℕ) (groups : List (List ℕ)) wher
   pub holds_least : (held : List ℕ → Bool) → IsClosed rows user groups (λ role. held role ≡ true) → (role : List ℕ) → Holds rows role user groups → held role ≡ true
   holds_least held closed role (here _ row c same passes) = subst (λ name. held name ≡ true) same
       (⊎_elim
-      (λ h. closed.by_user row c (contains_among user row.users.items h))
+      (λ h. closed.by_user row c (among_holds user row.users.items h))
       (λ more. ⊎_elim
-      (λ h. let a = any_at (λ g. is_among g row.groups.items) groups h in closed.by_group row a.0 c a.1 (contains_among a.0 row.groups.items a.2))
-      (λ h. closed.by_public row c (contains_among everybody row.groups.items h))
+      (λ h. let a = any_holds (λ g. is_among g row.groups.items) groups h in closed.by_group row a.0 c a.1 (among_holds a.0 row.groups.items a.2))
+      (λ h. closed.by_public row c (among_holds everybody row.groups.items h))
       (or_cases (by_group row) (by_public row) more))
       (or_cases (by_user row) (by_group row || by_public row) passes))
   holds_least held closed role (there _ other row c same names rest) = subst (λ name. held name ≡ true) same

@@ -1,4 +1,3 @@
-pub mod Firsts
 pub mod Lists
 pub mod Decided
 pub mod Least
@@ -10,3 +9,7 @@ pub mod Asked
 pub mod Built
 pub mod Rows
 pub mod Charted
+pub mod Sets
+pub mod Ranks
+pub mod Reached
+pub mod InLists

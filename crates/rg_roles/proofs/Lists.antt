@@ -1,4 +1,4 @@
--- Tests of lists, and counts of what passes.
+-- Counts of what passes.
 use Rattle.std.proofs.Common.{◌≡◌, ◌+◌, ◌≤◌, ◌<◌, ℕ, Bool, true, false, cond, List, [], ◌∷◌, refl, sym, ap, ◌∙◌, ◌⊎◌, inl, inr, arith, Contains}
 use Rattle.std.specs.List.{All, list_any, count_by}
 use Rattle.std.specs.Str.{bytes_eq}
@@ -8,24 +8,7 @@ use Rattle.std.proofs.lemmas.List.Elements.{All-nil, All-cons}
 use Rattle.std.proofs.lemmas.List.Folds.{Any-from_list_any, list_any_at}
 use Rattle.std.proofs.lemmas.List.Sums.{sum_by-cons}
 use Rattle.std.proofs.lemmas.Slice.Eq.{bytes_eq-Decides}
-use Rattle.rg_roles.specs.Members.{is_among}
-
-pub any_from : {X : Type 0} (p : X → Bool) (xs : List X) (x : X) → Contains xs x → p x ≡ true → list_any p xs ≡ true
-any_from p xs x c h = list_any_at p xs c.0 x c.1 (ap p c.2 ∙ h)
-
-pub any_at : {X : Type 0} (p : X → Bool) (xs : List X) → list_any p xs ≡ true → (x : X) × Contains xs x × (p x ≡ true)
-any_at p xs h = let a = Any-from_list_any p xs h in (a.1, (a.0, a.2, a.3), a.4)
-
-pub among_from : (text : List ℕ) (texts : List (List ℕ)) → Contains texts text → is_among text texts ≡ true
-among_from text texts c = any_from (λ t. bytes_eq t text) texts text c ((bytes_eq-Decides text text).1 refl)
-
-pub contains_same : {X : Type 0} (xs : List X) (x y : X) → x ≡ y → Contains xs x → Contains xs y
-contains_same xs x y e c = (c.0, c.1, get_or_default xs c.0 y x c.1 ∙ c.2 ∙ e)
-
-pub contains_among : (text : List ℕ) (texts : List (List ℕ)) → is_among text texts ≡ true → Contains texts text
-contains_among text texts h =
-    let a = any_at (λ t. bytes_eq t text) texts h in
-    contains_same texts a.0 text ((bytes_eq-Decides a.0 text).0 a.2) a.1
+use Rattle.rg_base.specs.Texts.{is_among}
 
 -- of two tests, the second of which passes where the first does: they agree, or more passes the second
 abbrev Agree : {X : Type 0} (p q : X → Bool) → List X → Type 0

@@ -1,11 +1,11 @@
 -- The faults in their order.
 use Rattle.std.proofs.Common.{◌≡◌, ◌↔◌, ℕ, Bool, length, List, Option, Some, None, option_map, refl, ap, inl, inr, ⊎_elim}
 use Rattle.std.specs.Option.{option_or}
-use Rattle.rg_roles.specs.declared.membership.RoleFault.{RoleFault}
-use Rattle.rg_roles.specs.declared.membership.RoleFault.TheVariants.{Duplicate, Unknown, Cycle}
+use Rattle.rg_roles.specs.declared.fault.RoleFault.{RoleFault}
+use Rattle.rg_roles.specs.declared.fault.RoleFault.TheVariants.{Duplicate, Unknown, Cycle}
 use Rattle.rg_roles.specs.declared.row.RoleRow.{RoleRow}
 use Rattle.rg_roles.specs.Faults.{IsFirstRow, NoRow, IsRefusal, fault_of, first_row, is_on_cycle, names_absent, repeats}
-use Rattle.rg_roles.proofs.Firsts.{first_none, first_some, none_first, some_first}
+use Rattle.rg_base.proofs.Firsts.{first_none, first_some, none_first, some_first}
 
 refused_by : (a b : Option RoleFault) → ((e : RoleFault) → a ≡ Some e → b ≡ Some e) → (e : RoleFault) → IsRefusal a e → IsRefusal b e
 refused_by a b on e r = ⊎_elim (λ memory. inl memory) (λ found. inr (on e found)) r

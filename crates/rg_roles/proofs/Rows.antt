@@ -7,8 +7,8 @@ use Rattle.std.proofs.lemmas.Option.{slice_get-get_or}
 use Rattle.rg_roles.specs.declared.row.RoleRow.{RoleRow}
 use Rattle.rg_roles.specs.Faults.{first_row, repeats}
 use Rattle.rg_roles.specs.Members.{name_at, names_of, passes_at, roles_at}
-use Rattle.rg_roles.proofs.Firsts.{first_none}
-use Rattle.rg_roles.proofs.Lists.{among_from}
+use Rattle.rg_base.proofs.Firsts.{first_none}
+use Rattle.rg_base.proofs.Lists.{among_from}
 
 -- the element at a place of the list
 pub element : {X : Type 0} (xs : List X) (k : ℕ) → k < length xs → (x : X) × (get_or xs k x ≡ x)

@@ -1,13 +1,14 @@
 -- The steps of a walk over the chart.
 use Rattle.std.proofs.Common.{eqb, ◌≡◌, ◌+◌, ◌≤◌, ◌<◌, ℕ, Bool, true, false, cond, List, [], ◌∷◌, ◌++◌, length, take, get_or, Contains, refl, sym, ap, ◌∙◌, subst, ⊎_elim, arith}
+use Rattle.std.specs.Bool.{Decides}
 use Rattle.std.specs.List.{All, list_any}
 use Rattle.std.proofs.lemmas.Bool.{both_ways, cases_lt, eq-eqb, eqb-true, true≢false}
-use Rattle.std.proofs.lemmas.List.{append_assoc, get_or-replicate, get_or_append_left, get_or_past, get_or_push, take-append-le, take_more, take_all, length-append, append-nil, length-replicate}
+use Rattle.std.proofs.lemmas.List.{append_assoc, get_or-replicate, get_or_past, take-append-le, take_more, take_all, length-append, append-nil, length-replicate}
 use Rattle.std.proofs.lemmas.List.Elements.{All-nil, All-append, All-push, All-weaker, All-get_or, All-contains, All-same, Contains-append_left, Contains-append_right}
 use Rattle.std.proofs.lemmas.List.Folds.{sum_by-replicate}
 use Rattle.std.proofs.Math.ListN.{replicate}
-use Rattle.rg_roles.specs.Places.{AreBounded, AreReached, IsGrown, IsMarked, IsWalked, ExpandsTo, Reaches, by_step, by_steps}
-use Rattle.rg_roles.proofs.Lists.{any_at, any_from, contains_same}
+use Rattle.rg_roles.specs.Places.{AreBounded, AreReached, IsGrown, IsMarked, IsWalked, Reaches, by_step, by_steps}
+use Rattle.rg_base.proofs.Lists.{any_holds, any_from, Contains-same}
 
 -- where all of a list is contained in another, it is contained in a longer one
 pub contained_on : (ks old more new : List ℕ) → new ≡ old ++ more → All (Contains old) ks → All (Contains new) ks
@@ -95,21 +96,13 @@ reached_in chart from found a k (by_step _ c) = All-contains (Contains found) (g
 reached_in chart from found a k (by_steps p _ r c) = All-contains (Contains found) (get_or chart p []) k
     (All-contains (λ q. All (Contains found) (get_or chart q [])) found p a.closed (reached_in chart from found a p r)) c
 
-pub leads_back : (chart : List (List ℕ)) (place : ℕ) (found : List ℕ) → AreReached chart place found → list_any (λ k. eqb k place) found ≡ true → Reaches chart place place
-leads_back chart place found a h =
-    let at = any_at (λ k. eqb k place) found h in
-    All-contains (Reaches chart place) found place a.sound (contains_same found at.0 place (eqb-true at.0 place at.2) at.1)
+pub back_found : (chart : List (List ℕ)) (place : ℕ) (found : List ℕ) → AreReached chart place found → Decides (list_any (λ k. eqb k place) found) (Reaches chart place place)
+back_found chart place found a = (
+  λ h. let at = any_holds (λ k. eqb k place) found h in
+      All-contains (Reaches chart place) found place a.sound (Contains-same found at.0 place (eqb-true at.0 place at.2) at.1),
+  λ r. any_from (λ k. eqb k place) found place (reached_in chart place found a place r) (eq-eqb place place refl),
+)
 
-pub leads_away : (chart : List (List ℕ)) (place : ℕ) (found : List ℕ) → AreReached chart place found → list_any (λ k. eqb k place) found ≡ false → ¬ (Reaches chart place place)
-leads_away chart place found a h r =
-    both_ways (list_any (λ k. eqb k place) found) h (any_from (λ k. eqb k place) found place (reached_in chart place found a place r) (eq-eqb place place refl))
-
-pub expanded_more : (chart reached : List (List ℕ)) (place : ℕ) (list : List ℕ) → length reached ≡ place
-    → ((k : ℕ) → k < place → ExpandsTo chart k (get_or reached k [])) → ExpandsTo chart place list
-    → (k : ℕ) → k < place + 1 → ExpandsTo chart k (get_or (reached ++ list ∷ []) k [])
-expanded_more chart reached place list count before here k l = ⊎_elim
-    (λ below. subst (ExpandsTo chart k) (sym (get_or_append_left reached (list ∷ []) [] k (omega arith))) (before k below))
-    (λ past.
-    let same : place ≡ k = omega arith in
-    subst (ExpandsTo chart k) (sym (get_or_push reached list [] k (omega arith))) (subst (λ p. ExpandsTo chart p list) same here))
-    (cases_lt k place)
+pub reached_bounded : (chart : List (List ℕ)) → AreBounded chart → (from k : ℕ) → Reaches chart from k → k < length chart
+reached_bounded chart bounded from k (by_step _ c) = All-contains (λ j. j < length chart) (get_or chart from []) k (bounded_at chart bounded from) c
+reached_bounded chart bounded from k (by_steps p _ r c) = All-contains (λ j. j < length chart) (get_or chart p []) k (bounded_at chart bounded p) c

@@ -3,11 +3,8 @@ use Rattle.std.specs.Prelude.{ℕ, codes, ◌||◌, Bool, false, List, [], map, 
 use Rattle.std.specs.List.{list_any}
 use Rattle.std.specs.Option.{option_map_or}
 use Rattle.std.specs.Str.{bytes_eq}
+use Rattle.rg_base.specs.Texts.{is_among}
 use Rattle.rg_roles.specs.declared.row.RoleRow.{RoleRow}
-
--- the text is one of these
-abbrev pub is_among : List ℕ → List (List ℕ) → Bool
-is_among text texts = list_any (λ t. bytes_eq t text) texts
 
 -- the group of which every user is a member
 unfoldable pub everybody : List ℕ

@@ -1,21 +1,16 @@
--- Rows by their places, for the proofs.
-use Rattle.std.specs.Prelude.{ℕ, suc, ◌≡◌, ◌<◌, ◌≤◌, Bool, true, false, List, [], ◌∷◌, ◌++◌, length, take, map, Contains, Option, Some, None, option_map, slice_index_or, if◌then◌else◌}
-use Rattle.std.specs.BTreeMap.{BTreeMap, get_by_text}
-use Rattle.std.specs.List.{All, count_by, list_any}
-use Rattle.std.specs.Str.{IsUtf8, bytes_eq, chars}
-use Rattle.std.specs.declared.string.String.{String}
+-- For proofs alone: rows by their places, and sets of places.
+use Rattle.std.specs.Prelude.{ℕ, zero, suc, ◌≡◌, ◌<◌, ◌≤◌, ◌+◌, ◌*◌, ◌/◌, ◌%◌, ◌^◌, ◌&&◌, ◌||◌, nat_eq, nat_le, nat_lt, Bool, true, false, List, [], ◌∷◌, ◌++◌, length, take, map, Contains, Option, Some, None, IfSome, position, slice_index_or, unwrap_or}
+use Rattle.std.specs.Bool.{Decides}
+use Rattle.std.specs.Int.{bit_at}
+use Rattle.std.specs.List.{All, count_by, list_all}
+use Rattle.std.specs.Str.{bytes_eq}
 use Rattle.rg_roles.specs.declared.row.RoleRow.{RoleRow}
 use Rattle.rg_roles.specs.Chains.{leads}
 use Rattle.rg_roles.specs.Members.{name_at, names_of, passes_at}
 
 -- the first place of the name
 abbrev pub place_in : List (List ℕ) → List ℕ → Option ℕ
-place_in [] name = None
-place_in (n ∷ names) name = if bytes_eq n name then Some 0 else option_map suc (place_in names name)
-
--- the index gives the first place of every name
-abbrev pub IsIndex : {Z : Type 0} → BTreeMap (String Z) ℕ → List (List ℕ) → Type 0
-IsIndex index names = (bytes : List ℕ) → IsUtf8 bytes → get_by_text index bytes ≡ place_in names (chars bytes)
+place_in names name = position (λ n. bytes_eq n name) names
 
 -- the chart has, for each row, the places of the roles that it names
 abbrev pub IsChart : List RoleRow → List (List ℕ) → Type 0
@@ -36,9 +31,17 @@ pub record AreReached (chart : List (List ℕ)) (from : ℕ) (found : List ℕ) 
 abbrev pub AreBounded : List (List ℕ) → Type 0
 AreBounded chart = All (All (λ k. k < length chart)) chart
 
--- the list has what one or more steps lead to from this place, and then the place, to which they don't lead back
-abbrev pub ExpandsTo : List (List ℕ) → ℕ → List ℕ → Type 0
-ExpandsTo chart place list = (found : List ℕ) × AreReached chart place found × ¬ (Reaches chart place place) × (list ≡ found ++ place ∷ [])
+-- every step from the place leads to a lower rank
+abbrev pub falls : List (List ℕ) → List ℕ → ℕ → Bool
+falls chart ranks place = list_all (λ k. nat_lt (slice_index_or ranks k 0) (slice_index_or ranks place 0)) (slice_index_or chart place [])
+
+-- no step from the place leads to a higher rank
+abbrev pub stays : List (List ℕ) → List ℕ → ℕ → Bool
+stays chart ranks place = list_all (λ k. nat_le (slice_index_or ranks k 0) (slice_index_or ranks place 0)) (slice_index_or chart place [])
+
+-- no step leads to a higher rank
+abbrev pub NeverRises : List (List ℕ) → List ℕ → Type 0
+NeverRises chart ranks = (place : ℕ) → place < length chart → stays chart ranks place ≡ true
 
 -- the first place from which steps lead back to it
 pub record IsFirstOnCycle (chart : List (List ℕ)) (place : ℕ) : Type 0 where
@@ -66,7 +69,33 @@ pub record IsWalked (chart : List (List ℕ)) (from looked : ℕ) (found : List 
   pub first : All (Contains found) (slice_index_or chart from [])
   pub closed : All (λ p. All (Contains found) (slice_index_or chart p [])) (take looked found)
 
--- the rows at the places of each list are those that chains from its row lead to
-abbrev pub IsExpanded : List RoleRow → List (List ℕ) → Type 0
-IsExpanded rows reached = (place : ℕ) → place < length rows → (test : RoleRow → Bool) →
-    list_any (passes_at test rows) (slice_index_or reached place []) ≡ leads rows test (name_at rows place)
+-- the set, which is a list of words of 64 bits, has the place
+abbrev pub has : List ℕ → ℕ → Bool
+has words k = nat_eq (bit_at (slice_index_or words (k / 64) 0) (k % 64)) 1
+
+-- a number below n passes
+unfoldable pub any_below : (ℕ → Bool) → ℕ → Bool
+any_below test zero = false
+any_below test (suc n) = any_below test n || test n
+
+-- the set has just what steps lead to from the place
+pub record IsKnown (chart : List (List ℕ)) (place : ℕ) (words : List ℕ) : Type 0 where
+  pub within : length words ≤ length chart / 64 + 1
+  pub exact : (k : ℕ) → Decides (has words k) (Reaches chart place k)
+
+-- what is known is right
+abbrev pub AreKnown : List (List ℕ) → List (Option (List ℕ)) → Type 0
+AreKnown chart reach = (place : ℕ) → IfSome (slice_index_or reach place None) (IsKnown chart place)
+
+-- the set of the place; empty where it isn't known
+abbrev pub words_at : List (Option (List ℕ)) → ℕ → List ℕ
+words_at reach place = unwrap_or (slice_index_or reach place None) []
+
+-- all is known
+abbrev pub IsAllKnown : List (List ℕ) → List (Option (List ℕ)) → Type 0
+IsAllKnown chart reach = (place : ℕ) → place < length chart → IsKnown chart place (words_at reach place)
+
+-- the row at each place and those in its set are those that chains lead to from its role
+abbrev pub IsExpanded : List RoleRow → List (Option (List ℕ)) → Type 0
+IsExpanded rows reach = (place : ℕ) → place < length rows → (length (words_at reach place) < 2 ^ 32) × ((test : RoleRow → Bool) →
+    (passes_at test rows place || any_below (λ k. has (words_at reach place) k && passes_at test rows k) (64 * length (words_at reach place))) ≡ leads rows test (name_at rows place))

@@ -1,25 +1,23 @@
-// Lists of places: the roles that each row names, and those that it reaches.
+// The chart of rows: for each the places of the roles that it names.
 ghost use Rattle.std.specs.Prelude.{◌≡◌, ◌∷◌, ◌++◌, ◌<◌, ◌^◌, ℕ, List, [], length, map, IfOk, IfErr, OnOk, MatchOption, None, Some, true, false, option_map, slice_index_or};
 ghost use Rattle.std.specs.List.{list_any};
 ghost use Rattle.rg_roles.specs.Faults.{IsRefusal, first_row, is_absent, names_absent};
 ghost use Rattle.rg_roles.specs.Members.{names_of};
-ghost use Rattle.rg_roles.specs.Places.{IsChart, IsIndex, place_in};
+ghost use Rattle.rg_roles.specs.Places.{IsChart, place_in};
 
-use crate::index::place_of;
-use crate::membership::RoleFault;
+use crate::fault::RoleFault;
 use crate::row::RoleRow;
-use rg_base::{NoMemory, Text};
+use rg_base::{NameIndex, NoMemory, Text};
 use std::alloc::Global;
-use std::collections::BTreeMap;
 use std::marker::Model;
 
 /// A list of places for each row. Contracts see the lists.
 #[derive(Drop)]
-pub(crate) struct Places {
+pub(crate) struct Chart {
     lists: Vec<Vec<u32>>,
 }
 
-impl Model for Places {
+impl Model for Chart {
     ghost use Rattle.std.specs.Prelude.{List, ℕ, map};
 
     ghost Value = { List (List ℕ) };
@@ -27,18 +25,18 @@ impl Model for Places {
     ghost view = { λ p. map (λ v. v.items) p.lists.items };
 }
 
-impl Places {
+impl Chart {
     /// No lists. It takes no memory.
-    pub(crate) fn new(alloc: Global) -> Places
+    fn new(alloc: Global) -> Chart
         ensures { result ≡ [] }
     {
-        Places {
+        Chart {
             lists: Vec::new(alloc),
         }
     }
 
     /// Adds a list at the end.
-    pub(crate) fn push(&mut self, list: Vec<u32>) -> Result<(), NoMemory>
+    fn push(&mut self, list: Vec<u32>) -> Result<(), NoMemory>
         ensures { OnOk result (self.new ≡ self.old ++ list.items ∷ []) }
     {
         match self.lists.push(list) {
@@ -54,6 +52,14 @@ impl Places {
         self.lists.len()
     }
 
+    /// How many steps there are, and as many again as there are lists, and one: so many a search takes at most.
+    pub(crate) fn search_len(&self) -> usize {
+        self.lists.iter().fold(
+            1,
+            |sum: usize, list| sum.saturating_add(list.len()).saturating_add(1),
+        )
+    }
+
     /// The list of the row at this place; empty past the end.
     pub(crate) fn at(&self, place: u32) -> &[u32]
         ensures { result.now ≡ slice_index_or self.now place [] }
@@ -66,22 +72,16 @@ impl Places {
 }
 
 /// The places of the roles; None where one isn't there.
-fn places_of(
-    alloc: Global,
-    index: &BTreeMap<String, u32>,
-    roles: &[Text],
-) -> Result<Option<Vec<u32>>, NoMemory>
-    ensures { (names : List (List ℕ)) → IsIndex index.now names → IfOk result (λ o. MatchOption o (list_any (is_absent names) roles.now ≡ true)
-        (λ v. (list_any (is_absent names) roles.now ≡ false) × (map (place_in names) roles.now ≡ map Some v.items))) }
+fn places_of(alloc: Global, index: &NameIndex, roles: &[Text]) -> Result<Option<Vec<u32>>, NoMemory>
+    ensures { IfOk result (λ o. MatchOption o (list_any (is_absent index.now) roles.now ≡ true)
+        (λ v. (list_any (is_absent index.now) roles.now ≡ false) × (map (place_in index.now) roles.now ≡ map Some v.items))) }
 {
     let mut places = Vec::new(alloc);
     for role in roles {
-        let Some(place) = place_of(index, role.as_str()) else {
+        let Some(place) = index.place_of(role.as_str()) else {
             return Ok(None);
         };
-        if places.push(place).is_err() {
-            return Err(NoMemory);
-        }
+        places.push(place)?;
     }
     Ok(Some(places))
 }
@@ -90,14 +90,14 @@ fn places_of(
 pub(crate) fn chart_of(
     alloc: Global,
     rows: &[RoleRow],
-    index: &BTreeMap<String, u32>,
-) -> Result<Places, RoleFault>
-    requires indexed { IsIndex index.now (names_of rows.now) }
+    index: &NameIndex,
+) -> Result<Chart, RoleFault>
+    requires indexed { index.now ≡ names_of rows.now }
     requires fits { length rows.now < 2 ^ 32 }
     ensures ok { IfOk result (λ chart. IsChart rows.now chart × (first_row names_absent rows.now ≡ None)) }
     ensures err { IfErr result (IsRefusal (option_map RoleFault.Unknown (first_row names_absent rows.now))) }
 {
-    let mut chart = Places::new(alloc);
+    let mut chart = Chart::new(alloc);
     for (place, row) in rows.iter().enumerate() {
         let Some(places) = places_of(alloc, index, row.roles.as_slice())? else {
             return Err(RoleFault::Unknown(place as u32));

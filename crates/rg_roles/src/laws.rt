@@ -1,9 +1,10 @@
 // Laws of membership, each the contract of a function that does nothing.
-ghost use Rattle.std.specs.Prelude.{◌≡◌, ◌↔◌, ℕ, Bool, List, IsTrue, Some, None};
+ghost use Rattle.std.specs.Prelude.{◌≡◌, ◌↔◌, ℕ, Bool, not, List, Contains, filter, IsTrue, Some, None};
+ghost use Rattle.std.specs.Str.{bytes_eq};
 ghost use Rattle.rg_roles.specs.declared.row.RoleRow.{RoleRow};
 ghost use Rattle.rg_roles.specs.Chains.{Leads, leads};
-ghost use Rattle.rg_roles.specs.declared.membership.RoleFault.TheVariants.{Duplicate, Unknown, Cycle};
-ghost use Rattle.rg_roles.specs.Faults.{IsFirstRow, NoRow, fault_of, is_on_cycle, names_absent, repeats};
+ghost use Rattle.rg_roles.specs.declared.fault.RoleFault.TheVariants.{Duplicate, Unknown, Cycle};
+ghost use Rattle.rg_roles.specs.Faults.{AreSound, IsApart, IsFirstRow, IsPut, NamesThere, NoRow, fault_of, is_on_cycle, names_absent, repeats};
 ghost use Rattle.rg_roles.specs.Holding.{Holds, IsClosed, holds};
 ghost use Rattle.rg_roles.specs.Members.{name_at, names_role};
 
@@ -36,4 +37,29 @@ pub fn fault_is_first()
     ensures duplicate { (rows : List RoleRow) (place : ℕ) → (fault_of rows ≡ Some (Duplicate place)) ↔ IsFirstRow repeats rows place }
     ensures unknown { (rows : List RoleRow) (place : ℕ) → (fault_of rows ≡ Some (Unknown place)) ↔ (NoRow repeats rows × IsFirstRow names_absent rows place) }
     ensures cycle { (rows : List RoleRow) (place : ℕ) → (fault_of rows ≡ Some (Cycle place)) ↔ (NoRow repeats rows × NoRow names_absent rows × IsFirstRow is_on_cycle rows place) }
+{}
+
+/// There is no fault exactly where no two rows have one name, each role that a row names is there, and no role names itself by
+/// a chain.
+pub fn sound_in_lists()
+    ensures { (rows : List RoleRow) → (fault_of rows ≡ None) ↔ AreSound rows }
+{}
+
+/// Fewer rows keep it, where the roles that they name are kept.
+pub fn fewer_rows_are_sound()
+    ensures { (rows : List RoleRow) (keep : RoleRow → Bool) → fault_of rows ≡ None
+        → ((row : RoleRow) → Contains (filter keep rows) row → NamesThere (filter keep rows) row) → fault_of (filter keep rows) ≡ None }
+{}
+
+/// A role that no other row names may go.
+pub fn unnamed_role_may_go()
+    ensures { (rows : List RoleRow) (role : List ℕ) → fault_of rows ≡ None
+        → ((row : RoleRow) → Contains rows row → Contains row.roles.items role → row.name ≡ role)
+        → fault_of (filter (λ (row : RoleRow). not (bytes_eq row.name role)) rows) ≡ None }
+{}
+
+/// A row may be put among the rows where each role that it names is there then, and its role doesn't name itself by a chain.
+pub fn row_may_be_put()
+    ensures { (rows new : List RoleRow) (row : RoleRow) → fault_of rows ≡ None → IsPut rows row new → NamesThere new row → IsApart new row.name
+        → fault_of new ≡ None }
 {}

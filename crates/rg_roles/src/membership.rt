@@ -1,50 +1,20 @@
-// Which users a role holds.
-ghost use Rattle.std.specs.Prelude.{◌≡◌, ◌↔◌, ◌⊎◌, ◌<◌, ◌^◌, IfOk, IfErr, IsTrue, MatchResult, None, Some, map, length};
+// Roles, and whether one holds a user.
+ghost use Rattle.std.specs.Prelude.{◌≡◌, ◌↔◌, ◌<◌, ◌*◌, ◌+◌, ◌^◌, ◌&&◌, ◌||◌, IfOk, IfErr, IsTrue, None, take, nat_eq, length};
+ghost use Rattle.std.specs.Int.{bit_at};
 ghost use Rattle.std.specs.List.{list_any};
 ghost use Rattle.std.specs.Str.{chars};
+ghost use Rattle.rg_base.specs.Texts.{is_among};
 ghost use Rattle.rg_roles.specs.Faults.{IsRefusal, fault_of};
 ghost use Rattle.rg_roles.specs.Holding.{Holds, holds};
-ghost use Rattle.rg_roles.specs.Members.{is_among, names_asker, passes_at};
+ghost use Rattle.rg_roles.specs.Members.{names_asker, passes_at};
+ghost use Rattle.rg_roles.specs.Places.{any_below, has};
 
-use crate::chart::{Places, chart_of};
-use crate::index::{index_of, place_of};
+use crate::fault::{RoleFault, searched};
+use crate::reach::{Reach, reach_of};
 use crate::row::RoleRow;
-use crate::walk::expanded;
-use rg_base::{NoMemory, Text, TryCopy, same_text};
+use rg_base::{NameIndex, NoMemory, Text, TryCopy, is_among};
 use std::alloc::Global;
-use std::collections::BTreeMap;
-use std::convert::From;
 use std::marker::Model;
-
-/// Why rows can't be used, with the least place of a row at fault.
-#[derive(Clone, Copy, Debug, PartialEq, Eq)]
-pub enum RoleFault {
-    /// A row before it has the same name.
-    Duplicate(u32),
-    /// It names a role that isn't there.
-    Unknown(u32),
-    /// It names itself, directly or through other roles.
-    Cycle(u32),
-    /// Memory was refused, or the rows are too many to have places of 32 bits.
-    NoMemory,
-}
-
-impl From<NoMemory> for RoleFault {
-    ghost use Rattle.rg_roles.specs.declared.membership.RoleFault.TheVariants.{NoMemory as Refused};
-
-    ghost from_gives = { λ _ fault. fault ≡ Refused };
-
-    fn from(_refused: NoMemory) -> RoleFault {
-        RoleFault::NoMemory
-    }
-}
-
-/// Whether the text is one of these.
-fn is_among(text: &str, texts: &[Text]) -> bool
-    ensures { result ≡ is_among (chars text.now) texts.now }
-{
-    texts.iter().any(|t| same_text(t.as_str(), text))
-}
 
 /// Whether one of the groups is one of these.
 fn shares_group(groups: &[Text], named: &[Text]) -> bool
@@ -64,22 +34,48 @@ fn names_asker(row: &RoleRow, user: &str, groups: &[Text]) -> bool
 }
 
 /// Whether there is a row at this place that names the user, one of the groups, or `public`.
-fn asker_at(rows: &[RoleRow], place: u32, user: &str, groups: &[Text]) -> bool
+fn asker_at(rows: &[RoleRow], place: usize, user: &str, groups: &[Text]) -> bool
     ensures { result ≡ passes_at (names_asker (chars user.now) groups.now) rows.now place }
 {
-    match rows.get(place as usize) {
+    match rows.get(place) {
         Some(row) => names_asker(row, user, groups),
         None => false,
     }
 }
 
-/// Whether a row at one of these places does.
-fn asker_among(rows: &[RoleRow], places: &[u32], user: &str, groups: &[Text]) -> bool
-    ensures { result ≡ list_any (passes_at (names_asker (chars user.now) groups.now) rows.now) places.now }
+/// Whether one of the places of the word, which begin there, does.
+fn asker_in_word(rows: &[RoleRow], word: u64, begin: usize, user: &str, groups: &[Text]) -> bool
+    requires { begin < 2 ^ 40 }
+    ensures { result ≡ any_below (λ b. nat_eq (bit_at word b) 1 && passes_at (names_asker (chars user.now) groups.now) rows.now (begin + b)) 64 }
 {
-    places
-        .iter()
-        .any(|place| asker_at(rows, *place, user, groups))
+    for bit in 0..64 {
+        if (word >> bit) & 1 == 1 && asker_at(rows, begin + bit, user, groups) {
+            return true;
+        }
+    }
+    false
+}
+
+/// Whether one of the places of the set does.
+fn asker_among(rows: &[RoleRow], words: &[u64], user: &str, groups: &[Text]) -> bool
+    requires { length words.now < 2 ^ 32 }
+    ensures { result ≡ any_below (λ k. has words.now k && passes_at (names_asker (chars user.now) groups.now) rows.now k) (64 * length words.now) }
+{
+    for (at, word) in words.iter().enumerate() {
+        if *word != 0 && asker_in_word(rows, *word, 64 * at, user, groups) {
+            return true;
+        }
+    }
+    false
+}
+
+/// Whether the row at the place or one at the places of the set does.
+fn asker_reached(rows: &[RoleRow], place: usize, words: &[u64], user: &str, groups: &[Text]) -> bool
+    requires { length words.now < 2 ^ 32 }
+    ensures { result ≡ (passes_at (names_asker (chars user.now) groups.now) rows.now place
+        || any_below (λ k. has words.now k && passes_at (names_asker (chars user.now) groups.now) rows.now k) (64 * length words.now)) }
+{
+    asker_at(rows, place, user, groups) || asker_among(rows, words, user, groups)
 }
 
 /// Copies of the rows.
@@ -100,43 +96,37 @@ fn copies(alloc: Global, rows: &[RoleRow]) -> Result<Vec<RoleRow>, NoMemory>
 #[derive(Drop)]
 pub struct Roles {
     rows: Vec<RoleRow>,
-    index: BTreeMap<String, u32>,
-    // For each row the places of the roles that it reaches, and its own.
-    reached: Places,
+    index: NameIndex,
+    // For each row the places of the roles that it reaches.
+    reach: Reach,
 }
 
 impl Model for Roles {
-    ghost use Rattle.std.specs.Prelude.{List};
+    ghost use Rattle.std.specs.Prelude.{◌≡◌, List};
     ghost use Rattle.rg_roles.specs.declared.row.RoleRow.{RoleRow};
     ghost use Rattle.rg_roles.specs.Members.{names_of};
-    ghost use Rattle.rg_roles.specs.Places.{IsIndex, IsExpanded};
+    ghost use Rattle.rg_roles.specs.Places.{IsExpanded};
 
     ghost Value = { List RoleRow };
 
     ghost view = { λ r. r.rows.items };
 
-    ghost invariant = { λ r. IsIndex r.index (names_of r.rows.items) × IsExpanded r.rows.items r.reached };
+    ghost invariant = { λ r. (r.index ≡ names_of r.rows.items) × IsExpanded r.rows.items r.reach };
 }
 
 impl Roles {
     /// The roles of these rows, which are copied. No two rows may have one name, each role that a row names must be there,
-    /// and no role may name itself by a chain; else the fault that comes first in this order, with its least place.
+    /// and no role may name itself by a chain; else the fault that comes first in this order, with its least place. A row
+    /// that names roles keeps a bit for each row.
     pub fn build(alloc: Global, rows: &[RoleRow]) -> Result<Roles, RoleFault>
         ensures ok { IfOk result (λ roles. (roles ≡ rows.now) × (fault_of rows.now ≡ None)) }
         ensures err { IfErr result (IsRefusal (fault_of rows.now)) }
     {
-        if rows.len() > u32::MAX as usize {
-            return Err(RoleFault::NoMemory);
-        }
-        let index = index_of(alloc, rows)?;
-        let chart = chart_of(alloc, rows, &index)?;
-        let reached = expanded(alloc, &chart)?;
+        let index = NameIndex::build(alloc, rows)?;
+        let (chart, search) = searched(alloc, rows, &index)?;
+        let reach = reach_of(alloc, &chart, search.order.as_slice())?;
         let rows = copies(alloc, rows)?;
-        Ok(Roles {
-            rows,
-            index,
-            reached,
-        })
+        Ok(Roles { rows, index, reach })
     }
 
     /// Whether the role holds a user who has these groups: it names the user, one of the groups or the group `public`, or
@@ -146,8 +136,11 @@ impl Roles {
         ensures exact { IsTrue result ↔ Holds self.now (chars role.now) (chars user.now) groups.now }
         ensures test { result ≡ holds self.now (chars role.now) (chars user.now) groups.now }
     {
-        match place_of(&self.index, role) {
-            Some(place) => asker_among(self.rows.as_slice(), self.reached.at(place), user, groups),
+        match self.index.place_of(role) {
+            Some(place) => {
+                let words = self.reach.at(place);
+                asker_reached(self.rows.as_slice(), place as usize, words, user, groups)
+            }
             None => false,
         }
     }

@@ -1,5 +1,5 @@
 // The record of a role (Ranger's RangerRole).
-use rg_base::{NoMemory, Seq, Text, TryCopy};
+use rg_base::{Named, NoMemory, Seq, Text, TryCopy};
 use std::alloc::Global;
 
 /// A role with its members.
@@ -10,6 +10,14 @@ pub struct RoleRow {
     pub groups: Seq<Text>,
     /// The names of the roles whose members this role has too.
     pub roles: Seq<Text>,
+}
+
+impl Named for RoleRow {
+    ghost named = { λ row. row.name };
+
+    fn name(&self) -> &str {
+        self.name.as_str()
+    }
 }
 
 impl TryCopy for RoleRow {

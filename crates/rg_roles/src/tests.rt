@@ -1,5 +1,5 @@
 // Which users a role holds, and what is at fault in rows. The tables are lines of text.
-use crate::{RoleRow, Roles};
+use crate::{RoleRow, Roles, role_fault};
 use rg_base::{Seq, Text, TryCopy};
 use std::alloc::Global;
 use std::test::Fail;
@@ -41,11 +41,22 @@ fn rows(alloc: Global, lines: &str) -> Result<Vec<RoleRow>, Fail> {
 
 #[test]
 fn a_row_is_copied(rt: HostRuntime) -> Result<(), Fail> {
-    let copy = row(rt.alloc(), "analyst ann,bob staff -")?.try_copy(rt.alloc())?;
+    let copy = row(rt.alloc(), "analyst ann,bob staff reader,writer,auditor")?.try_copy(
+        rt.alloc(),
+    )?;
     assert_eq!(rt; copy.name.as_str(), "analyst");
-    assert_eq!(rt; copy.users.len(), 2);
-    assert_eq!(rt; copy.groups.len(), 1);
-    assert!(rt; copy.roles.is_empty());
+    for (names, expected) in [
+        (&copy.users, "ann bob "),
+        (&copy.groups, "staff "),
+        (&copy.roles, "reader writer auditor "),
+    ] {
+        let mut copied = String::new(rt.alloc());
+        for name in names.as_slice() {
+            copied.push_str(name.as_str())?;
+            copied.push(' ')?;
+        }
+        assert_eq!(rt; copied.as_str(), expected);
+    }
     Ok(())
 }
 
@@ -56,10 +67,14 @@ fn answer(alloc: Global, lines: &str, question: &str) -> Result<String, Fail> {
     let role = words.next().unwrap_or("-");
     let user = words.next().unwrap_or("-");
     let groups = names(alloc, words.next().unwrap_or("-"))?;
+    let found = role_fault(alloc, rows.as_slice())?;
     let told = match Roles::build(alloc, rows.as_slice()) {
-        Ok(roles) if roles.holds(role, user, groups.as_slice()) => String::from_str(alloc, "held")?,
-        Ok(_) => String::from_str(alloc, "not held")?,
-        Err(fault) => format!(in alloc; "{fault:?}")?,
+        Err(fault) if found == Some(fault) => format!(in alloc; "{fault:?}")?,
+        Ok(roles) if found.is_none() && roles.holds(role, user, groups.as_slice()) => {
+            String::from_str(alloc, "held")?
+        }
+        Ok(_) if found.is_none() => String::from_str(alloc, "not held")?,
+        _ => format!(in alloc; "another fault: {found:?}")?,
     };
     Ok(told)
 }
@@ -82,6 +97,8 @@ a ann - - | a bob ann | not held";
 /// The same with rows that are at fault.
 const REFUSED: &str = "a - - a | a ann - | Cycle(0)
 a - - b; b - - c; c - - d; d - - b | a ann - | Cycle(1)
+a - - d; b - - -; c - - d; d - - c | a ann - | Cycle(2)
+a - - b; b - - d; c - - -; d - - e,c; e - - f,g; f - - d; g - - h; h - - g | a ann - | Cycle(3)
 a - - -; b - - a,x; c - - y | a ann - | Unknown(1)
 a - - b; b - - a; c - - x | a ann - | Unknown(2)
 a - - x; b - - b; c - - -; a - - -; a - - - | a ann - | Duplicate(3)";

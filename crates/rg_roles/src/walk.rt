@@ -1,10 +1,10 @@
 // Walks over the chart, breadth first.
-ghost use Rattle.std.specs.Prelude.{◌≡◌, ◌↔◌, ◌⊎◌, ◌<◌, ◌≤◌, ◌+◌, ◌∷◌, ◌++◌, ◌^◌, ℕ, Bool, List, [], length, IfOk, IfErr, OnOk, Contains, false, true, slice_index_or};
-ghost use Rattle.std.specs.List.{All, count_by};
-ghost use Rattle.rg_roles.specs.Places.{AreBounded, AreReached, ExpandsTo, IsFirstOnCycle, IsGrown, IsMarked};
+ghost use Rattle.std.specs.Prelude.{◌≡◌, ◌<◌, ◌∷◌, ℕ, [], length, IfOk, OnOk};
+ghost use Rattle.std.specs.Bool.{Decides};
+ghost use Rattle.std.specs.List.{All};
+ghost use Rattle.rg_roles.specs.Places.{AreBounded, AreReached, IsGrown, IsMarked, Reaches};
 
-use crate::chart::Places;
-use crate::membership::RoleFault;
+use crate::chart::Chart;
 use rg_base::NoMemory;
 use std::alloc::Global;
 
@@ -40,7 +40,7 @@ fn visit_all(found: &mut Vec<u32>, seen: &mut [bool], places: &[u32]) -> Result<
 }
 
 /// Adds the places that one or more steps lead to from here, each once, to a list of none.
-fn walk(found: &mut Vec<u32>, seen: &mut [bool], chart: &Places, from: u32) -> Result<(), NoMemory>
+fn walk(found: &mut Vec<u32>, seen: &mut [bool], chart: &Chart, from: u32) -> Result<(), NoMemory>
     requires bounded { AreBounded chart.now }
     requires wide { length seen.old ≡ length chart.now }
     requires none { found.old.items ≡ [] }
@@ -58,7 +58,7 @@ fn walk(found: &mut Vec<u32>, seen: &mut [bool], chart: &Places, from: u32) -> R
 }
 
 /// The places that one or more steps lead to from here, each once.
-fn reached_from(alloc: Global, chart: &Places, from: u32) -> Result<Vec<u32>, NoMemory>
+pub(crate) fn reached_from(alloc: Global, chart: &Chart, from: u32) -> Result<Vec<u32>, NoMemory>
     requires { AreBounded chart.now }
     ensures { IfOk result (λ v. AreReached chart.now from v.items) }
 {
@@ -70,23 +70,11 @@ fn reached_from(alloc: Global, chart: &Places, from: u32) -> Result<Vec<u32>, No
     Ok(found)
 }
 
-/// For each place, those that steps lead to, and the place itself; Cycle with the first place to which they lead back.
-pub(crate) fn expanded(alloc: Global, chart: &Places) -> Result<Places, RoleFault>
-    requires bounded { AreBounded chart.now }
-    requires fits { length chart.now < 2 ^ 32 }
-    ensures ok { IfOk result (λ reached. (k : ℕ) → k < length chart.now → ExpandsTo chart.now k (slice_index_or reached k [])) }
-    ensures err { IfErr result (λ e. (e ≡ RoleFault.NoMemory) ⊎ ((k : ℕ) × (e ≡ RoleFault.Cycle k) × IsFirstOnCycle chart.now k)) }
+/// Whether steps lead from the place back to it.
+pub(crate) fn leads_back(alloc: Global, chart: &Chart, place: u32) -> Result<bool, NoMemory>
+    requires { AreBounded chart.now }
+    ensures { IfOk result (λ back. Decides back (Reaches chart.now place place)) }
 {
-    let mut reached = Places::new(alloc);
-    for place in 0..chart.len() as u32 {
-        let mut found = reached_from(alloc, chart, place)?;
-        if found.contains(&place) {
-            return Err(RoleFault::Cycle(place));
-        }
-        if found.push(place).is_err() {
-            return Err(RoleFault::NoMemory);
-        }
-        reached.push(found)?;
-    }
-    Ok(reached)
+    let found = reached_from(alloc, chart, place)?;
+    Ok(found.contains(&place))
 }

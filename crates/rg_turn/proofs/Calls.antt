@@ -117,7 +117,7 @@ module _ {M A R X : Type 0} (state : M → X) (transition : X → A → X × R) 
 
 -- seats of one table that know the same look alike
 pub alike : {M A R X : Type 0} (p q : Seat (Slot M) (SeatView A R X)) → p.table_id ≡ q.table_id → p.me.0.seats ≡ q.me.0.seats → p.me.0.start ≡ q.me.0.start → p.me.0.history ≡ q.me.0.history → p.me.0.calls ≡ q.me.0.calls → seat_value p ≡ seat_value q
-alike p q t n x h c = λ i. record { turn = t i; seats = n i; start = x i; history = h i; calls = c i }
+alike p q t n x h c = λ i. record { turn = record { table = t i; seats = n i; start = x i }; history = h i; calls = c i }
 
 pub one_more : {A : Type 0} (xs ys : List A) (n m : ℕ) (a b : A) → ys ≡ xs ++ b ∷ [] → xs ≡ replicate n a → b ≡ a → n + 1 ≡ m → ys ≡ replicate m a
 one_more xs ys n m a b e is same up = e ∙ ((λ i. is i ++ same i ∷ []) ∙ (replicate-append-replicate n 1 a ∙ ap (λ k. replicate k a) up))

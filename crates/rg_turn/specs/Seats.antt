@@ -14,7 +14,7 @@ use Rattle.rg_turn.specs.Values.{SeatValue, EachOnce, calls_at}
 
 module _ {M A R X : Type 0} where
   abbrev pub seat_value : Seat (Slot M) (SeatView A R X) → SeatValue A R X
-  seat_value p = record { turn = p.table_id; seats = p.me.0.seats; start = p.me.0.start; history = p.me.0.history; calls = p.me.0.calls }
+  seat_value p = record { turn = record { table = p.table_id; seats = p.me.0.seats; start = p.me.0.start }; history = p.me.0.history; calls = p.me.0.calls }
 
   -- it holds no slot and no ticket, and its history is legal
   abbrev pub IsIdle : (X → A → X × R) → Seat (Slot M) (SeatView A R X) → Type 0

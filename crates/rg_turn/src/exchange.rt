@@ -10,6 +10,7 @@ use crate::machine::Machine;
 use crate::rule::Slot;
 use crate::steps::{SharedTable, TableSeat, pass_on};
 use rg_base::NoMemory;
+use std::alloc::Global;
 use std::marker::Brand;
 use std::snapshot::Snapshot;
 
@@ -54,6 +55,7 @@ fn return_machine<M: Machine>(
 
 // Calls the machine and passes on.
 pub(crate) fn answer<M: Machine>(
+    alloc: Global,
     table: &SharedTable<M>,
     seat: &mut TableSeat<M>,
     ask: M::Ask,
@@ -68,7 +70,7 @@ pub(crate) fn answer<M: Machine>(
 {
     let (mut machine, entries) = take_machine(table, seat);
     let asked = Snapshot::of(&ask);
-    match machine.step(ask) {
+    match machine.step(alloc, ask) {
         Ok(reply) => {
             let replied = Snapshot::of(&reply);
             return_machine(table, seat, machine, Some((asked, replied)), entries + 1);

@@ -49,10 +49,8 @@ impl<M: Machine> Seat<M> {
 fn add<T: Drop>(all: &mut Vec<T>, x: T) -> Result<(), NoMemory>
     ensures { IfOk result (λ _. all.new.items ≡ all.old.items ++ x ∷ []) }
 {
-    match all.push(x) {
-        Ok(()) => Ok(()),
-        Err(_) => Err(NoMemory),
-    }
+    all.push(x)?;
+    Ok(())
 }
 
 // Splits the first seat into so many.
@@ -67,9 +65,7 @@ pub(crate) fn split_seats<M: Machine>(
     ensures { IfOk result (λ v. v.items ≡ replicate seats (seat_value seat)) }
 {
     let mut seat = seat;
-    let Ok(mut all) = Vec::with_capacity(alloc, seats as usize) else {
-        return Err(NoMemory);
-    };
+    let mut all = Vec::with_capacity(alloc, seats as usize)?;
     for number in 1..seats {
         let part = table.split_seat::<GiveWeight>(&mut seat);
         add(&mut all, Seat::unused(part))?;
@@ -85,7 +81,7 @@ pub(crate) fn join_seats<M: Machine>(
     seats: Vec<Seat<M>>,
 ) -> TableSeat<M>
     requires table { (seat.table_id ≡ table.now.table_id) × (table.now.table_id.words ≡ 2) }
-    requires seats { All (λ s. s.turn ≡ table.now.table_id) seats.items }
+    requires seats { All (λ s. s.turn.table ≡ table.now.table_id) seats.items }
     requires idle { (seat.me.1 ≡ []) × (seat.me.0.has_ticket ≡ false) × (seat.me.0.is_served ≡ false) × (0 < seat.me.0.weight) }
     ensures { HasJoined seat seats.items result }
 {

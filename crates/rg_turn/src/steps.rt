@@ -76,8 +76,11 @@ pub(crate) fn pass_on<M: Machine, T: AddsEntry<M::Ask, M::Reply>>(
     ensures table { (seat.new.table_id ≡ seat.old.table_id) × (seat.new.id ≡ seat.old.id) }
     ensures passed { seat.new.me ≡ (passed (call_of added.now) seat.old.me.0, []) }
 {
-    table.fetch_add::<PassOn<T>>(seat, SERVING, 1);
-    table.wake_all(SERVING);
+    let served = table.fetch_add::<PassOn<T>>(seat, SERVING, 1);
+    // Whoever draws a ticket after this look finds it served already.
+    if table.peek(TICKET) != served.wrapping_add(1) {
+        table.wake_all(SERVING);
+    }
 }
 
 // Draws the next ticket, against other threads that draw too. Once 2^62 tickets are drawn it waits for ever.

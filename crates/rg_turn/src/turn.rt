@@ -34,12 +34,12 @@ pub struct Turn<M: Machine> {
 }
 
 impl<M: Machine> Model for Turn<M> {
-    ghost use Rattle.std.specs.Prelude.{◌≡◌, ◌<◌};
+    ghost use Rattle.std.specs.Prelude.{◌≡◌, ◌<◌, Some};
     ghost use Rattle.rg_turn.specs.Values.{TurnValue};
 
     ghost Value = { TurnValue M.State };
 
-    ghost view = { λ t. record { turn = t.table.shared.table_id; seats = t.table.shared.key.seats; start = M.state t.table.shared.key.start.value } };
+    ghost view = { λ t. record { turn = record { table = t.table.shared.table_id; seats = t.table.shared.key.seats; start = Some (M.state t.table.shared.key.start.value) }; seats = t.table.shared.key.seats; start = M.state t.table.shared.key.start.value } };
 
     ghost invariant = { λ t. (t.table.shared.table_id.words ≡ 2) × (t.table.shared.table_id.slots ≡ 1) × (0 < t.table.shared.key.seats) };
 }
@@ -48,10 +48,8 @@ fn only<T: Drop>(alloc: Global, x: T) -> Result<Vec<T>, NoMemory>
     ensures { IfOk result (λ v. v.items ≡ x ∷ []) }
 {
     let mut all = Vec::new(alloc);
-    match all.push(x) {
-        Ok(()) => Ok(all),
-        Err(_) => Err(NoMemory),
-    }
+    all.push(x)?;
+    Ok(all)
 }
 
 // The table with the machine in its slot, and its one seat.
@@ -98,11 +96,22 @@ impl<M: Machine> Turn<M> {
     pub fn new(alloc: Global, machine: M, seats: u32) -> Result<(Turn<M>, Vec<Seat<M>>), NoMemory>
         requires { (1 ≤ seats) × (seats ≤ 65) }
         ensures turn { IfOk result (λ t. (t.0.seats ≡ seats) × (t.0.start ≡ M.state machine)) }
-        ensures seats { IfOk result (λ t. t.1.items ≡ replicate seats (new_seat t.0.turn seats (M.state machine))) }
+        ensures seats { IfOk result (λ t. t.1.items ≡ replicate seats (new_seat t.0.turn)) }
     {
         let (table, seat) = open(alloc, machine, seats as u64)?;
         let all = split_seats(alloc, &table.shared, seat, seats)?;
         Ok((Turn { table }, all))
+    }
+
+    /// What a seat of the turn knows, before any call too: the state in which the machine opened, and a legal history.
+    pub fn knows(&self, seat: &Seat<M>)
+        requires { seat.now.turn ≡ self.now.turn }
+        ensures opening { (seat.now.turn.start ≡ Some self.now.start) × (seat.now.turn.seats ≡ self.now.seats) }
+        ensures legal { IsLegal M.transition self.now.start seat.now.history }
+        ensures bounded { length seat.now.history ≤ 2 ^ 62 }
+    {
+        let _turn = &self.table;
+        let _seat = &seat.seat;
     }
 
     /// Waits until it is the seat's turn, and calls the machine. `NoMemory` is the machine's own answer, and makes no entry.
@@ -110,30 +119,30 @@ impl<M: Machine> Turn<M> {
     pub fn call<R: Wait>(
         &self,
         rt: &R,
+        alloc: Global,
         seat: &mut Seat<M>,
         ask: M::Ask,
     ) -> Result<M::Reply, NoMemory>
         requires { seat.old.turn ≡ self.now.turn }
-        ensures same { (seat.new.turn ≡ seat.old.turn) × (seat.new.seats ≡ seat.old.seats) × (seat.new.start ≡ seat.old.start) }
-        ensures start { seat.new.start ≡ Some self.now.start }
+        ensures same { seat.new.turn ≡ seat.old.turn }
         ensures legal { IsLegal M.transition self.now.start seat.new.history }
         ensures begins { IsPrefix seat.old.history seat.new.history }
         ensures bounded { length seat.new.history ≤ 2 ^ 62 }
         ensures each_once { EachOnce seat.new.calls seat.new.history }
-        ensures one_seat { seat.new.seats ≡ 1 → seat.new.calls ≡ positions (length seat.new.history) }
+        ensures one_seat { seat.new.turn.seats ≡ 1 → seat.new.calls ≡ positions (length seat.new.history) }
         ensures call { MatchResult result (λ r. IsCalled seat.old ask r seat.new) (λ _. seat.new.calls ≡ seat.old.calls) }
     {
         let table = &self.table.shared;
         let own = &mut seat.seat;
         let ticket = take_ticket(rt, table, own);
         await_turn(rt, table, own, ticket);
-        let reply = answer(table, own, ask)?;
+        let reply = answer(alloc, table, own, ask)?;
         seat.made += 1;
         Ok(reply)
     }
 
     /// Ends the turn, given all its seats: its machine, and the whole history. It takes no memory, and is never refused.
-    pub fn close(self, seats: Vec<Seat<M>>) -> Result<(M, Past<M>), NoMemory>
+    pub fn close(self, _alloc: Global, seats: Vec<Seat<M>>) -> Result<(M, Past<M>), NoMemory>
         requires turn { All (λ s. s.turn ≡ self.turn) seats.items }
         requires all { length seats.items ≡ self.seats }
         ensures ok { IsOk result }

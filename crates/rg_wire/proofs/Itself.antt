@@ -4,15 +4,15 @@ use Rattle.serde_json.specs.Data.{Data, depth}
 use Rattle.serde_json.specs.Read.{max_depth}
 use Rattle.serde_json.specs.Written.{compact_text, has_float}
 use Rattle.rg_policy.specs.declared.policy.Policy.{Policy}
-use Rattle.rg_wire.specs.declared.fault.Fault.{Fault}
-use Rattle.rg_wire.specs.declared.fault.WireFault.{WireFault}
-use Rattle.rg_wire.specs.declared.fault.WireFault.TheVariants.{Bad, NoMemory}
+use Rattle.rg_json.specs.declared.fault.Fault.{Fault}
+use Rattle.rg_json.specs.declared.fault.WireFault.{WireFault}
+use Rattle.rg_json.specs.declared.fault.WireFault.TheVariants.{Bad, NoMemory}
 use Rattle.rg_wire.specs.Own.{IsPolicy}
 use Rattle.rg_wire.specs.Printing.{policy_data, policy_text}
-use Rattle.rg_wire.specs.Reading.{Answers, reading, reading_of, unless_fault}
+use Rattle.rg_json.specs.Reading.{Answers, reading, reading_of, unless_fault}
 use Rattle.rg_wire.specs.Records.{policy_of}
 use Rattle.rg_wire.specs.Shapes.{policy_shape}
-use Rattle.rg_wire.specs.Texts.{data_of}
+use Rattle.rg_json.specs.Texts.{data_of}
 use Rattle.rg_wire.proofs.Plain.{policy_has_no_float, policy_is_shallow}
 use Rattle.rg_wire.proofs.Policies.{policy_again}
 use Rattle.rg_wire.proofs.Right.{policy_right}

@@ -1,15 +1,5 @@
-pub mod Again
-pub mod Chars
 pub mod Itself
-pub mod Puts
-pub mod Owned
-pub mod Paths
 pub mod Plain
 pub mod Policies
-pub mod Printed
-pub mod Refusals
 pub mod Resources
 pub mod Right
-pub mod Sorted
-pub mod Utf8
-pub mod Views

@@ -6,9 +6,9 @@ use Rattle.std.proofs.lemmas.Str.{encodes-chars}
 use Rattle.serde_json.specs.Data.{Data}
 use Rattle.rg_base.specs.Listed.{Listed}
 use Rattle.rg_policy.specs.declared.policy.PolicyResource.{PolicyResource}
-use Rattle.rg_wire.specs.declared.key.Key.{Key}
-use Rattle.rg_wire.specs.Fields.{map_at, map_of, members_in, within}
-use Rattle.rg_wire.specs.Own.{IsInOrder, IsResource, IsSorted, OwnList, OwnResources}
+use Rattle.rg_json.specs.Fields.{map_at, map_of, members_in, within}
+use Rattle.rg_json.specs.Own.{IsSorted, OwnList}
+use Rattle.rg_wire.specs.Own.{IsInOrder, IsResource, OwnResources}
 use Rattle.rg_wire.specs.Records.{policy_resource_of}
 
 in_order : (ms : List (List ℕ × Data)) → IsSorted ms → IsInOrder (map policy_resource_of ms)
@@ -17,7 +17,7 @@ in_order [] h = tt
 in_order (m ∷ []) h = (tt, tt)
 in_order (m ∷ n ∷ ms) h = (ap₂ (slice_cmp nat_cmp) (encodes-chars m.0 h.0) (encodes-chars n.0 h.2.0) ∙ h.1, in_order (n ∷ ms) h.2)
 
-pub resources_own : (rs : Listed PolicyResource) (key : Key) (d : Data) → rs ≡ map_at policy_resource_of key d → IsSorted (members_in (within key d))
+pub resources_own : (rs : Listed PolicyResource) (key : List ℕ) (d : Data) → rs ≡ map_at policy_resource_of key d → IsSorted (members_in (within key d))
     → OwnList IsResource rs → OwnResources rs
 unfolding map_at map_of
 resources_own rs key d read sorted own = record {
@@ -26,4 +26,12 @@ resources_own rs key d read sorted own = record {
   whole = own.1;
 }
 
-pub ruleset resources = (resources_own)
+pub map_own : (rs : Listed PolicyResource) (d : Data) → rs ≡ map_of policy_resource_of d → IsSorted (members_in d) → OwnList IsResource rs → OwnResources rs
+unfolding map_of
+map_own rs d read sorted own = record {
+  each = own.0;
+  ordered = subst (λ (xs : Listed PolicyResource). IsInOrder xs.items) (sym read) (in_order (members_in d) sorted);
+  whole = own.1;
+}
+
+pub ruleset resources = (resources_own, map_own)

@@ -1,10 +1,7 @@
-pub mod Faults
 pub mod Fields
 pub mod Names
 pub mod Own
 pub mod Printing
-pub mod Reading
 pub mod Records
-pub mod Shape
 pub mod Shapes
-pub mod Texts
+pub use Rattle.rg_json.specs.Reading

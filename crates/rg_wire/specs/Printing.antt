@@ -1,9 +1,7 @@
 -- What is printed for a record. Members stand in byte order of their keys, since `put` keeps that order.
-use Rattle.std.specs.Prelude.{ℕ, ℤ, Bool, true, false, List, [], ◌∷◌, map, Option, Some, None, codes}
+use Rattle.std.specs.Prelude.{ℕ, Bool, true, false, List, [], ◌∷◌, codes}
 use Rattle.std.specs.Str.{encode_utf8_all}
-use Rattle.serde_json.specs.Data.{Data, null, boolean, number, string, array, object, item, no_items, Members, no_members, put, unsigned}
-use Rattle.serde_json.specs.Find.{of_integer}
-use Rattle.serde_json.specs.View.{items_of}
+use Rattle.serde_json.specs.Data.{Data, string, array, object, item, no_items, Members, no_members, put}
 use Rattle.serde_json.specs.Written.{compact_text}
 use Rattle.rg_base.specs.Listed.{Listed}
 use Rattle.rg_policy.specs.declared.policy.AccessEntry.{AccessEntry}
@@ -12,41 +10,21 @@ use Rattle.rg_policy.specs.declared.policy.MaskInfo.{MaskInfo}
 use Rattle.rg_policy.specs.declared.policy.ScheduleText.{ScheduleText}
 use Rattle.rg_policy.specs.declared.policy.Item.{Item}
 use Rattle.rg_policy.specs.declared.policy.PolicyResource.{PolicyResource}
+use Rattle.rg_policy.specs.declared.policy.ResourceMap.{ResourceMap}
 use Rattle.rg_policy.specs.declared.policy.Policy.{Policy}
 use Rattle.rg_facts.specs.declared.decision.Access.{Access}
 use Rattle.rg_facts.specs.declared.decision.Access.TheVariants.{Allowed, Denied, Undetermined}
 use Rattle.rg_facts.specs.declared.decision.Decision.{Decision}
 use Rattle.rg_facts.specs.declared.decision.MaskText.{MaskText}
+use Rattle.rg_json.specs.Printing.{text_data, bool_data, integer_data, count_data, list_data, option_data}
+use Rattle.rg_json.specs.Printing as named
 use Rattle.rg_wire.specs.declared.key.Key.{Key}
 use Rattle.rg_wire.specs.declared.key.Key.TheVariants as key
 use Rattle.rg_wire.specs.Names.{name_of}
 
--- these members and then those, each put in turn
-abbrev pub with_members : Members → List (Key × Data) → Members
-with_members ms [] = ms
-with_members ms (p ∷ ps) = with_members (put (name_of p.0) p.1 ms) ps
-
+-- a map of these members, each put in turn
 abbrev pub object_of : List (Key × Data) → Data
-object_of ps = object (with_members no_members ps)
-
-unfoldable pub text_data : List ℕ → Data
-text_data t = string (encode_utf8_all t)
-
-abbrev pub bool_data : Bool → Data
-bool_data b = boolean b
-
-unfoldable pub integer_data : ℤ → Data
-integer_data z = number (of_integer z)
-
-abbrev pub count_data : ℕ → Data
-count_data n = number (unsigned n)
-
-unfoldable pub list_data : {X : Type 0} → (X → Data) → Listed X → Data
-list_data print xs = array (items_of (map print xs.items))
-
-abbrev pub option_data : {X : Type 0} → (X → Data) → Option X → Data
-option_data print None = null
-option_data print (Some x) = print x
+object_of ps = named.object_of name_of ps
 
 -- ---- policies
 
@@ -125,6 +103,10 @@ level_members (r ∷ rs) = put (encode_utf8_all r.level) (resource_data r) (leve
 unfoldable pub resources_data : Listed PolicyResource → Data
 resources_data rs = object (level_members rs.items)
 
+-- a resource map
+unfoldable pub map_data : ResourceMap → Data
+map_data m = resources_data m.levels
+
 abbrev pub policy_members : Policy → List (Key × Data)
 policy_members p =
     (key.Id, integer_data p.id.0) ∷
@@ -135,6 +117,7 @@ policy_members p =
     (key.PolicyType, integer_data p.policy_type) ∷
     (key.PolicyPriority, integer_data p.priority) ∷
     (key.Resources, resources_data p.resources) ∷
+    (key.AdditionalResources, list_data map_data p.additional) ∷
     (key.Conditions, list_data condition_data p.conditions) ∷
     (key.PolicyItems, list_data item_data p.items) ∷
     (key.DenyPolicyItems, list_data item_data p.deny_items) ∷
@@ -171,7 +154,7 @@ mask_text_members m = (key.Expr, text_data m.expr) ∷ (key.Type, text_data m.ki
 unfoldable pub mask_text_data : MaskText → Data
 mask_text_data m = object_of (mask_text_members m)
 
--- the path isn't printed
+-- the role version and the path aren't printed
 abbrev pub decision_members : Decision → List (Key × Data)
 decision_members d =
     (key.Access, access_data d.access) ∷

@@ -10,6 +10,7 @@ use Rattle.rg_policy.specs.declared.policy.MaskInfo.{MaskInfo}
 use Rattle.rg_policy.specs.declared.policy.ScheduleText.{ScheduleText}
 use Rattle.rg_policy.specs.declared.policy.Item.{Item}
 use Rattle.rg_policy.specs.declared.policy.PolicyResource.{PolicyResource}
+use Rattle.rg_policy.specs.declared.policy.ResourceMap.{ResourceMap}
 use Rattle.rg_policy.specs.declared.policy.Policy.{Policy}
 use Rattle.rg_policy.specs.declared.policy.TimeZoneRow.{TimeZoneRow}
 use Rattle.rg_policy.specs.declared.request.AccessRequest.{AccessRequest}
@@ -30,7 +31,8 @@ use Rattle.rg_zones.specs.declared.row.ZoneRow.{ZoneRow}
 use Rattle.rg_zones.specs.declared.row.ZoneService.{ZoneService}
 use Rattle.rg_wire.specs.declared.key.Key.{Key}
 use Rattle.rg_wire.specs.declared.key.Key.TheVariants as key
-use Rattle.rg_wire.specs.Fields.{within, text_of, text_at, bool_at, truth_word_at, i64_at, u64_at, list_of, list_at, map_of, map_at, is_filled, optional_at, names_at}
+use Rattle.rg_json.specs.Fields.{text_of, list_of, map_of}
+use Rattle.rg_wire.specs.Fields.{within, text_at, bool_at, truth_word_at, i64_at, u64_at, list_at, map_at, is_filled, optional_at, names_at}
 
 -- ---- policies
 
@@ -72,6 +74,10 @@ policy_resource_of p = record {
   recursive = bool_at false key.IsRecursive p.1;
 }
 
+-- a resource map
+unfoldable pub resource_map_of : Data → ResourceMap
+resource_map_of d = record { levels = map_of policy_resource_of d }
+
 unfoldable pub policy_of : Data → Policy
 policy_of d = record {
   id = record { 0 = i64_at (pos 0) key.Id d };
@@ -82,6 +88,7 @@ policy_of d = record {
   policy_type = i64_at (pos 0) key.PolicyType d;
   priority = i64_at (pos 0) key.PolicyPriority d;
   resources = map_at policy_resource_of key.Resources d;
+  additional = list_at resource_map_of key.AdditionalResources d;
   conditions = list_at condition_of key.Conditions d;
   items = list_at item_of key.PolicyItems d;
   deny_items = list_at item_of key.DenyPolicyItems d;
@@ -213,4 +220,5 @@ facts_of d = record {
   time_zones = list_at time_zone_of key.TimeZones d;
   policy_version = record { 0 = u64_at 1 key.PolicyVersion d };
   tag_version = record { 0 = u64_at 1 key.TagVersion d };
+  role_version = record { 0 = u64_at 0 key.RoleVersion d };
 }

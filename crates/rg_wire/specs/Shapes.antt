@@ -1,29 +1,22 @@
 -- The shapes of the records: the table of the fields of each, in the order of the format.
-use Rattle.std.specs.Prelude.{List, [], ◌∷◌}
-use Rattle.rg_wire.specs.Shape.{Shape, text, name, value, truth, truth_word, integer, count, anything, text_or, list_of, map_of, record_of, Fields, no_fields, field}
+use Rattle.std.specs.Prelude.{ℕ, List, [], ◌∷◌}
+use Rattle.rg_json.specs.declared.shape.Keys.TheVariants.{Any, Names}
+use Rattle.rg_json.specs.declared.shape.Need.{Need}
+use Rattle.rg_json.specs.declared.shape.Need.TheVariants.{Must, May}
+use Rattle.rg_json.specs.Kinds.{fields}
+use Rattle.rg_json.specs.Shape.{Shape, text, name, value, truth, truth_word, integer, count, anything, text_or, list_of, map_of, record_of}
 use Rattle.rg_wire.specs.declared.key.Key.{Key}
 use Rattle.rg_wire.specs.declared.key.Key.TheVariants as key
-use Rattle.rg_wire.specs.declared.shape.Field.{Field}
-use Rattle.rg_wire.specs.declared.shape.Form.{Form}
-use Rattle.rg_wire.specs.declared.shape.Kind.{Kind}
-use Rattle.rg_wire.specs.declared.shape.Record.{Record}
-use Rattle.rg_wire.specs.declared.shape.Need.{Need}
-use Rattle.rg_wire.specs.declared.shape.Form.TheVariants as form
-use Rattle.rg_wire.specs.declared.shape.Keys.TheVariants.{Any, Names}
-use Rattle.rg_wire.specs.declared.shape.Kind.TheVariants as kind
-use Rattle.rg_wire.specs.declared.shape.Need.TheVariants.{Must, May}
-use Rattle.rg_wire.specs.declared.shape.Record.TheVariants as the
+use Rattle.rg_wire.specs.declared.record.Record.{Record}
+use Rattle.rg_wire.specs.declared.record.Record.TheVariants as the
+use Rattle.rg_wire.specs.Names.{name_of}
 
 -- a field that is needed, and one that may be missing
-abbrev pub must : Key → Shape → Key × Need × Shape
-must key s = (key, Must, s)
+abbrev pub must : Key → Shape → List ℕ × Need × Shape
+must key s = (name_of key, Must, s)
 
-abbrev pub may : Key → Shape → Key × Need × Shape
-may key s = (key, May, s)
-
-abbrev pub fields : List (Key × Need × Shape) → Fields
-fields [] = no_fields
-fields (f ∷ fs) = field f.0 f.1 f.2 (fields fs)
+abbrev pub may : Key → Shape → List ℕ × Need × Shape
+may key s = (name_of key, May, s)
 
 -- an access entry
 abbrev pub entry_shape : Shape
@@ -87,6 +80,7 @@ policy_shape = record_of (fields (
     may key.PolicyType integer ∷
     may key.PolicyPriority integer ∷
     may key.Resources (map_of Any policy_resource_shape) ∷
+    may key.AdditionalResources (list_of (map_of Any policy_resource_shape)) ∷
     may key.Conditions (list_of condition_shape) ∷
     may key.PolicyItems (list_of item_shape) ∷
     may key.DenyPolicyItems (list_of item_shape) ∷
@@ -249,7 +243,8 @@ facts_shape = record_of (fields (
     may key.Resources (list_of facts_tag_row_shape) ∷
     may key.TimeZones (list_of time_zone_shape) ∷
     may key.PolicyVersion count ∷
-    may key.TagVersion count ∷ []))
+    may key.TagVersion count ∷
+    may key.RoleVersion count ∷ []))
 
 -- the shape of a record
 unfoldable pub record_shape : Record → Shape
@@ -280,46 +275,3 @@ record_shape the.TagRow = tag_row_shape
 record_shape the.FactsTagRow = facts_tag_row_shape
 record_shape the.TimeZone = time_zone_shape
 record_shape the.Facts = facts_shape
-
--- the shape that a kind stands for
-unfoldable pub shape_of : Kind → Shape
-shape_of kind.Text = text
-shape_of kind.Name = name
-shape_of kind.Value = value
-shape_of kind.Truth = truth
-shape_of kind.TruthWord = truth_word
-shape_of kind.Integer = integer
-shape_of kind.Count = count
-shape_of kind.Anything = anything
-shape_of kind.Member = text_or named_shape
-shape_of kind.Texts = list_of text
-shape_of kind.Names = list_of name
-shape_of kind.Things = list_of anything
-shape_of kind.Members = list_of (text_or named_shape)
-shape_of kind.Pairs = map_of Any text
-shape_of kind.Elements = map_of Names value
-shape_of kind.LevelValues = map_of Any (list_of text)
-shape_of kind.ZoneResources = list_of (map_of Any (list_of text))
-shape_of (kind.Record r) = record_shape r
-shape_of (kind.List r) = list_of (record_shape r)
-shape_of (kind.Map r) = map_of Any (record_shape r)
-
--- the fields as they stand in the code
-abbrev pub fields_from : List Field → Fields
-fields_from [] = no_fields
-fields_from (f ∷ fs) = field f.0 f.1 (shape_of f.2) (fields_from fs)
-
--- the shape that one level of a kind says
-abbrev pub unfolded : Form → Shape
-unfolded form.Text = text
-unfolded form.Name = name
-unfolded form.Value = value
-unfolded form.Truth = truth
-unfolded form.TruthWord = truth_word
-unfolded form.Integer = integer
-unfolded form.Count = count
-unfolded form.Anything = anything
-unfolded (form.TextOr k) = text_or (shape_of k)
-unfolded (form.List k) = list_of (shape_of k)
-unfolded (form.Map keys k) = map_of keys (shape_of k)
-unfolded (form.Record fs) = record_of (fields_from fs.now)

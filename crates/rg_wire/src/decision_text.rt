@@ -4,9 +4,9 @@ ghost use Rattle.std.specs.Str.{chars, encode_utf8_all};
 ghost use Rattle.rg_wire.specs.Printing.{decision_text, word_of};
 
 use crate::key::Key;
-use crate::members::{ToJson, put, text_of};
 use rg_base::{NoMemory, Text};
 use rg_facts::{Access, Decision, MaskText};
+use rg_json::{ToJson, put, text_of};
 use serde_json::{Map, Value};
 use std::alloc::Global;
 
@@ -21,20 +21,17 @@ fn word_of(access: Access) -> &'static str
     }
 }
 
-impl ToJson for Access {
+impl ToJson<Key> for Access {
     ghost use Rattle.rg_wire.specs.Printing.{access_data};
 
     ghost printing = { access_data };
 
     fn json(&self, alloc: Global) -> Result<Value, NoMemory> {
-        match String::from_str(alloc, word_of(*self)) {
-            Err(_) => Err(NoMemory),
-            Ok(word) => Ok(Value::String(word)),
-        }
+        Ok(Value::String(String::from_str(alloc, word_of(*self))?))
     }
 }
 
-impl ToJson for MaskText {
+impl ToJson<Key> for MaskText {
     ghost use Rattle.rg_wire.specs.Printing.{mask_text_data};
 
     ghost printing = { mask_text_data };
@@ -48,7 +45,7 @@ impl ToJson for MaskText {
     }
 }
 
-impl ToJson for Decision {
+impl ToJson<Key> for Decision {
     ghost use Rattle.rg_wire.specs.Printing.{decision_data};
 
     ghost printing = { decision_data };

@@ -1,6 +1,5 @@
 // The names of the fields in JSON.
-ghost use Rattle.std.specs.Prelude.{◌≡◌};
-ghost use Rattle.rg_wire.specs.Names.{name_of, item_name, definition_name, request_name, row_name};
+use rg_json::Name;
 
 /// A field of a record.
 #[derive(Clone, Copy, Debug, PartialEq, Eq)]
@@ -14,6 +13,7 @@ pub enum Key {
     PolicyType,
     PolicyPriority,
     Resources,
+    AdditionalResources,
     Conditions,
     PolicyItems,
     DenyPolicyItems,
@@ -93,6 +93,7 @@ pub enum Key {
     Rule,
     PolicyVersion,
     TagVersion,
+    RoleVersion,
     Services,
     TagServices,
     AdminUsers,
@@ -107,12 +108,13 @@ pub enum Key {
     Attributes,
 }
 
-impl Key {
-    /// Its name in JSON.
+impl Name for Key {
+    ghost use Rattle.rg_wire.specs.Names.{name_of};
+
+    ghost name_of = { name_of };
+
     #[tactic(auto, unfolding(crate::specs::Names::name_of))]
-    pub fn name(self) -> &'static str
-        ensures { result.now ≡ name_of self }
-    {
+    fn name(self) -> &'static str {
         match self {
             Key::Id => "id",
             Key::Guid => "guid",
@@ -122,6 +124,7 @@ impl Key {
             Key::PolicyType => "policyType",
             Key::PolicyPriority => "policyPriority",
             Key::Resources => "resources",
+            Key::AdditionalResources => "additionalResources",
             Key::Conditions => "conditions",
             Key::PolicyItems => "policyItems",
             Key::DenyPolicyItems => "denyPolicyItems",
@@ -138,16 +141,6 @@ impl Key {
             Key::IsExcludes => "isExcludes",
             Key::IsRecursive => "isRecursive",
             Key::Type => "type",
-            _ => self.item_name(),
-        }
-    }
-
-    /// The name of a field of items and schedules.
-    #[tactic(auto, unfolding(crate::specs::Names::item_name))]
-    fn item_name(self) -> &'static str
-        ensures { result.now ≡ item_name self }
-    {
-        match self {
             Key::Accesses => "accesses",
             Key::Users => "users",
             Key::Groups => "groups",
@@ -164,16 +157,6 @@ impl Key {
             Key::EndTime => "endTime",
             Key::TimeZone => "timeZone",
             Key::Recurrences => "recurrences",
-            _ => self.definition_name(),
-        }
-    }
-
-    /// The name of a field of service definitions.
-    #[tactic(auto, unfolding(crate::specs::Names::definition_name))]
-    fn definition_name(self) -> &'static str
-        ensures { result.now ≡ definition_name self }
-    {
-        match self {
             Key::AccessTypes => "accessTypes",
             Key::PolicyConditions => "policyConditions",
             Key::DataMaskDef => "dataMaskDef",
@@ -191,16 +174,6 @@ impl Key {
             Key::Evaluator => "evaluator",
             Key::EvaluatorOptions => "evaluatorOptions",
             Key::Transformer => "transformer",
-            _ => self.request_name(),
-        }
-    }
-
-    /// The name of a field of requests and decisions.
-    #[tactic(auto, unfolding(crate::specs::Names::request_name))]
-    fn request_name(self) -> &'static str
-        ensures { result.now ≡ request_name self }
-    {
-        match self {
             Key::User => "user",
             Key::UserGroups => "userGroups",
             Key::Resource => "resource",
@@ -217,16 +190,6 @@ impl Key {
             Key::PolicyId => "policyId",
             Key::RowFilter => "rowFilter",
             Key::Serial => "serial",
-            _ => self.row_name(),
-        }
-    }
-
-    /// The name of a field of facts, and of the rows of roles, zones and tags.
-    #[tactic(auto, unfolding(crate::specs::Names::row_name))]
-    fn row_name(self) -> &'static str
-        ensures { result.now ≡ row_name self }
-    {
-        match self {
             Key::ServiceDef => "serviceDef",
             Key::TagServiceDef => "tagServiceDef",
             Key::Fallback => "fallback",
@@ -237,6 +200,7 @@ impl Key {
             Key::Rule => "rule",
             Key::PolicyVersion => "policyVersion",
             Key::TagVersion => "tagVersion",
+            Key::RoleVersion => "roleVersion",
             Key::Services => "services",
             Key::TagServices => "tagServices",
             Key::AdminUsers => "adminUsers",
@@ -249,7 +213,6 @@ impl Key {
             Key::ResourceElements => "resourceElements",
             Key::Tags => "tags",
             Key::Attributes => "attributes",
-            _ => "",
         }
     }
 }

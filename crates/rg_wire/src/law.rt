@@ -1,12 +1,12 @@
 // The law of reading and printing.
 ghost use Rattle.std.specs.Prelude.{◌≡◌, IfOk};
-ghost use Rattle.rg_wire.specs.Reading.{Answers, first_of, reading};
+ghost use Rattle.rg_json.specs.Reading.{Answers, first_of, reading};
 ghost use Rattle.rg_wire.specs.Records.{policy_of};
 ghost use Rattle.rg_wire.specs.Shapes.{policy_shape};
 
-use crate::fault::WireFault;
 use crate::policy_text::print_policy;
 use crate::read::read_policy;
+use rg_json::WireFault;
 use rg_policy::Policy;
 use std::alloc::Global;
 

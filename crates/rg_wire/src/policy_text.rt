@@ -2,22 +2,23 @@
 ghost use Rattle.std.specs.Prelude.{◌≡◌, IfOk, Ok};
 ghost use Rattle.std.specs.Str.{chars, encode_utf8_all};
 ghost use Rattle.serde_json.specs.View.{members_view, view};
+ghost use Rattle.rg_json.specs.Printing.{option_data};
 ghost use Rattle.rg_wire.specs.Own.{IsPolicy};
-ghost use Rattle.rg_wire.specs.Printing.{filter_data, level_members, option_data, policy_text, recurrences_data, resources_data};
-ghost use Rattle.rg_wire.specs.Reading.{reading};
+ghost use Rattle.rg_wire.specs.Printing.{filter_data, level_members, policy_text, recurrences_data, resources_data};
+ghost use Rattle.rg_json.specs.Reading.{reading};
 ghost use Rattle.rg_wire.specs.Records.{policy_of};
 ghost use Rattle.rg_wire.specs.Shapes.{policy_shape};
 
 use crate::key::Key;
-use crate::members::{ToJson, put, put_value, text_of};
 use rg_base::{NoMemory, Seq, Text};
+use rg_json::{Name, ToJson, put, put_value, text_of};
 use rg_policy::{
-    AccessEntry, Item, MaskInfo, Policy, PolicyCondition, PolicyResource, ScheduleText,
+    AccessEntry, Item, MaskInfo, Policy, PolicyCondition, PolicyResource, ResourceMap, ScheduleText,
 };
 use serde_json::{Map, Value};
 use std::alloc::Global;
 
-impl ToJson for AccessEntry {
+impl ToJson<Key> for AccessEntry {
     ghost use Rattle.rg_wire.specs.Printing.{entry_data};
 
     ghost printing = { entry_data };
@@ -31,7 +32,7 @@ impl ToJson for AccessEntry {
     }
 }
 
-impl ToJson for PolicyCondition {
+impl ToJson<Key> for PolicyCondition {
     ghost use Rattle.rg_wire.specs.Printing.{condition_data};
 
     ghost printing = { condition_data };
@@ -45,7 +46,7 @@ impl ToJson for PolicyCondition {
     }
 }
 
-impl ToJson for MaskInfo {
+impl ToJson<Key> for MaskInfo {
     ghost use Rattle.rg_wire.specs.Printing.{mask_data};
 
     ghost printing = { mask_data };
@@ -67,14 +68,12 @@ fn recurrences(alloc: Global, recurring: bool) -> Result<Value, NoMemory>
 {
     let mut items = Vec::new(alloc);
     if recurring {
-        if items.push(Value::Object(Map::new(alloc))).is_err() {
-            return Err(NoMemory);
-        }
+        items.push(Value::Object(Map::new(alloc)))?;
     }
     Ok(Value::Array(items))
 }
 
-impl ToJson for ScheduleText {
+impl ToJson<Key> for ScheduleText {
     ghost use Rattle.rg_wire.specs.Printing.{schedule_data};
 
     ghost printing = { schedule_data };
@@ -106,7 +105,7 @@ fn filter_json(alloc: Global, filter: &Option<Text>) -> Result<Value, NoMemory>
     }
 }
 
-impl ToJson for Item {
+impl ToJson<Key> for Item {
     ghost use Rattle.rg_wire.specs.Printing.{item_data};
 
     ghost printing = { item_data };
@@ -127,7 +126,7 @@ impl ToJson for Item {
     }
 }
 
-impl ToJson for PolicyResource {
+impl ToJson<Key> for PolicyResource {
     ghost use Rattle.rg_wire.specs.Printing.{resource_data};
 
     ghost printing = { resource_data };
@@ -167,7 +166,18 @@ fn resources_json(alloc: Global, resources: &Seq<PolicyResource>) -> Result<Valu
     Ok(Value::Object(level_members(alloc, resources.as_slice())?))
 }
 
-impl ToJson for Policy {
+impl ToJson<Key> for ResourceMap {
+    ghost use Rattle.rg_wire.specs.Printing.{map_data};
+
+    ghost printing = { map_data };
+
+    #[tactic(auto, unfolding(crate::specs::Printing::map_data))]
+    fn json(&self, alloc: Global) -> Result<Value, NoMemory> {
+        resources_json(alloc, &self.levels)
+    }
+}
+
+impl ToJson<Key> for Policy {
     ghost use Rattle.rg_wire.specs.Printing.{policy_data};
 
     ghost printing = { policy_data };
@@ -184,6 +194,8 @@ impl ToJson for Policy {
         put(alloc, &mut members, Key::PolicyPriority, &self.priority)?;
         let resources = resources_json(alloc, &self.resources)?;
         put_value(alloc, &mut members, Key::Resources.name(), resources)?;
+        let additional = &self.additional;
+        put(alloc, &mut members, Key::AdditionalResources, additional)?;
         put(alloc, &mut members, Key::Conditions, &self.conditions)?;
         put(alloc, &mut members, Key::PolicyItems, &self.items)?;
         put(alloc, &mut members, Key::DenyPolicyItems, &self.deny_items)?;

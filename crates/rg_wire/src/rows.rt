@@ -3,11 +3,11 @@ ghost use Rattle.std.specs.Prelude.{◌≡◌, IfOk};
 ghost use Rattle.serde_json.specs.View.{view};
 ghost use Rattle.rg_wire.specs.Records.{subjects_of, tag_row_for};
 
-use crate::fields::{i64_at, text_at};
 use crate::key::Key;
-use crate::lists::{FromJson, FromMember, list_at, list_in, map_at, map_in, names_at};
 use crate::policy::resources_at;
-use rg_base::{NoMemory, Seq, Text};
+use crate::wire::{Members, Wire};
+use rg_base::{NoMemory, Seq, Text, TryCopy};
+use rg_json::{MemberReader, Reader, i64_at, list_at, list_in, map_at, map_in, text_at};
 use rg_policy::{Tag, TimeZoneRow};
 use rg_roles::RoleRow;
 use rg_tags::TagRow;
@@ -15,70 +15,75 @@ use rg_zones::{Subjects, ZoneLevel, ZoneRow, ZoneService};
 use serde_json::Value;
 use std::alloc::Global;
 
-impl FromJson for RoleRow {
-    ghost use Rattle.rg_wire.specs.Own.{Whatever};
+impl Reader<RoleRow> for Wire {
+    ghost use Rattle.rg_json.specs.Own.{Whatever};
     ghost use Rattle.rg_wire.specs.Records.{role_of};
 
-    ghost reading = { role_of };
+    ghost reading = { λ w. role_of };
 
     ghost owned = { Whatever };
 
     #[tactic(auto, unfolding(crate::specs::Records::role_of))]
-    fn read(alloc: Global, value: &Value) -> Result<RoleRow, NoMemory> {
+    fn read(&self, alloc: Global, value: &Value) -> Result<RoleRow, NoMemory> {
         Ok(RoleRow {
             name: text_at(alloc, value, Key::Name)?,
-            users: names_at(alloc, value, Key::Users)?,
-            groups: names_at(alloc, value, Key::Groups)?,
-            roles: names_at(alloc, value, Key::Roles)?,
+            users: list_at(alloc, &Members, value, Key::Users)?,
+            groups: list_at(alloc, &Members, value, Key::Groups)?,
+            roles: list_at(alloc, &Members, value, Key::Roles)?,
         })
     }
 }
 
-impl FromMember for ZoneLevel {
-    ghost use Rattle.rg_wire.specs.Own.{Whatever};
+impl MemberReader<ZoneLevel> for Wire {
+    ghost use Rattle.rg_json.specs.Own.{Whatever};
     ghost use Rattle.rg_wire.specs.Records.{zone_level_of};
 
-    ghost member_reading = { zone_level_of };
+    ghost member_reading = { λ w. zone_level_of };
 
     ghost member_owned = { Whatever };
 
     #[tactic(auto, unfolding(crate::specs::Records::zone_level_of))]
-    fn read_member(alloc: Global, key: &str, value: &Value) -> Result<ZoneLevel, NoMemory> {
+    fn read_member(&self, alloc: Global, key: &str, value: &Value) -> Result<ZoneLevel, NoMemory> {
         Ok(ZoneLevel {
             level: Text::copy_of(alloc, key)?,
-            values: list_in(alloc, value)?,
+            values: list_in(alloc, self, value)?,
         })
     }
 }
 
 /// A resource map of a zone.
-impl FromJson for Seq<ZoneLevel> {
-    ghost use Rattle.rg_wire.specs.Fields.{map_of};
-    ghost use Rattle.rg_wire.specs.Own.{Whatever};
+impl Reader<Seq<ZoneLevel>> for Wire {
+    ghost use Rattle.rg_json.specs.Fields.{map_of};
+    ghost use Rattle.rg_json.specs.Own.{Whatever};
     ghost use Rattle.rg_wire.specs.Records.{zone_level_of};
 
-    ghost reading = { map_of zone_level_of };
+    ghost reading = { λ w. map_of zone_level_of };
 
     ghost owned = { Whatever };
 
-    fn read(alloc: Global, value: &Value) -> Result<Seq<ZoneLevel>, NoMemory> {
-        map_in(alloc, value)
+    fn read(&self, alloc: Global, value: &Value) -> Result<Seq<ZoneLevel>, NoMemory> {
+        map_in(alloc, self, value)
     }
 }
 
-impl FromMember for ZoneService {
-    ghost use Rattle.rg_wire.specs.Own.{Whatever};
+impl MemberReader<ZoneService> for Wire {
+    ghost use Rattle.rg_json.specs.Own.{Whatever};
     ghost use Rattle.rg_wire.specs.Records.{zone_service_of};
 
-    ghost member_reading = { zone_service_of };
+    ghost member_reading = { λ w. zone_service_of };
 
     ghost member_owned = { Whatever };
 
     #[tactic(auto, unfolding(crate::specs::Records::zone_service_of))]
-    fn read_member(alloc: Global, key: &str, value: &Value) -> Result<ZoneService, NoMemory> {
+    fn read_member(
+        &self,
+        alloc: Global,
+        key: &str,
+        value: &Value,
+    ) -> Result<ZoneService, NoMemory> {
         Ok(ZoneService {
             service: Text::copy_of(alloc, key)?,
-            resources: list_at(alloc, value, Key::Resources)?,
+            resources: list_at(alloc, self, value, Key::Resources)?,
         })
     }
 }
@@ -94,26 +99,26 @@ fn subjects_at(
     ensures { IfOk result (λ s. s ≡ subjects_of users groups roles (view value.now)) }
 {
     Ok(Subjects {
-        users: list_at(alloc, value, users)?,
-        groups: list_at(alloc, value, groups)?,
-        roles: list_at(alloc, value, roles)?,
+        users: list_at(alloc, &Wire, value, users)?,
+        groups: list_at(alloc, &Wire, value, groups)?,
+        roles: list_at(alloc, &Wire, value, roles)?,
     })
 }
 
-impl FromJson for ZoneRow {
-    ghost use Rattle.rg_wire.specs.Own.{Whatever};
+impl Reader<ZoneRow> for Wire {
+    ghost use Rattle.rg_json.specs.Own.{Whatever};
     ghost use Rattle.rg_wire.specs.Records.{zone_of};
 
-    ghost reading = { zone_of };
+    ghost reading = { λ w. zone_of };
 
     ghost owned = { Whatever };
 
     #[tactic(auto, unfolding(crate::specs::Records::zone_of))]
-    fn read(alloc: Global, value: &Value) -> Result<ZoneRow, NoMemory> {
+    fn read(&self, alloc: Global, value: &Value) -> Result<ZoneRow, NoMemory> {
         Ok(ZoneRow {
             name: text_at(alloc, value, Key::Name)?,
-            services: map_at(alloc, value, Key::Services)?,
-            tag_services: list_at(alloc, value, Key::TagServices)?,
+            services: map_at(alloc, self, value, Key::Services)?,
+            tag_services: list_at(alloc, self, value, Key::TagServices)?,
             admins: subjects_at(
                 alloc,
                 value,
@@ -132,61 +137,80 @@ impl FromJson for ZoneRow {
     }
 }
 
-impl FromJson for Tag {
-    ghost use Rattle.rg_wire.specs.Own.{Whatever};
+impl Reader<Tag> for Wire {
+    ghost use Rattle.rg_json.specs.Own.{Whatever};
     ghost use Rattle.rg_wire.specs.Records.{tag_of};
 
-    ghost reading = { tag_of };
+    ghost reading = { λ w. tag_of };
 
     ghost owned = { Whatever };
 
     #[tactic(auto, unfolding(crate::specs::Records::tag_of))]
-    fn read(alloc: Global, value: &Value) -> Result<Tag, NoMemory> {
+    fn read(&self, alloc: Global, value: &Value) -> Result<Tag, NoMemory> {
         Ok(Tag {
             kind: text_at(alloc, value, Key::Type)?,
-            attributes: map_at(alloc, value, Key::Attributes)?,
+            attributes: map_at(alloc, self, value, Key::Attributes)?,
         })
     }
 }
 
 /// A tag row of this service, whatever service it names.
 #[tactic(auto, unfolding(crate::specs::Records::tag_row_for))]
-pub(crate) fn tag_row_for(alloc: Global, value: &Value, service: Text) -> Result<TagRow, NoMemory>
+fn tag_row_for(alloc: Global, value: &Value, service: Text) -> Result<TagRow, NoMemory>
     ensures { IfOk result (λ row. row ≡ tag_row_for service (view value.now)) }
 {
     Ok(TagRow {
         id: i64_at(value, Key::Id, 0),
         service,
         resources: resources_at(alloc, value, Key::ResourceElements)?,
-        tags: list_at(alloc, value, Key::Tags)?,
+        tags: list_at(alloc, &Wire, value, Key::Tags)?,
     })
 }
 
-impl FromJson for TagRow {
-    ghost use Rattle.rg_wire.specs.Own.{Whatever};
+/// Reads tag rows of this service, whatever service they name.
+#[derive(Drop)]
+pub(crate) struct OfService {
+    pub service: Text,
+}
+
+impl Reader<TagRow> for OfService {
+    ghost use Rattle.rg_json.specs.Own.{Whatever};
+    ghost use Rattle.rg_wire.specs.Records.{tag_row_for};
+
+    ghost reading = { λ rows. tag_row_for rows.service };
+
+    ghost owned = { Whatever };
+
+    fn read(&self, alloc: Global, value: &Value) -> Result<TagRow, NoMemory> {
+        tag_row_for(alloc, value, self.service.try_copy(alloc)?)
+    }
+}
+
+impl Reader<TagRow> for Wire {
+    ghost use Rattle.rg_json.specs.Own.{Whatever};
     ghost use Rattle.rg_wire.specs.Records.{tag_row_of};
 
-    ghost reading = { tag_row_of };
+    ghost reading = { λ w. tag_row_of };
 
     ghost owned = { Whatever };
 
     #[tactic(auto, unfolding(crate::specs::Records::tag_row_of))]
-    fn read(alloc: Global, value: &Value) -> Result<TagRow, NoMemory> {
+    fn read(&self, alloc: Global, value: &Value) -> Result<TagRow, NoMemory> {
         let service = text_at(alloc, value, Key::ServiceName)?;
         tag_row_for(alloc, value, service)
     }
 }
 
-impl FromJson for TimeZoneRow {
-    ghost use Rattle.rg_wire.specs.Own.{Whatever};
+impl Reader<TimeZoneRow> for Wire {
+    ghost use Rattle.rg_json.specs.Own.{Whatever};
     ghost use Rattle.rg_wire.specs.Records.{time_zone_of};
 
-    ghost reading = { time_zone_of };
+    ghost reading = { λ w. time_zone_of };
 
     ghost owned = { Whatever };
 
     #[tactic(auto, unfolding(crate::specs::Records::time_zone_of))]
-    fn read(alloc: Global, value: &Value) -> Result<TimeZoneRow, NoMemory> {
+    fn read(&self, alloc: Global, value: &Value) -> Result<TimeZoneRow, NoMemory> {
         Ok(TimeZoneRow {
             name: text_at(alloc, value, Key::Name)?,
             rule: text_at(alloc, value, Key::Rule)?,

@@ -10,38 +10,18 @@ use Rattle.rg_policy.specs.declared.request.Element.{Element}
 use Rattle.rg_zones.specs.declared.row.ZoneLevel.{ZoneLevel}
 use Rattle.rg_zones.specs.declared.row.ZoneRow.{ZoneRow}
 use Rattle.rg_zones.specs.declared.row.ZoneService.{ZoneService}
-use Rattle.rg_zones.specs.Overlap.{ZonesOverlap, entry_maps, form_scalars, map_patterns, map_texts, maps_for, maps_overlap, zone_patterns, zone_scalars, zone_texts, zones_overlap}
-use Rattle.rg_zones.specs.Rules.{entry_fits, is_for, is_some_map, map_fits, maps_fit}
-use Rattle.rg_zones.specs.Zones.{in_zone, map_lies, service_lies}
+use Rattle.rg_zones.specs.Overlap.{ZonesOverlap, form_scalars, map_patterns, map_texts, maps_overlap, zone_patterns, zone_scalars, zone_texts, zones_overlap}
+use Rattle.rg_zones.specs.Rules.{maps_fit}
+use Rattle.rg_zones.specs.Zones.{entry_maps, in_zone, is_for, map_lies, maps_for}
+use Rattle.rg_zones.proofs.Fitting.{fit_maps, in_maps}
 use Rattle.rg_zones.proofs.Forms.{TwinScalars, TwinUser, form_lies, form_of, known, lies_same, scalars_of}
 use Rattle.rg_zones.proofs.Found.{FoundLaw, TextLaw, forms_found}
 use Rattle.rg_zones.proofs.Members.{Has, agree_any, all_flat, all_has, any_flat, any_has, has_all, has_any}
 use Rattle.rg_zones.proofs.Shown.{ShownLaw, StandsLaw, forms_shown}
 
-any_chosen : {X : Type 0} (p : X → Bool) (b : Bool) (xs : List X) → list_any p (if b then xs else []) ≡ (b && list_any p xs)
-any_chosen p true xs = refl
-any_chosen p false xs = refl
-
 all_chosen : {X : Type 0} (p : X → Bool) (b : Bool) (xs : List X) → list_all p xs ≡ true → list_all p (if b then xs else []) ≡ true
 all_chosen p true xs h = h
 all_chosen p false xs h = refl
-
--- a zone has the resources on its maps for the service
-in_maps : (service : List ℕ) (def : ServiceDef) (elements : List Element) (zone : ZoneRow) → in_zone service def elements zone ≡ list_any (map_lies def elements) (maps_for service zone)
-in_maps service def elements zone = sym (any_flat (map_lies def elements) (entry_maps service) zone.services.items
-    ∙ agree_any (λ (s : ZoneService). list_any (map_lies def elements) (entry_maps service s)) (service_lies service def elements) zone.services.items
-    (λ s w. any_chosen (map_lies def elements) (bytes_eq s.service service) s.resources.items))
-
-fit_entry : (service : List ℕ) (def : ServiceDef) (s : ZoneService) (b : Bool) → (not b || entry_fits def s) ≡ true → list_all (map_fits def) (if b then s.resources.items else []) ≡ true
-fit_entry service def s true h = (and_parts (is_some_map s.resources.items) (list_all (map_fits def) s.resources.items) h).1
-fit_entry service def s false h = refl
-
--- the maps for the service pass the rules
-fit_maps : (service : List ℕ) (def : ServiceDef) (zone : ZoneRow) → maps_fit service def zone ≡ true → (m : Listed ZoneLevel) → Has (maps_for service zone) m → map_fits def m ≡ true
-fit_maps service def zone h = has_all (map_fits def) (maps_for service zone)
-    (all_flat (map_fits def) (entry_maps service) zone.services.items
-    ∙ all_has (λ (s : ZoneService). list_all (map_fits def) (entry_maps service s)) zone.services.items
-    (λ s w. fit_entry service def s (is_for service s) (has_all (λ (s : ZoneService). not (is_for service s) || entry_fits def s) zone.services.items h s w)))
 
 text_maps : (service : List ℕ) (zone : ZoneRow) → zone_texts zone ≡ true → (m : Listed ZoneLevel) → Has (maps_for service zone) m → map_texts m ≡ true
 text_maps service zone h = has_all map_texts (maps_for service zone)

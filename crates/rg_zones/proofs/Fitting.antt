@@ -1,18 +1,61 @@
--- The maps of a zone that pass their rules pass those of a policy's resources.
-use Rattle.std.proofs.Common.{◌≡◌, ◌||◌, ℕ, Bool, true, false, not, List, [], ◌∷◌, Option, Some, None, refl}
+-- The maps of a zone for the service: what the rules say of them, and what is matched of them.
+use Rattle.std.proofs.Common.{◌≡◌, ◌&&◌, ◌||◌, ℕ, Bool, true, false, not, if◌then◌else◌, List, [], ◌∷◌, map, Option, Some, None, refl, sym, ap, ◌∙◌}
 use Rattle.std.proofs.lemmas.Bool.{and_parts, and_from}
-use Rattle.std.specs.List.{list_all}
+use Rattle.std.proofs.lemmas.List.Folds.{list_all-map}
+use Rattle.std.proofs.lemmas.Simd.{map-map}
+use Rattle.std.specs.List.{list_all, list_any}
+use Rattle.std.specs.Str.{bytes_eq}
 use Rattle.rg_base.specs.Listed.{Listed}
-use Rattle.rg_base.specs.Texts.{is_name}
+use Rattle.rg_base.specs.Texts.{all_distinct, is_name}
+use Rattle.rg_base.proofs.Lists.{all_distinct-map, list_any-map}
 use Rattle.rg_defs.specs.declared.service_def.Level.{Level}
 use Rattle.rg_defs.specs.declared.service_def.ServiceDef.{ServiceDef}
 use Rattle.rg_defs.specs.Paths.{level_of}
+use Rattle.rg_defs.specs.PathTests.{on_one_path}
+use Rattle.rg_defs.specs.Rules.{has_level}
 use Rattle.rg_pattern.specs.Atoms.{has_user}
-use Rattle.rg_pattern.specs.Reading.{atoms_of}
-use Rattle.rg_resmatch.specs.Rules.{is_some_text, levels_fit, supports, values_fit, values_fit_level}
+use Rattle.rg_pattern.specs.Reading.{atoms_of, value_fits}
+use Rattle.rg_policy.specs.declared.policy.PolicyResource.{PolicyResource}
+use Rattle.rg_policy.specs.declared.policy.ResourceMap.{ResourceMap}
+use Rattle.rg_policy.specs.declared.request.Element.{Element}
+use Rattle.rg_resmatch.specs.declared.reach.Reach.TheVariants.{Down}
+use Rattle.rg_resmatch.specs.Rules.{all_levels_fit, all_values_fit, is_some_text, levels_fit, supports, values_fit, values_fit_level}
+use Rattle.rg_resmatch.specs.Tests.{lies, some_lies}
 use Rattle.rg_zones.specs.declared.row.ZoneLevel.{ZoneLevel}
-use Rattle.rg_zones.specs.Rules.{map_fits, value_fits, wilds, zone_level_fits}
-use Rattle.rg_zones.specs.Zones.{is_recursive, zone_resource, zone_resources}
+use Rattle.rg_zones.specs.declared.row.ZoneRow.{ZoneRow}
+use Rattle.rg_zones.specs.declared.row.ZoneService.{ZoneService}
+use Rattle.rg_zones.specs.Rules.{entry_levels_fit, entry_values_fit, is_some_level, is_some_map, level_values_fit, map_fits, map_levels_fit, map_values_fit, maps_fit, zone_levels_fit, zone_values_fit}
+use Rattle.rg_zones.specs.Zones.{entry_maps, in_zone, is_for, is_recursive, map_lies, maps_for, resource_map, service_lies, zone_maps, zone_resource, zone_resources}
+use Rattle.rg_zones.proofs.Members.{Has, agree_any, all_flat, all_has, any_flat, has_all}
+
+-- ---- the levels of a map
+
+shuffle : (d a p : Bool) → (a && d && p) ≡ (true && (d && (a && (p && true))))
+shuffle true true true = refl
+shuffle true true false = refl
+shuffle true false p = refl
+shuffle false true p = refl
+shuffle false false p = refl
+
+-- as they are asked of the map itself
+pub levels_alike : (def : ServiceDef) (ls : List ZoneLevel)
+    → levels_fit def false (zone_resources def ls)
+    ≡ (is_some_level ls && (list_all (λ (l : ZoneLevel). has_level def.levels.items l.level) ls && all_distinct (λ (l m : ZoneLevel). bytes_eq m.level l.level) ls && on_one_path def.levels.items (map (λ (l : ZoneLevel). l.level) ls)))
+levels_alike def [] = refl
+levels_alike def (l ∷ ls) =
+    let all = l ∷ ls in
+    let known : PolicyResource → Bool = λ r. has_level def.levels.items r.level in
+    let alike : PolicyResource → PolicyResource → Bool = λ r s. bytes_eq s.level r.level in
+    let a = list_all (λ (l : ZoneLevel). has_level def.levels.items l.level) all in
+    let d = all_distinct (λ (l m : ZoneLevel). bytes_eq m.level l.level) all in
+    let names : List (List ℕ) = map (λ (l : ZoneLevel). l.level) all in
+    sym (shuffle d a (on_one_path def.levels.items names)
+    ∙ ap (λ (b : Bool). true && (b && (a && (on_one_path def.levels.items names && true)))) (sym (all_distinct-map alike (zone_resource def) all))
+    ∙ ap (λ (b : Bool). true && (all_distinct alike (zone_resources def all) && (b && (on_one_path def.levels.items names && true)))) (sym (list_all-map known (zone_resource def) all))
+    ∙ ap (λ (ns : List (List ℕ)). true && (all_distinct alike (zone_resources def all) && (list_all known (zone_resources def all) && (on_one_path def.levels.items ns && true))))
+    (sym (map-map (λ (r : PolicyResource). r.level) (zone_resource def) all)))
+
+-- ---- the values of a map
 
 self_or : (b : Bool) → (not b || b) ≡ true
 self_or true = refl
@@ -22,27 +65,66 @@ supported : (o : Option Level) (level : List ℕ) (values : Listed (List ℕ)) �
 supported None level values = refl
 supported (Some l) level values = self_or l.recursive
 
-are_names : (wild : Bool) (ts : List (List ℕ)) → list_all (value_fits wild) ts ≡ true → list_all is_name ts ≡ true
-are_names wild [] h = refl
-are_names wild (t ∷ ts) h =
-    let p = and_parts (value_fits wild t) (list_all (value_fits wild) ts) h in
-    and_from (is_name t) (list_all is_name ts) (and_parts (is_name t) (not (has_user (atoms_of wild t))) p.0).0 (are_names wild ts p.1)
+are_names : (ts : List (List ℕ)) → list_all value_fits ts ≡ true → list_all is_name ts ≡ true
+are_names [] h = refl
+are_names (t ∷ ts) h =
+    let p = and_parts (value_fits t) (list_all value_fits ts) h in
+    and_from (is_name t) (list_all is_name ts) (and_parts (is_name t) (not (has_user (atoms_of false t))) p.0).0 (are_names ts p.1)
 
-level_values : (def : ServiceDef) (l : ZoneLevel) → zone_level_fits def l ≡ true → values_fit_level def (zone_resource def l) ≡ true
+level_values : (def : ServiceDef) (l : ZoneLevel) → level_values_fit l ≡ true → values_fit_level def (zone_resource def l) ≡ true
 level_values def l h =
-    let wild = wilds (level_of def l.level) in
-    let p = and_parts (is_some_text l.values.items) (list_all (value_fits wild) l.values.items) h in
+    let p = and_parts (is_some_text l.values.items) (list_all value_fits l.values.items) h in
     and_from (is_some_text l.values.items) _ p.0
-    (and_from (list_all is_name l.values.items) _ (are_names wild l.values.items p.1) (supported (level_of def l.level) l.level l.values))
+    (and_from (list_all is_name l.values.items) _ (are_names l.values.items p.1) (supported (level_of def l.level) l.level l.values))
 
-all_values : (def : ServiceDef) (ls : List ZoneLevel) → list_all (zone_level_fits def) ls ≡ true → values_fit def (zone_resources def ls) ≡ true
+all_values : (def : ServiceDef) (ls : List ZoneLevel) → list_all level_values_fit ls ≡ true → values_fit def (zone_resources def ls) ≡ true
 all_values def [] h = refl
 all_values def (l ∷ ls) h =
-    let p = and_parts (zone_level_fits def l) (list_all (zone_level_fits def) ls) h in
+    let p = and_parts (level_values_fit l) (list_all level_values_fit ls) h in
     and_from (values_fit_level def (zone_resource def l)) (values_fit def (zone_resources def ls)) (level_values def l p.0) (all_values def ls p.1)
 
-pub fit_levels : (def : ServiceDef) (m : Listed ZoneLevel) → map_fits def m ≡ true → levels_fit def false (zone_resources def m.items) ≡ true
-fit_levels def m h = (and_parts (levels_fit def false (zone_resources def m.items)) (list_all (zone_level_fits def) m.items) h).0
+-- ---- the maps of a zone
 
-pub fit_values : (def : ServiceDef) (m : Listed ZoneLevel) → map_fits def m ≡ true → values_fit def (zone_resources def m.items) ≡ true
-fit_values def m h = all_values def m.items (and_parts (levels_fit def false (zone_resources def m.items)) (list_all (zone_level_fits def) m.items) h).1
+fit_entry : (def : ServiceDef) (s : ZoneService) (b : Bool) → (not b || entry_levels_fit def s) ≡ true → (not b || entry_values_fit s) ≡ true → list_all (map_fits def) (if b then s.resources.items else []) ≡ true
+fit_entry def s true h g =
+    let levels = (and_parts (is_some_map s.resources.items) (list_all (map_levels_fit def) s.resources.items) h).1 in
+    all_has (map_fits def) s.resources.items
+    (λ m w. and_from (map_levels_fit def m) (map_values_fit m) (has_all (map_levels_fit def) s.resources.items levels m w) (has_all map_values_fit s.resources.items g m w))
+fit_entry def s false h g = refl
+
+-- the maps for the service pass the rules
+pub fit_maps : (service : List ℕ) (def : ServiceDef) (zone : ZoneRow) → maps_fit service def zone ≡ true → (m : Listed ZoneLevel) → Has (maps_for service zone) m → map_fits def m ≡ true
+fit_maps service def zone h =
+    let both = and_parts (zone_levels_fit service def zone) (zone_values_fit service zone) h in
+    has_all (map_fits def) (maps_for service zone)
+    (all_flat (map_fits def) (entry_maps service) zone.services.items
+    ∙ all_has (λ (s : ZoneService). list_all (map_fits def) (entry_maps service s)) zone.services.items
+    (λ s w. fit_entry def s (is_for service s)
+    (has_all (λ (s : ZoneService). not (is_for service s) || entry_levels_fit def s) zone.services.items both.0 s w)
+    (has_all (λ (s : ZoneService). not (is_for service s) || entry_values_fit s) zone.services.items both.1 s w)))
+
+pub fit_levels : (service : List ℕ) (def : ServiceDef) (zone : ZoneRow) → maps_fit service def zone ≡ true → all_levels_fit def false (zone_maps service def zone) ≡ true
+fit_levels service def zone h =
+    list_all-map (λ (m : ResourceMap). levels_fit def false m.levels.items) (resource_map def) (maps_for service zone)
+    ∙ all_has (map_levels_fit def) (maps_for service zone) (λ m w. (and_parts (map_levels_fit def m) (map_values_fit m) (fit_maps service def zone h m w)).0)
+
+pub fit_values : (service : List ℕ) (def : ServiceDef) (zone : ZoneRow) → maps_fit service def zone ≡ true → all_values_fit def (zone_maps service def zone) ≡ true
+fit_values service def zone h =
+    list_all-map (λ (m : ResourceMap). values_fit def m.levels.items) (resource_map def) (maps_for service zone)
+    ∙ all_has (λ (m : Listed ZoneLevel). values_fit def (zone_resources def m.items)) (maps_for service zone)
+    (λ m w. all_values def m.items (and_parts (map_levels_fit def m) (map_values_fit m) (fit_maps service def zone h m w)).1)
+
+any_chosen : {X : Type 0} (p : X → Bool) (b : Bool) (xs : List X) → list_any p (if b then xs else []) ≡ (b && list_any p xs)
+any_chosen p true xs = refl
+any_chosen p false xs = refl
+
+-- a zone has the resources on its maps for the service
+pub in_maps : (service : List ℕ) (def : ServiceDef) (elements : List Element) (zone : ZoneRow) → in_zone service def elements zone ≡ list_any (map_lies def elements) (maps_for service zone)
+in_maps service def elements zone = sym (any_flat (map_lies def elements) (entry_maps service) zone.services.items
+    ∙ agree_any (λ (s : ZoneService). list_any (map_lies def elements) (entry_maps service s)) (service_lies service def elements) zone.services.items
+    (λ s w. any_chosen (map_lies def elements) (bytes_eq s.service service) s.resources.items))
+
+-- which are those that are matched
+pub matched : (service : List ℕ) (def : ServiceDef) (zone : ZoneRow) (elements : List Element) → some_lies def (zone_maps service def zone) Down elements [] ≡ in_zone service def elements zone
+matched service def zone elements =
+    list_any-map (λ (m : ResourceMap). lies def m.levels.items Down elements []) (resource_map def) (maps_for service zone) ∙ sym (in_maps service def elements zone)

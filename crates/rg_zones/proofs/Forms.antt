@@ -17,20 +17,19 @@ use Rattle.rg_defs.specs.PathTests.{on_one_path}
 use Rattle.rg_defs.specs.Rules.{has_level}
 use Rattle.rg_pattern.specs.declared.atoms.Atom.{Atom}
 use Rattle.rg_pattern.specs.declared.atoms.Atom.TheVariants.{Character, One, Any, User}
-use Rattle.rg_pattern.specs.Atoms.{are_scalars, has_user, twin}
-use Rattle.rg_pattern.specs.Reading.{atom_of, atoms_of, atoms_past, user_mark}
+use Rattle.rg_pattern.specs.Atoms.{are_scalars, has_user, is_user, twin}
+use Rattle.rg_pattern.specs.Reading.{atom_of, atoms_of, atoms_past, user_mark, value_fits}
 use Rattle.rg_pattern.specs.Tests.{stands, strip_prefix}
 use Rattle.rg_policy.specs.declared.policy.PolicyResource.{PolicyResource}
 use Rattle.rg_policy.specs.declared.request.Element.{Element}
 use Rattle.rg_resmatch.specs.declared.reach.Reach.TheVariants.{Down}
-use Rattle.rg_resmatch.specs.Compiled.{folds}
 use Rattle.rg_resmatch.specs.Rules.{is_some_resource, is_some_text, named_levels}
 use Rattle.rg_resmatch.specs.Tests.{any_stands, is_hit, is_some_element, levels_of, may_name, meets, star, value_at}
 use Rattle.rg_zones.specs.declared.row.ZoneLevel.{ZoneLevel}
-use Rattle.rg_zones.specs.Overlap.{LevelPatterns, form_scalars, level_names, level_patterns, map_patterns, map_texts, value_patterns, with_twin}
-use Rattle.rg_zones.specs.Rules.{map_fits, value_fits, wilds, zone_level_fits}
+use Rattle.rg_zones.specs.Overlap.{LevelPatterns, folds, form_scalars, level_names, level_patterns, map_patterns, map_texts, value_patterns, wilds, with_twin}
+use Rattle.rg_zones.specs.Rules.{level_values_fit, map_fits}
 use Rattle.rg_zones.specs.Zones.{is_recursive, map_lies, zone_resource, zone_resources}
-use Rattle.rg_zones.proofs.Joining.{list_any-map}
+use Rattle.rg_base.proofs.Lists.{list_any-map}
 use Rattle.rg_zones.proofs.Members.{Has, agree_all, all_has, any_has, flat_has, has_all, has_any, has_flat, has_mapped, not_missed}
 
 -- a value of the level, or none
@@ -120,9 +119,9 @@ level_known : (def : ServiceDef) (m : Listed ZoneLevel) → map_fits def m ≡ t
     → (is_some_resource (zone_resources def m.items) ≡ true)
     × (all_distinct (λ (r s : PolicyResource). bytes_eq s.level r.level) (zone_resources def m.items) ≡ true)
     × (list_all (λ (r : PolicyResource). has_level def.levels.items r.level) (zone_resources def m.items) ≡ true)
-    × (list_all (zone_level_fits def) m.items ≡ true)
+    × (list_all level_values_fit m.items ≡ true)
 level_known def m h =
-    let parts = and_parts _ (list_all (zone_level_fits def) m.items) h in
+    let parts = and_parts _ (list_all level_values_fit m.items) h in
     let first = and_parts _ _ parts.0 in
     let second = and_parts _ _ first.1 in
     let third = and_parts _ _ second.1 in
@@ -165,12 +164,30 @@ TwinUser = (p : List Atom) → has_user (twin p) ≡ has_user p
 abbrev pub TwinScalars : Type 0
 TwinScalars = (p : List Atom) → IsTrue (are_scalars p) → IsTrue (are_scalars (twin p))
 
-plain_value : TwinUser → (o : Option Level) (texts : List (List ℕ)) → list_all (value_fits (wilds o)) texts ≡ true → (p : List Atom) → Has (flat_map (value_patterns o) texts) p → has_user p ≡ false
+no_user : (a b : Bool) (c : ℕ) → is_user (cond a Any (cond b One (Character c))) ≡ false
+no_user true b c = refl
+no_user false true c = refl
+no_user false false c = refl
+
+-- whether `{USER}` is read doesn't depend on wildcards
+user_alike : (wild : Bool) (skip : ℕ) (t : List ℕ) → has_user (atoms_past wild skip t) ≡ has_user (atoms_past false skip t)
+user_alike wild skip [] = refl
+user_alike wild (suc skip) (c ∷ t) = user_alike wild skip t
+user_alike wild zero (c ∷ t) = at (is_some (strip_prefix false user_mark (c ∷ t))) (user_alike wild 0 t) where
+  at : (b : Bool) → has_user (atoms_past wild 0 t) ≡ has_user (atoms_past false 0 t)
+      → has_user (cond b (User ∷ atoms_past wild 5 t) (atom_of wild c ∷ atoms_past wild 0 t)) ≡ has_user (cond b (User ∷ atoms_past false 5 t) (atom_of false c ∷ atoms_past false 0 t))
+  at true rest = refl
+  at false rest = ap (λ b. b || has_user (atoms_past wild 0 t)) (no_user (wild && nat_eq c 42) (wild && nat_eq c 63) c) ∙ rest
+
+pub plain_text : (wild : Bool) (t : List ℕ) → value_fits t ≡ true → has_user (atoms_of wild t) ≡ false
+plain_text wild t h = user_alike wild 0 t ∙ not-true (has_user (atoms_of false t)) (and_parts (is_name t) (not (has_user (atoms_of false t))) h).1
+
+plain_value : TwinUser → (o : Option Level) (texts : List (List ℕ)) → list_all value_fits texts ≡ true → (p : List Atom) → Has (flat_map (value_patterns o) texts) p → has_user p ≡ false
 plain_value law o texts h p within =
     let t = flat_has (value_patterns o) texts p within in
-    let fits = has_all (value_fits (wilds o)) texts h t.0 t.1 in
+    let fits = has_all value_fits texts h t.0 t.1 in
     let q = atoms_of (wilds o) t.0 in
-    let plain = not-true (has_user q) (and_parts (is_name t.0) (not (has_user q)) fits).1 in
+    let plain = plain_text (wilds o) t.0 fits in
     elim (of_value (is_recursive o) q p t.2) [
       | inl same ↦ ap has_user same ∙ plain
       | inr below ↦ ap has_user below ∙ law q ∙ plain
@@ -198,7 +215,7 @@ pub form_of : TwinUser → (def : ServiceDef) (m : Listed ZoneLevel) → map_fit
 form_of law def m h =
     let k = level_known def m h in
     let level = has_mapped (level_patterns def) m.items in
-    let fits = λ (l : ZoneLevel) (w : Has m.items l). and_parts (is_some_text l.values.items) (list_all (value_fits (wilds (level_of def l.level))) l.values.items) (has_all (zone_level_fits def) m.items k.3 l w) in
+    let fits = λ (l : ZoneLevel) (w : Has m.items l). and_parts (is_some_text l.values.items) (list_all value_fits l.values.items) (has_all level_values_fit m.items k.3 l w) in
     record {
       some = some_from def m.items k.0;
       apart = apart_from def m.items k.1;

@@ -89,7 +89,7 @@ row_found p m n q r =
       ],
     )
 
-first_of : (p : ℕ × ℕ → Bool) (n k m : ℕ) → m + k ≡ n → First p m n (find p (flat_map (pairs_from n) (range_with_len m k)))
+pub first_of : (p : ℕ × ℕ → Bool) (n k m : ℕ) → m + k ≡ n → First p m n (find p (flat_map (pairs_from n) (range_with_len m k)))
 first_of p n zero m e = λ i j h g within. absurd (omega arith)
 first_of p n (suc k) m e =
     let rest = flat_map (pairs_from n) (range_with_len (m + 1) k) in
@@ -100,7 +100,7 @@ first_of p n (suc k) m e =
       at None row q r = rows_passed p m n row q r
       at (Some x) row q r = row_found p m n x row
 
-there_both : {X : Type 0} (f : X → X → Bool) (o q : Option X) → holds_of f o q ≡ true → (x y : X) × (o ≡ Some x) × (q ≡ Some y) × (f x y ≡ true)
+pub there_both : {X : Type 0} (f : X → X → Bool) (o q : Option X) → holds_of f o q ≡ true → (x y : X) × (o ≡ Some x) × (q ≡ Some y) × (f x y ≡ true)
 there_both f None q h = absurd (false≢true h)
 there_both f (Some x) None h = absurd (false≢true h)
 there_both f (Some x) (Some y) h = (x, y, refl, refl, h)

@@ -1,12 +1,16 @@
+pub mod Apart
+pub mod Best
 pub mod Deciding
 pub mod Finding
 pub mod Fitting
 pub mod Forms
 pub mod Found
 pub mod Joining
+pub mod Keys
 pub mod Least
 pub mod Members
 pub mod Pairs
 pub mod Scalars
+pub mod Searching
 pub mod Shown
 pub mod Stars

@@ -1,4 +1,7 @@
-pub mod Compiled
+pub mod Best
+pub mod Candidates
+pub mod Matched
 pub mod Overlap
 pub mod Rules
 pub mod Zones
+pub mod Zoning

@@ -13,13 +13,11 @@ use Rattle.rg_pattern.specs.Atoms.{are_scalars, twin}
 use Rattle.rg_pattern.specs.Reading.{atoms_of}
 use Rattle.rg_pattern.specs.Tests.{overlaps}
 use Rattle.rg_policy.specs.declared.request.Element.{Element}
-use Rattle.rg_resmatch.specs.Compiled.{folds}
 use Rattle.rg_resmatch.specs.Tests.{star}
 use Rattle.rg_zones.specs.declared.row.ZoneLevel.{ZoneLevel}
 use Rattle.rg_zones.specs.declared.row.ZoneRow.{ZoneRow}
 use Rattle.rg_zones.specs.declared.row.ZoneService.{ZoneService}
-use Rattle.rg_zones.specs.Rules.{is_for, wilds}
-use Rattle.rg_zones.specs.Zones.{in_zone, is_recursive}
+use Rattle.rg_zones.specs.Zones.{in_zone, is_recursive, maps_for}
 
 -- the values of the resource are texts of Unicode scalar values
 abbrev pub are_texts : List Element → Bool
@@ -65,6 +63,16 @@ pub record LevelPatterns : Type 0 where
 -- the pattern, and its twin where the level is recursive
 abbrev pub with_twin : Bool → List Atom → List (List Atom)
 with_twin recursive p = if recursive then p ∷ twin p ∷ [] else p ∷ []
+
+-- whether the level takes wildcards
+abbrev pub wilds : Option Level → Bool
+wilds None = false
+wilds (Some l) = l.wild
+
+-- whether the case of ASCII letters counts for nothing at the level
+abbrev pub folds : Option Level → Bool
+folds None = false
+folds (Some l) = l.fold
 
 abbrev pub value_patterns : Option Level → List ℕ → List (List Atom)
 value_patterns o t = with_twin (is_recursive o) (atoms_of (wilds o) t)
@@ -117,14 +125,6 @@ patterns_meet levels ms ns = share_levels levels ms ns && all_meet ms ns
 -- some resource lies on both maps
 abbrev pub maps_overlap : ServiceDef → Listed ZoneLevel → Listed ZoneLevel → Bool
 maps_overlap def m n = patterns_meet def.levels.items (map_patterns def m) (map_patterns def n)
-
--- the maps of the entry where it is for the service
-abbrev pub entry_maps : List ℕ → ZoneService → List (Listed ZoneLevel)
-entry_maps service s = if is_for service s then s.resources.items else []
-
--- the maps of the zone for the service
-abbrev pub maps_for : List ℕ → ZoneRow → List (Listed ZoneLevel)
-maps_for service zone = flat_map (entry_maps service) zone.services.items
 
 -- what of the zone decides the overlap
 abbrev pub zone_patterns : List ℕ → ServiceDef → ZoneRow → List (List LevelPatterns)

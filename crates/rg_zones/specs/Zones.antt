@@ -1,12 +1,13 @@
 -- The zone in which a resource lies.
-use Rattle.std.specs.Prelude.{ℕ, ◌&&◌, Bool, false, List, [], map, position, Option, Some, None}
-use Rattle.std.specs.List.{list_any}
+use Rattle.std.specs.Prelude.{ℕ, ◌&&◌, Bool, false, List, [], map, position, Option, Some, None, if◌then◌else◌}
+use Rattle.std.specs.List.{flat_map, list_any}
 use Rattle.std.specs.Str.{bytes_eq}
-use Rattle.rg_base.specs.Listed.{Listed}
+use Rattle.rg_base.specs.Listed.{Listed, listed}
 use Rattle.rg_defs.specs.declared.service_def.Level.{Level}
 use Rattle.rg_defs.specs.declared.service_def.ServiceDef.{ServiceDef}
 use Rattle.rg_defs.specs.Paths.{level_of}
 use Rattle.rg_policy.specs.declared.policy.PolicyResource.{PolicyResource}
+use Rattle.rg_policy.specs.declared.policy.ResourceMap.{ResourceMap}
 use Rattle.rg_policy.specs.declared.request.Element.{Element}
 use Rattle.rg_resmatch.specs.declared.reach.Reach.TheVariants.{Down}
 use Rattle.rg_resmatch.specs.Tests.{lies}
@@ -42,3 +43,23 @@ in_zone service def elements zone = list_any (service_lies service def elements)
 -- the least place of a zone in which the resource lies
 abbrev pub zone_of : List ℕ → ServiceDef → List ZoneRow → List Element → Option ℕ
 zone_of service def zones elements = position (in_zone service def elements) zones
+
+-- the entry of the zone is for the service
+abbrev pub is_for : List ℕ → ZoneService → Bool
+is_for service s = bytes_eq s.service service
+
+-- the maps of the entry where it is for the service
+abbrev pub entry_maps : List ℕ → ZoneService → List (Listed ZoneLevel)
+entry_maps service s = if is_for service s then s.resources.items else []
+
+-- the maps of the zone for the service
+abbrev pub maps_for : List ℕ → ZoneRow → List (Listed ZoneLevel)
+maps_for service zone = flat_map (entry_maps service) zone.services.items
+
+-- a resource map of a zone as one of a policy
+abbrev pub resource_map : ServiceDef → Listed ZoneLevel → ResourceMap
+resource_map def m = record { levels = listed (zone_resources def m.items) }
+
+-- what is matched of the zone
+abbrev pub zone_maps : List ℕ → ServiceDef → ZoneRow → List ResourceMap
+zone_maps service def zone = map (resource_map def) (maps_for service zone)

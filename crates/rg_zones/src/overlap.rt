@@ -1,357 +1,275 @@
 // Which zones overlap.
-ghost use Rattle.std.specs.Prelude.{◌≡◌, ◌&&◌, ◌||◌, ◌++◌, ◌∷◌, ◌<◌, ◌≤◌, [], IfOk, None, Option, ℕ, map, option_map, true, length};
-ghost use Rattle.std.specs.List.{find, list_all, list_any};
+ghost use Rattle.std.specs.Prelude.{◌≡◌, ◌<◌, ◌≤◌, ◌^◌, IfOk, List, None, Option, ℕ, fold, length, map, true};
+ghost use Rattle.std.specs.List.{Contains, list_all, list_any, range_with_len};
 ghost use Rattle.std.specs.Str.{chars};
-ghost use Rattle.rg_base.specs.Listed.{Listed, listed};
-ghost use Rattle.rg_defs.specs.declared.service_def.Level.{Level};
-ghost use Rattle.rg_defs.specs.PathTests.{lies_on, paths_of};
 ghost use Rattle.rg_defs.specs.Rules.{def_fault};
-ghost use Rattle.rg_pattern.specs.Tests.{overlaps};
-ghost use Rattle.rg_zones.specs.Overlap.{IsLeastOverlap, LevelPatterns, all_meet, at_pair, first_overlap, level_names, levels_meet, needed_names, needs_none, pairs_from, patterns_meet, patterns_overlap, place_pairs, reaches, share_levels, some_meet, zone_patterns, zone_scalars};
-ghost use Rattle.rg_zones.specs.Rules.{all_maps_fit};
+ghost use Rattle.rg_trie.specs.declared.pair.Pair.{Pair};
+ghost use Rattle.rg_trie.specs.Walked.{entries_under};
+ghost use Rattle.rg_zones.specs.Best.{better, is_less, ordered};
+ghost use Rattle.rg_zones.specs.Candidates.{AreFiled, HoldsFirst, across, beside, beside_all, filed_as, found_under, maps_of, meet_at, same_anchor};
+ghost use Rattle.rg_zones.specs.Overlap.{IsLeastOverlap, at_pair, first_overlap, pairs_from, place_pairs, some_meet, zone_patterns, zone_scalars, zones_overlap};
+ghost use Rattle.rg_zones.specs.Rules.{all_maps_fit, maps_fit};
+ghost use Rattle.rg_zones.specs.declared.row.ZoneRow.{ZoneRow};
 
+use crate::filing::FiledZone;
 use crate::laws::compiled_overlap_is_decided;
+use crate::meeting::some_meet;
 use crate::row::ZoneRow;
-use crate::zone_patterns::{CompiledLevel, CompiledMap, CompiledZone, PlainPattern, compile_zones};
-use rg_base::{NoMemory, Seq, same_text};
-use rg_defs::{Level, ServiceDef, lies_on, paths};
+use crate::zone_patterns::CompiledZone;
+use rg_base::{NoMemory, Steps, Text};
+use rg_defs::{Paths, ServiceDef};
+use rg_trie::{Filed, Trie};
 use std::alloc::Global;
 
-fn overlaps_some(
+/// Whether the zones at these places overlap.
+fn meet_at(
     alloc: Global,
-    pattern: &PlainPattern,
-    others: &[PlainPattern],
-    fold: bool,
+    paths: &Paths,
+    zones: &[FiledZone],
+    pair: (usize, usize),
 ) -> Result<bool, NoMemory>
-    ensures { IfOk result (λ b. b ≡ list_any (overlaps fold pattern.now) others.now) }
+    ensures { IfOk result (λ b. b ≡ meet_at paths.now zones.now pair) }
 {
-    for other in others {
-        if pattern.overlap(alloc, other, fold)? {
-            return Ok(true);
-        }
-    }
-    Ok(false)
-}
-
-fn patterns_overlap(
-    alloc: Global,
-    patterns: &[PlainPattern],
-    others: &[PlainPattern],
-    fold: bool,
-) -> Result<bool, NoMemory>
-    ensures { IfOk result (λ b. b ≡ patterns_overlap fold patterns.now others.now) }
-{
-    for pattern in patterns {
-        if overlaps_some(alloc, pattern, others, fold)? {
-            return Ok(true);
-        }
-    }
-    Ok(false)
-}
-
-/// Whether the two are no one level, or one that a resource in both maps can leave out or have a value for.
-fn levels_meet(
-    alloc: Global,
-    level: &CompiledLevel,
-    other: &CompiledLevel,
-) -> Result<bool, NoMemory>
-    ensures { IfOk result (λ b. b ≡ levels_meet level.now other.now) }
-{
-    if !same_text(level.name.as_str(), other.name.as_str())
-        || (level.lists_star && other.lists_star)
-    {
-        return Ok(true);
-    }
-    patterns_overlap(alloc, &level.patterns, &other.patterns, level.fold)
-}
-
-fn meets_each(
-    alloc: Global,
-    level: &CompiledLevel,
-    others: &[CompiledLevel],
-) -> Result<bool, NoMemory>
-    ensures { IfOk result (λ b. b ≡ list_all (levels_meet level.now) others.now) }
-{
-    for other in others {
-        if !levels_meet(alloc, level, other)? {
-            return Ok(false);
-        }
-    }
-    Ok(true)
-}
-
-fn all_meet(
-    alloc: Global,
-    ones: &[CompiledLevel],
-    others: &[CompiledLevel],
-) -> Result<bool, NoMemory>
-    ensures { IfOk result (λ b. b ≡ all_meet ones.now others.now) }
-{
-    for level in ones {
-        if !meets_each(alloc, level, others)? {
-            return Ok(false);
-        }
-    }
-    Ok(true)
-}
-
-fn all_lie_on(levels: &[Level], path: &[u32], ones: &[CompiledLevel]) -> bool
-    ensures { result ≡ list_all (λ (a : LevelPatterns). lies_on levels.now path.now a.name) ones.now }
-{
-    ones.iter()
-        .all(|level| lies_on(levels, path, level.name.as_str()))
-}
-
-/// Whether the levels that every resource in the map names lie on the path.
-fn needed_lie_on(levels: &[Level], path: &[u32], ones: &[CompiledLevel]) -> bool
-    ensures { result ≡ list_all (λ (a : LevelPatterns). a.lists_star || lies_on levels.now path.now a.name) ones.now }
-{
-    ones.iter().all(|level| level.lists_star || lies_on(levels, path, level.name.as_str()))
-}
-
-/// Whether the path has the levels of the one map and those that the other needs.
-#[tactic(auto, using(crate::proofs::Joining::with_needed))]
-fn lie_on_with_needed(
-    levels: &[Level],
-    path: &[u32],
-    ones: &[CompiledLevel],
-    others: &[CompiledLevel],
-) -> bool
-    ensures { result ≡ list_all (lies_on levels.now path.now) (level_names ones.now ++ needed_names others.now) }
-{
-    all_lie_on(levels, path, ones) && needed_lie_on(levels, path, others)
-}
-
-/// Whether the path has the levels of the map and this one.
-#[tactic(auto, using(crate::proofs::Joining::with_name))]
-fn lie_on_with(levels: &[Level], path: &[u32], ones: &[CompiledLevel], name: &str) -> bool
-    ensures { result ≡ list_all (lies_on levels.now path.now) (level_names ones.now ++ chars name.now ∷ []) }
-{
-    all_lie_on(levels, path, ones) && lies_on(levels, path, name)
-}
-
-fn some_has_needed(
-    levels: &[Level],
-    paths: &[Seq<u32>],
-    ones: &[CompiledLevel],
-    others: &[CompiledLevel],
-) -> bool
-    ensures { result ≡ list_any (λ (p : Listed ℕ). list_all (lies_on levels.now p.items) (level_names ones.now ++ needed_names others.now)) paths.now }
-{
-    paths.iter().any(|path| lie_on_with_needed(levels, path.as_slice(), ones, others))
-}
-
-fn some_has(levels: &[Level], paths: &[Seq<u32>], ones: &[CompiledLevel], name: &str) -> bool
-    ensures { result ≡ list_any (λ (p : Listed ℕ). list_all (lies_on levels.now p.items) (level_names ones.now ++ chars name.now ∷ [])) paths.now }
-{
-    paths
-        .iter()
-        .any(|path| lie_on_with(levels, path.as_slice(), ones, name))
-}
-
-#[tactic(auto, using(crate::proofs::Joining::some_path))]
-fn reaches_needed(
-    levels: &[Level],
-    paths: &[Seq<u32>],
-    ones: &[CompiledLevel],
-    others: &[CompiledLevel],
-) -> bool
-    requires { paths.now ≡ map listed (paths_of levels.now) }
-    ensures { result ≡ reaches levels.now ones.now (needed_names others.now) }
-{
-    some_has_needed(levels, paths, ones, others)
-}
-
-#[tactic(auto, using(crate::proofs::Joining::some_path))]
-fn reaches(levels: &[Level], paths: &[Seq<u32>], ones: &[CompiledLevel], name: &str) -> bool
-    requires { paths.now ≡ map listed (paths_of levels.now) }
-    ensures { result ≡ reaches levels.now ones.now (chars name.now ∷ []) }
-{
-    some_has(levels, paths, ones, name)
-}
-
-fn needs_none(ones: &[CompiledLevel]) -> bool
-    ensures { result ≡ needs_none ones.now }
-{
-    ones.iter().all(|level| level.lists_star)
-}
-
-fn neither_needs(ones: &[CompiledLevel], others: &[CompiledLevel]) -> bool
-    ensures { result ≡ (needs_none ones.now && needs_none others.now) }
-{
-    needs_none(ones) && needs_none(others)
-}
-
-fn both_reach(
-    levels: &[Level],
-    paths: &[Seq<u32>],
-    ones: &[CompiledLevel],
-    others: &[CompiledLevel],
-    name: &str,
-) -> bool
-    requires { paths.now ≡ map listed (paths_of levels.now) }
-    ensures { result ≡ (reaches levels.now ones.now (chars name.now ∷ []) && reaches levels.now others.now (chars name.now ∷ [])) }
-{
-    reaches(levels, paths, ones, name) && reaches(levels, paths, others, name)
-}
-
-/// Whether some one level lies on a path with the levels of each map.
-fn share_one(
-    levels: &[Level],
-    paths: &[Seq<u32>],
-    ones: &[CompiledLevel],
-    others: &[CompiledLevel],
-) -> bool
-    requires { paths.now ≡ map listed (paths_of levels.now) }
-    ensures { result ≡ list_any (λ (l : Level). reaches levels.now ones.now (l.name ∷ []) && reaches levels.now others.now (l.name ∷ [])) levels.now }
-{
-    for level in levels {
-        if both_reach(levels, paths, ones, others, level.name.as_str()) {
-            return true;
-        }
-    }
-    false
-}
-
-fn share_needed(
-    levels: &[Level],
-    paths: &[Seq<u32>],
-    ones: &[CompiledLevel],
-    others: &[CompiledLevel],
-) -> bool
-    requires { paths.now ≡ map listed (paths_of levels.now) }
-    ensures { result ≡ (reaches levels.now ones.now (needed_names others.now) && reaches levels.now others.now (needed_names ones.now)) }
-{
-    reaches_needed(levels, paths, ones, others) && reaches_needed(levels, paths, others, ones)
-}
-
-/// Whether a resource that names what both maps need, or any one level where they need none, can lie on a path
-/// with the levels of each.
-fn share_levels(
-    levels: &[Level],
-    paths: &[Seq<u32>],
-    ones: &[CompiledLevel],
-    others: &[CompiledLevel],
-) -> bool
-    requires { paths.now ≡ map listed (paths_of levels.now) }
-    ensures { result ≡ share_levels levels.now ones.now others.now }
-{
-    if neither_needs(ones, others) {
-        share_one(levels, paths, ones, others)
-    } else {
-        share_needed(levels, paths, ones, others)
-    }
-}
-
-fn maps_meet(
-    alloc: Global,
-    levels: &[Level],
-    paths: &[Seq<u32>],
-    ones: &[CompiledLevel],
-    others: &[CompiledLevel],
-) -> Result<bool, NoMemory>
-    requires { paths.now ≡ map listed (paths_of levels.now) }
-    ensures { IfOk result (λ b. b ≡ patterns_meet levels.now ones.now others.now) }
-{
-    if !share_levels(levels, paths, ones, others) {
+    let Some(zone) = zones.get(pair.0) else {
         return Ok(false);
-    }
-    all_meet(alloc, ones, others)
+    };
+    let Some(other) = zones.get(pair.1) else {
+        return Ok(false);
+    };
+    some_meet(alloc, paths, &zone.maps, &other.maps)
 }
 
-fn meets_some(
-    alloc: Global,
-    levels: &[Level],
-    paths: &[Seq<u32>],
-    ones: &[CompiledLevel],
-    others: &[CompiledMap],
-) -> Result<bool, NoMemory>
-    requires { paths.now ≡ map listed (paths_of levels.now) }
-    ensures { IfOk result (λ b. b ≡ list_any (patterns_meet levels.now ones.now) others.now) }
+fn is_less(pair: (usize, usize), best: Option<(usize, usize)>) -> bool
+    ensures { result ≡ is_less pair best }
 {
-    for other in others {
-        if maps_meet(alloc, levels, paths, ones, &other.levels)? {
-            return Ok(true);
-        }
+    match best {
+        Some(best) => pair.0 < best.0 || (pair.0 == best.0 && pair.1 < best.1),
+        None => true,
     }
-    Ok(false)
 }
 
-fn some_meet(
+/// The pair, where it is less than the best so far and its zones overlap; else the best so far.
+fn better(
     alloc: Global,
-    levels: &[Level],
-    paths: &[Seq<u32>],
-    maps: &[CompiledMap],
-    others: &[CompiledMap],
-) -> Result<bool, NoMemory>
-    requires { paths.now ≡ map listed (paths_of levels.now) }
-    ensures { IfOk result (λ b. b ≡ some_meet levels.now maps.now others.now) }
+    paths: &Paths,
+    zones: &[FiledZone],
+    best: Option<(usize, usize)>,
+    pair: (usize, usize),
+) -> Result<Option<(usize, usize)>, NoMemory>
+    ensures { IfOk result (λ o. o ≡ better (meet_at paths.now zones.now) best pair) }
 {
-    for map in maps {
-        if meets_some(alloc, levels, paths, &map.levels, others)? {
-            return Ok(true);
-        }
+    if !is_less(pair, best) {
+        return Ok(best);
     }
-    Ok(false)
+    if meet_at(alloc, paths, zones, pair)? {
+        return Ok(Some(pair));
+    }
+    Ok(best)
 }
 
-fn overlap_at(
-    alloc: Global,
-    levels: &[Level],
-    paths: &[Seq<u32>],
-    zones: &[CompiledZone],
-    first: usize,
-    second: usize,
-) -> Result<bool, NoMemory>
-    requires { paths.now ≡ map listed (paths_of levels.now) }
-    ensures { IfOk result (λ b. b ≡ at_pair (some_meet levels.now) zones.now (first, second)) }
+fn same_anchor_at(zones: &[FiledZone], first: usize, second: usize) -> bool
+    ensures { result ≡ at_pair same_anchor zones.now (first, second) }
 {
     let Some(zone) = zones.get(first) else {
-        return Ok(false);
+        return false;
     };
     let Some(other) = zones.get(second) else {
-        return Ok(false);
+        return false;
     };
-    some_meet(alloc, levels, paths, &zone.maps, &other.maps)
+    zone.same_anchor(other)
 }
 
-/// The least place after the first of a zone that overlaps the one there.
-#[tactic(auto, using(crate::proofs::Pairs::range_first, crate::proofs::Pairs::range_none))]
-fn place_after(
+fn across(
     alloc: Global,
-    levels: &[Level],
-    paths: &[Seq<u32>],
-    zones: &[CompiledZone],
+    paths: &Paths,
+    zones: &[FiledZone],
+    best: Option<(usize, usize)>,
     first: usize,
-) -> Result<Option<usize>, NoMemory>
-    requires all { paths.now ≡ map listed (paths_of levels.now) }
-    requires there { first < length zones.now }
-    ensures { IfOk result (λ o. option_map (λ second. (first, second)) o ≡ find (at_pair (some_meet levels.now) zones.now) (pairs_from (length zones.now) first)) }
+    second: usize,
+) -> Result<Option<(usize, usize)>, NoMemory>
+    ensures { IfOk result (λ o. o ≡ across (meet_at paths.now zones.now) zones.now best (first, second)) }
+{
+    if same_anchor_at(zones, first, second) {
+        return Ok(best);
+    }
+    better(alloc, paths, zones, best, (first, second))
+}
+
+#[tactic(auto, using(crate::proofs::Pairs::range_first, crate::proofs::Pairs::range_none))]
+fn across_from(
+    alloc: Global,
+    paths: &Paths,
+    zones: &[FiledZone],
+    mut best: Option<(usize, usize)>,
+    first: usize,
+) -> Result<Option<(usize, usize)>, NoMemory>
+    requires { first < length zones.now }
+    ensures { IfOk result (λ o. o ≡ fold (across (meet_at paths.now zones.now) zones.now) best (pairs_from (length zones.now) first)) }
 {
     for second in first + 1..zones.len() {
-        if overlap_at(alloc, levels, paths, zones, first, second)? {
-            return Ok(Some(second));
-        }
+        best = across(alloc, paths, zones, best, first, second)?;
     }
-    Ok(None)
+    Ok(best)
 }
 
-#[tactic(auto, using(crate::proofs::Pairs::more_pairs, crate::proofs::Pairs::range_none))]
-fn first_pair(
+/// The zones that aren't filed at one level, compared in pairs.
+#[tactic(auto, using(crate::proofs::Pairs::fold_pairs, crate::proofs::Pairs::range_none))]
+fn all_across(
     alloc: Global,
-    levels: &[Level],
-    paths: &[Seq<u32>],
-    zones: &[CompiledZone],
+    paths: &Paths,
+    zones: &[FiledZone],
 ) -> Result<Option<(usize, usize)>, NoMemory>
-    requires { paths.now ≡ map listed (paths_of levels.now) }
-    ensures { IfOk result (λ o. o ≡ find (at_pair (some_meet levels.now) zones.now) (place_pairs (length zones.now))) }
+    ensures { IfOk result (λ o. o ≡ fold (across (meet_at paths.now zones.now) zones.now) None (place_pairs (length zones.now))) }
 {
+    let mut best = None;
     for first in 0..zones.len() {
-        if let Some(second) = place_after(alloc, levels, paths, zones, first)? {
-            return Ok(Some((first, second)));
-        }
+        best = across_from(alloc, paths, zones, best, first)?;
     }
-    Ok(None)
+    Ok(best)
+}
+
+fn ordered(one: usize, other: usize) -> (usize, usize)
+    ensures { result ≡ ordered one other }
+{
+    if one < other {
+        (one, other)
+    } else {
+        (other, one)
+    }
+}
+
+fn beside(
+    alloc: Global,
+    paths: &Paths,
+    zones: &[FiledZone],
+    best: Option<(usize, usize)>,
+    place: usize,
+    found: Filed,
+) -> Result<Option<(usize, usize)>, NoMemory>
+    ensures { IfOk result (λ o. o ≡ beside (meet_at paths.now zones.now) place best found) }
+{
+    let other = found.place as usize;
+    if place == other {
+        return Ok(best);
+    }
+    better(alloc, paths, zones, best, ordered(place, other))
+}
+
+#[tactic(auto, using(crate::proofs::Keys::unfolded))]
+fn beside_found(
+    alloc: Global,
+    paths: &Paths,
+    zones: &[FiledZone],
+    trie: &Trie,
+    mut best: Option<(usize, usize)>,
+    place: usize,
+    key: &Text,
+) -> Result<Option<(usize, usize)>, NoMemory>
+    ensures { IfOk result (λ o. o ≡ fold (beside (meet_at paths.now zones.now) place) best (entries_under key.now trie.now)) }
+{
+    let mut walk = trie.walk(key.as_str(), false);
+    while let Some(found) = walk.next() {
+        best = beside(alloc, paths, zones, best, place, found)?;
+    }
+    Ok(best)
+}
+
+fn beside_keys(
+    alloc: Global,
+    paths: &Paths,
+    zones: &[FiledZone],
+    trie: &Trie,
+    mut best: Option<(usize, usize)>,
+    place: usize,
+    keys: &[Text],
+) -> Result<Option<(usize, usize)>, NoMemory>
+    ensures { IfOk result (λ o. o ≡ fold (beside (meet_at paths.now zones.now) place) best (found_under trie.now keys.now)) }
+{
+    for key in keys {
+        best = beside_found(alloc, paths, zones, trie, best, place, key)?;
+    }
+    Ok(best)
+}
+
+/// The zone at the place, compared with those that are filed under what its keys begin with.
+fn beside_all(
+    alloc: Global,
+    paths: &Paths,
+    zones: &[FiledZone],
+    trie: &Trie,
+    best: Option<(usize, usize)>,
+    place: usize,
+) -> Result<Option<(usize, usize)>, NoMemory>
+    ensures { IfOk result (λ o. o ≡ beside_all (meet_at paths.now zones.now) trie.now zones.now best place) }
+{
+    match zones.get(place) {
+        Some(zone) => beside_keys(alloc, paths, zones, trie, best, place, &zone.keys),
+        None => Ok(best),
+    }
+}
+
+#[tactic(auto, using(crate::proofs::Pairs::range_first, crate::proofs::Pairs::range_none))]
+fn all_beside(
+    alloc: Global,
+    paths: &Paths,
+    zones: &[FiledZone],
+    trie: &Trie,
+    mut best: Option<(usize, usize)>,
+) -> Result<Option<(usize, usize)>, NoMemory>
+    ensures { IfOk result (λ o. o ≡ fold (beside_all (meet_at paths.now zones.now) trie.now zones.now) best (range_with_len 0 (length zones.now))) }
+{
+    for place in 0..zones.len() {
+        best = beside_all(alloc, paths, zones, trie, best, place)?;
+    }
+    Ok(best)
+}
+
+/// The trie with the zone at the place under each of the keys.
+fn with_keys(alloc: Global, mut trie: Trie, keys: &[Text], place: u32) -> Result<Trie, NoMemory>
+    ensures kept { IfOk result (λ t. (p : Pair) → Contains trie p → Contains t p) }
+    ensures filed { IfOk result (λ t. (key : List ℕ) → Contains keys.now key → Contains t (filed_as key place)) }
+{
+    let mut steps = Steps::silent();
+    for key in keys {
+        trie = trie.insert(alloc, key.as_str(), Filed { id: 0, place }, &mut steps)?;
+    }
+    Ok(trie)
+}
+
+/// The zones under their keys.
+fn trie_of(alloc: Global, zones: &[FiledZone]) -> Result<Trie, NoMemory>
+    ensures { IfOk result (λ t. HoldsFirst t zones.now (length zones.now)) }
+{
+    let mut trie = Trie::empty(alloc);
+    for (place, zone) in zones.iter().enumerate() {
+        let Ok(place) = u32::try_from(place) else {
+            return Err(NoMemory);
+        };
+        trie = with_keys(alloc, trie, &zone.keys, place)?;
+    }
+    Ok(trie)
+}
+
+/// The zones, in order.
+fn file_zones(
+    alloc: Global,
+    service: &str,
+    def: &ServiceDef,
+    paths: &Paths,
+    zones: &[ZoneRow],
+) -> Result<Vec<FiledZone>, NoMemory>
+    requires { all_maps_fit (chars service.now) def.now zones.now ≡ true }
+    ensures exact { IfOk result (λ v. maps_of v.items ≡ map (zone_patterns (chars service.now) def.now) zones.now) }
+    ensures scalars { IfOk result (λ v. list_all zone_scalars (maps_of v.items) ≡ true) }
+    ensures filed { IfOk result (λ v. AreFiled paths.now v.items) }
+{
+    let mut filed = Vec::new(alloc);
+    for zone in zones {
+        let compiled = CompiledZone::compile(alloc, service, def, zone)?;
+        let zone = FiledZone::of(alloc, paths.levels(), compiled)?;
+        filed.push(zone)?;
+    }
+    Ok(filed)
 }
 
 /// The places in 32 bits. More zones than these can count count as too many for memory.
@@ -368,7 +286,6 @@ fn in_words(pair: Option<(usize, usize)>) -> Result<Option<(u32, u32)>, NoMemory
 }
 
 /// As `overlapping`, over the computed test alone.
-#[tactic(auto, using(crate::proofs::Pairs::same_pair))]
 fn first_overlap(
     alloc: Global,
     zones: &[ZoneRow],
@@ -380,16 +297,19 @@ fn first_overlap(
     ensures test { IfOk result (λ o. o ≡ first_overlap (chars service.now) def.now zones.now) }
     ensures scalars { IfOk result (λ o. list_all zone_scalars (map (zone_patterns (chars service.now) def.now) zones.now) ≡ true) }
 {
-    let compiled = compile_zones(alloc, service, def, zones)?;
-    let paths = paths(alloc, def)?;
-    let pair = first_pair(alloc, def.levels.as_slice(), paths.as_slice(), &compiled)?;
+    let paths = Paths::of(alloc, def)?;
+    let filed = file_zones(alloc, service, def, &paths, zones)?;
+    let trie = trie_of(alloc, &filed)?;
+    let across = all_across(alloc, &paths, &filed)?;
+    let pair = all_beside(alloc, &paths, &filed, &trie, across)?;
     let words = in_words(pair)?;
     Ok(words)
 }
 
 /// The least pair of places, the first smaller, of zones such that some resource of the service lies in both; None
 /// where no two zones overlap. The pairs are ordered by the first place and then by the second. Each value is read
-/// once.
+/// once. Zones that are filed at one level are compared only where a literal prefix of the one begins one of the
+/// other.
 pub fn overlapping(
     alloc: Global,
     zones: &[ZoneRow],
@@ -404,4 +324,60 @@ pub fn overlapping(
     compiled_overlap_is_decided();
     let pair = first_overlap(alloc, zones, service, def)?;
     Ok(pair)
+}
+
+/// Whether the zone overlaps the other, over what it is compiled to.
+fn meets(
+    alloc: Global,
+    paths: &Paths,
+    zone: &CompiledZone,
+    other: &ZoneRow,
+    service: &str,
+    def: &ServiceDef,
+) -> Result<bool, NoMemory>
+    requires { maps_fit (chars service.now) def.now other.now ≡ true }
+    ensures { IfOk result (λ b. b ≡ some_meet paths.now zone.now (zone_patterns (chars service.now) def.now other.now)) }
+{
+    let other = CompiledZone::compile(alloc, service, def, other)?;
+    some_meet(alloc, paths, &zone.maps, &other.maps)
+}
+
+/// Whether the zone overlaps one of the others, over what it is compiled to.
+fn meets_any(
+    alloc: Global,
+    paths: &Paths,
+    zone: &CompiledZone,
+    others: &[ZoneRow],
+    service: &str,
+    def: &ServiceDef,
+) -> Result<bool, NoMemory>
+    requires { all_maps_fit (chars service.now) def.now others.now ≡ true }
+    ensures { IfOk result (λ b. b ≡ list_any (λ (other : ZoneRow). some_meet paths.now zone.now (zone_patterns (chars service.now) def.now other)) others.now) }
+{
+    for other in others {
+        if meets(alloc, paths, zone, other, service, def)? {
+            return Ok(true);
+        }
+    }
+    Ok(false)
+}
+
+/// Whether some resource of the service lies in the zone and in one of the others (rule Z6 for one zone). It takes
+/// memory for two zones at a time.
+pub fn overlaps_any(
+    alloc: Global,
+    zone: &ZoneRow,
+    others: &[ZoneRow],
+    service: &str,
+    def: &ServiceDef,
+) -> Result<bool, NoMemory>
+    requires lawful { def_fault def.now ≡ None }
+    requires fit { maps_fit (chars service.now) def.now zone.now ≡ true }
+    requires all_fit { all_maps_fit (chars service.now) def.now others.now ≡ true }
+    ensures { IfOk result (λ b. b ≡ list_any (zones_overlap (chars service.now) def.now zone.now) others.now) }
+{
+    let paths = Paths::of(alloc, def)?;
+    let zone = CompiledZone::compile(alloc, service, def, zone)?;
+    let any = meets_any(alloc, &paths, &zone, others, service, def)?;
+    Ok(any)
 }

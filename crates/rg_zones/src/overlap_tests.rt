@@ -1,8 +1,8 @@
 // Tests of overlapping zones, worked out by hand from Ranger's model of security zones.
 use crate::tests::{definition, zones};
-use crate::{ZoneRow, maps_fit, overlapping};
+use crate::{ZoneRow, all_maps_fit, maps_fit, overlapping, overlaps_any};
 use rg_base::NoMemory;
-use rg_defs::{ServiceDef, check_def, paths};
+use rg_defs::{Paths, ServiceDef, check_def};
 use std::alloc::Global;
 
 /// Zones as in `tests`, and the least pair of places that overlap for the service `hive`.
@@ -41,8 +41,39 @@ kafka:database=a+kafka:database=a|none
 hive:database=a+hive:database=b+hive:database=*|0 2
 hive:database=a+hive:database=b+hive:database=b|1 2
 hive:database=*+hive:url=/+hive:database=a+hive:url=/a|0 2
+hive:database=a1,a+hive:database=b,a12+hive:database=a123,b|1 2
+hive:database=b*+hive:database=ab+hive:database=a*|1 2
+hive:url=/b+hive:url=/a/b/c+hive:url=/a|1 2
+hive:database=c+hive:url=/c+hive:database=c;table=t+hive:table=t|0 2
+hive:database=a;table=t+hive:database=a;table=u+hive:database=b;table=t|none
+hive:database=a;table=t*+hive:database=b;table=t+hive:database=a;table=tx|0 2
 hive:database=a|none
 |none";
+
+/// A zone, the others, and whether it overlaps one of these for the service `hive`.
+const OTHERS: &str = "\
+hive:database=fin*|hive:database=hr+hive:database=*nce|yes
+hive:database=fin?|hive:database=hr+hive:database=finance|no
+hive:database=a|kafka:database=a|no
+hive:url=/a|hive:database=a+hive:url=/a/b|yes
+hive:database=a>database=b||no";
+
+/// Whether the zone overlaps one of the others; None where they don't pass their rules.
+fn overlaps(
+    alloc: Global,
+    def: &ServiceDef,
+    zone: &ZoneRow,
+    others: &[ZoneRow],
+) -> Result<Option<bool>, NoMemory> {
+    if check_def(alloc, def).is_err() {
+        return Ok(None);
+    }
+    let paths = Paths::of(alloc, def)?;
+    if !maps_fit(def, &paths, "hive", zone) || !all_maps_fit(def, &paths, "hive", others) {
+        return Ok(None);
+    }
+    Ok(Some(overlaps_any(alloc, zone, others, "hive", def)?))
+}
 
 fn pair_of(
     alloc: Global,
@@ -52,8 +83,8 @@ fn pair_of(
     if check_def(alloc, def).is_err() {
         return Ok(None);
     }
-    let all = paths(alloc, def)?;
-    if !maps_fit(alloc, def, all.as_slice(), "hive", zones)? {
+    let paths = Paths::of(alloc, def)?;
+    if !all_maps_fit(def, &paths, "hive", zones) {
         return Ok(None);
     }
     Ok(Some(overlapping(alloc, zones, "hive", def)?))
@@ -77,5 +108,28 @@ fn pairs(rt: HostRuntime) {
             .expect(&rt, "ample memory")
             .expect(&rt, "zones that pass their rules");
         assert_eq!(rt; found, pair(want), "{row}");
+    }
+}
+
+#[test]
+fn others(rt: HostRuntime) {
+    let def = definition(rt.alloc()).expect(&rt, "ample memory");
+    for row in OTHERS.lines() {
+        let mut fields = row.split('|');
+        let one = zones(rt.alloc(), fields.next().expect(&rt, "a zone")).expect(
+            &rt,
+            "ample memory",
+        );
+        let list = zones(rt.alloc(), fields.next().expect(&rt, "zones")).expect(
+            &rt,
+            "ample memory",
+        );
+        let want = fields.next().expect(&rt, "an answer") == "yes";
+        for zone in one.as_slice() {
+            let found = overlaps(rt.alloc(), &def, zone, list.as_slice())
+                .expect(&rt, "ample memory")
+                .expect(&rt, "zones that pass their rules");
+            assert_eq!(rt; found, want, "{row}");
+        }
     }
 }

@@ -1,12 +1,14 @@
-// The resource maps of a zone as the resources of policies.
-ghost use Rattle.std.specs.Prelude.{◌≡◌, IfOk, option_map};
+// The resource maps of a zone as those of policies.
+ghost use Rattle.std.specs.Prelude.{◌≡◌, ◌++◌, IfOk, map, option_map};
 ghost use Rattle.rg_base.specs.Listed.{listed};
-ghost use Rattle.rg_zones.specs.Zones.{is_recursive, zone_resource, zone_resources};
+ghost use Rattle.rg_zones.specs.Zones.{entry_maps, is_recursive, resource_map, zone_maps, zone_resource, zone_resources};
+ghost use Rattle.std.specs.Str.{chars};
 
-use crate::row::ZoneLevel;
+use crate::row::{ZoneLevel, ZoneRow, ZoneService};
+use crate::rules::is_for;
 use rg_base::{NoMemory, Seq, TryCopy};
 use rg_defs::{Level, ServiceDef, level_of};
-use rg_policy::PolicyResource;
+use rg_policy::{PolicyResource, ResourceMap};
 use std::alloc::Global;
 
 pub(crate) fn is_recursive(level: Option<&Level>) -> bool
@@ -33,8 +35,7 @@ fn zone_resource(
     })
 }
 
-/// The resources of a policy that stand for this map.
-pub(crate) fn zone_resources(
+fn zone_resources(
     alloc: Global,
     def: &ServiceDef,
     levels: &[ZoneLevel],
@@ -43,10 +44,55 @@ pub(crate) fn zone_resources(
 {
     let mut resources = Seq::new(alloc);
     for level in levels {
-        let resource = zone_resource(alloc, def, level)?;
-        if resources.push(resource).is_err() {
-            return Err(NoMemory);
-        }
+        resources.add(zone_resource(alloc, def, level)?)?;
     }
     Ok(resources)
+}
+
+/// The maps, and these after them.
+fn with_maps(
+    alloc: Global,
+    def: &ServiceDef,
+    mut maps: Vec<ResourceMap>,
+    written: &[Seq<ZoneLevel>],
+) -> Result<Vec<ResourceMap>, NoMemory>
+    ensures { IfOk result (λ v. v.items ≡ maps.items ++ map (resource_map def.now) written.now) }
+{
+    for levels in written {
+        let levels = zone_resources(alloc, def, levels.as_slice())?;
+        maps.push(ResourceMap { levels })?;
+    }
+    Ok(maps)
+}
+
+/// The maps, and those of the entry after them where it is for the service.
+fn with_entry(
+    alloc: Global,
+    def: &ServiceDef,
+    service: &str,
+    maps: Vec<ResourceMap>,
+    entry: &ZoneService,
+) -> Result<Vec<ResourceMap>, NoMemory>
+    ensures { IfOk result (λ v. v.items ≡ maps.items ++ map (resource_map def.now) (entry_maps (chars service.now) entry.now)) }
+{
+    if !is_for(service, entry) {
+        return Ok(maps);
+    }
+    with_maps(alloc, def, maps, entry.resources.as_slice())
+}
+
+/// What is matched of the zone.
+pub(crate) fn zone_maps(
+    alloc: Global,
+    def: &ServiceDef,
+    service: &str,
+    zone: &ZoneRow,
+) -> Result<Vec<ResourceMap>, NoMemory>
+    ensures { IfOk result (λ v. v.items ≡ zone_maps (chars service.now) def.now zone.now) }
+{
+    let mut maps = Vec::new(alloc);
+    for entry in zone.services.as_slice() {
+        maps = with_entry(alloc, def, service, maps, entry)?;
+    }
+    Ok(maps)
 }

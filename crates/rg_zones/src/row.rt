@@ -1,5 +1,5 @@
 // The records of a security zone (Ranger's RangerSecurityZone).
-use rg_base::{NoMemory, Seq, Text, TryCopy};
+use rg_base::{Named, NoMemory, Seq, Text, TryCopy};
 use std::alloc::Global;
 
 /// The values of one level of a zone's resource.
@@ -73,5 +73,29 @@ impl TryCopy for ZoneRow {
             admins: self.admins.try_copy(alloc)?,
             auditors: self.auditors.try_copy(alloc)?,
         })
+    }
+}
+
+impl Named for ZoneLevel {
+    ghost named = { λ l. l.level };
+
+    fn name(&self) -> &str {
+        self.level.as_str()
+    }
+}
+
+impl Named for ZoneService {
+    ghost named = { λ s. s.service };
+
+    fn name(&self) -> &str {
+        self.service.as_str()
+    }
+}
+
+impl Named for ZoneRow {
+    ghost named = { λ z. z.name };
+
+    fn name(&self) -> &str {
+        self.name.as_str()
     }
 }

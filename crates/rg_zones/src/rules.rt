@@ -1,19 +1,23 @@
-// The rules that zones have to pass for a service.
-ghost use Rattle.std.specs.Prelude.{◌≡◌, ◌||◌, IfOk, false, filter, length, map, not, option_map};
+// The rules of zones, one by one.
+ghost use Rattle.std.specs.Prelude.{◌≡◌, ◌&&◌, IfOk, false, filter, length, map, not};
 ghost use Rattle.std.specs.List.{list_all, list_any};
 ghost use Rattle.std.specs.Str.{bytes_eq, chars};
-ghost use Rattle.rg_base.specs.Listed.{listed};
-ghost use Rattle.rg_defs.specs.PathTests.{paths_of};
+ghost use Rattle.rg_base.specs.Texts.{all_distinct, is_among};
+ghost use Rattle.rg_defs.specs.PathTests.{on_one_path};
+ghost use Rattle.rg_defs.specs.Rules.{has_level};
+ghost use Rattle.rg_pattern.specs.Reading.{value_fits};
 ghost use Rattle.rg_resmatch.specs.Rules.{levels_fit};
-ghost use Rattle.rg_zones.specs.Rules.{all_maps_fit, entry_fits, is_for, listing_fits, lists_service, map_fits, maps_fit, value_fits, wilds, zone_level_fits};
-ghost use Rattle.rg_zones.specs.Zones.{zone_resources};
+ghost use Rattle.rg_zones.specs.Rules.{all_maps_fit, entry_levels_fit, entry_values_fit, is_some_level, is_zone_of, level_values_fit, listing_fits, lists_each_once, lists_service, map_levels_fit, map_values_fit, maps_fit, policy_zone_fits, services_fit, subjects_exist, tag_policy_zone_fits, zone_levels_fit, zone_values_fit};
+ghost use Rattle.rg_zones.specs.Zones.{is_for, zone_resources};
+ghost use Rattle.rg_zones.specs.declared.row.ZoneLevel.{ZoneLevel};
 
-use crate::resources::zone_resources;
 use crate::row::{ZoneLevel, ZoneRow, ZoneService};
-use rg_base::{NoMemory, Seq, Text, is_among, same_text};
-use rg_defs::{Level, ServiceDef, level_of};
-use rg_pattern::{Pattern, PatternFault};
-use rg_resmatch::levels_fit;
+use rg_base::{
+    NameIndex, Named, NoMemory, Seq, Text, is_among, is_empty, is_named, names_distinct, same_text,
+};
+use rg_defs::{Level, Paths, ServiceDef};
+use rg_pattern::value_fits;
+use rg_policy::Policy;
 use std::alloc::Global;
 
 pub(crate) fn is_for(service: &str, entry: &ZoneService) -> bool
@@ -71,160 +75,212 @@ pub fn listing_fits(is_tag: bool, service: &str, zone: &ZoneRow) -> bool
     }
 }
 
-pub(crate) fn wilds(level: Option<&Level>) -> bool
-    ensures { result ≡ wilds (option_map (λ l. l.now) level.entry) }
+/// Whether none of the things has a name that is there.
+fn none_there<T: Named>(names: &NameIndex, things: &[T]) -> bool
+    ensures { result ≡ list_all (λ x. not (is_among (T.named x) names.now)) things.now }
 {
-    match level {
-        Some(level) => level.wild,
-        None => false,
-    }
+    things.iter().all(|thing| !names.contains(thing.name()))
 }
 
-/// Whether the value is a pattern without `{USER}`.
-fn value_fits(alloc: Global, wild: bool, text: &str) -> Result<bool, NoMemory>
-    ensures { IfOk result (λ fits. fits ≡ value_fits wild (chars text.now)) }
+/// Whether each of the things has a name that is there.
+fn all_there<T: Named>(names: &NameIndex, things: &[T]) -> bool
+    ensures { result ≡ list_all (λ x. is_among (T.named x) names.now) things.now }
 {
-    match Pattern::parse(alloc, text, wild) {
-        Ok(pattern) => Ok(!pattern.has_user()),
-        Err(PatternFault::Empty | PatternFault::TooLong) => Ok(false),
-        Err(PatternFault::NoMemory) => Err(NoMemory),
-    }
+    things.iter().all(|thing| names.contains(thing.name()))
 }
 
-/// Whether each value is a pattern of 1 to 256 characters without `{USER}` (rule Z4 for one level). `wild` is the wildCard
-/// option of the level.
-pub fn all_values_fit(alloc: Global, wild: bool, values: &[Text]) -> Result<bool, NoMemory>
-    ensures { IfOk result (λ fit. fit ≡ list_all (value_fits wild) values.now) }
+/// Whether no service is listed twice, no tag service is, and none is listed as both (the last part of rule Z2). It
+/// takes memory for the names.
+pub fn lists_each_once(alloc: Global, zone: &ZoneRow) -> Result<bool, NoMemory>
+    ensures { IfOk result (λ once. once ≡ lists_each_once zone.now) }
 {
-    for value in values {
-        if !value_fits(alloc, wild, value.as_str())? {
-            return Ok(false);
-        }
-    }
-    Ok(true)
+    let tag_services = zone.tag_services.as_slice();
+    let services = NameIndex::build(alloc, zone.services.as_slice())?;
+    let tagged = NameIndex::build(alloc, tag_services)?;
+    Ok(services.are_distinct() && tagged.are_distinct() && none_there(&services, tag_services))
 }
 
-fn zone_level_fits(alloc: Global, def: &ServiceDef, level: &ZoneLevel) -> Result<bool, NoMemory>
-    ensures { IfOk result (λ fits. fits ≡ zone_level_fits def.now level.now) }
-{
-    match level.values.as_slice() {
-        [] => Ok(false),
-        values => all_values_fit(alloc, wilds(level_of(def, level.level.as_str())), values),
-    }
-}
-
-fn all_levels_fit(alloc: Global, def: &ServiceDef, levels: &[ZoneLevel]) -> Result<bool, NoMemory>
-    ensures { IfOk result (λ fit. fit ≡ list_all (zone_level_fits def.now) levels.now) }
-{
-    for level in levels {
-        if !zone_level_fits(alloc, def, level)? {
-            return Ok(false);
-        }
-    }
-    Ok(true)
-}
-
-/// Whether the levels of the map are distinct ones of the definition on one path.
-fn on_a_path(
+/// Whether each service is among these, which aren't of definition `tag`, each tag service among those, which are,
+/// and none is listed twice (rule Z2). It takes memory for the names.
+pub fn services_fit(
     alloc: Global,
-    def: &ServiceDef,
-    paths: &[Seq<u32>],
-    levels: &[ZoneLevel],
-) -> Result<bool, NoMemory>
-    requires { paths.now ≡ map listed (paths_of def.now.levels.items) }
-    ensures { IfOk result (λ fit. fit ≡ levels_fit def.now false (zone_resources def.now levels.now)) }
-{
-    let resources = zone_resources(alloc, def, levels)?;
-    Ok(levels_fit(def, paths, false, resources.as_slice()))
-}
-
-fn map_fits(
-    alloc: Global,
-    def: &ServiceDef,
-    paths: &[Seq<u32>],
-    levels: &Seq<ZoneLevel>,
-) -> Result<bool, NoMemory>
-    requires { paths.now ≡ map listed (paths_of def.now.levels.items) }
-    ensures { IfOk result (λ fits. fits ≡ map_fits def.now levels.now) }
-{
-    if !on_a_path(alloc, def, paths, levels.as_slice())? {
-        return Ok(false);
-    }
-    all_levels_fit(alloc, def, levels.as_slice())
-}
-
-fn each_map_fits(
-    alloc: Global,
-    def: &ServiceDef,
-    paths: &[Seq<u32>],
-    maps: &[Seq<ZoneLevel>],
-) -> Result<bool, NoMemory>
-    requires { paths.now ≡ map listed (paths_of def.now.levels.items) }
-    ensures { IfOk result (λ fit. fit ≡ list_all (map_fits def.now) maps.now) }
-{
-    for levels in maps {
-        if !map_fits(alloc, def, paths, levels)? {
-            return Ok(false);
-        }
-    }
-    Ok(true)
-}
-
-/// Whether the entry has a map and each of them fits, where it is for the service.
-fn entry_fits(
-    alloc: Global,
-    def: &ServiceDef,
-    paths: &[Seq<u32>],
-    service: &str,
-    entry: &ZoneService,
-) -> Result<bool, NoMemory>
-    requires { paths.now ≡ map listed (paths_of def.now.levels.items) }
-    ensures { IfOk result (λ fits. fits ≡ (not (is_for (chars service.now) entry.now) || entry_fits def.now entry.now)) }
-{
-    if !is_for(service, entry) {
-        return Ok(true);
-    }
-    match entry.resources.as_slice() {
-        [] => Ok(false),
-        maps => each_map_fits(alloc, def, paths, maps),
-    }
-}
-
-fn each_entry_fits(
-    alloc: Global,
-    def: &ServiceDef,
-    paths: &[Seq<u32>],
-    service: &str,
+    services: &NameIndex,
+    tag_services: &NameIndex,
     zone: &ZoneRow,
 ) -> Result<bool, NoMemory>
-    requires { paths.now ≡ map listed (paths_of def.now.levels.items) }
-    ensures { IfOk result (λ fit. fit ≡ maps_fit (chars service.now) def.now zone.now) }
+    ensures { IfOk result (λ fit. fit ≡ services_fit services.now tag_services.now zone.now) }
 {
-    for entry in zone.services.as_slice() {
-        if !entry_fits(alloc, def, paths, service, entry)? {
-            return Ok(false);
-        }
+    let exist = all_there(services, zone.services.as_slice())
+        && all_there(tag_services, zone.tag_services.as_slice());
+    if !exist {
+        return Ok(false);
     }
-    Ok(true)
+    lists_each_once(alloc, zone)
 }
 
-/// Whether each entry of the zones for the service has a resource map, the levels of each map are distinct ones of the
-/// definition on one path (rule Z3), and each has a value, and only patterns without `{USER}` of 1 to 256 characters
-/// (rule Z4). The paths are those of the definition. It takes memory for one map at a time.
-pub fn maps_fit(
-    alloc: Global,
-    def: &ServiceDef,
-    paths: &[Seq<u32>],
-    service: &str,
-    zones: &[ZoneRow],
-) -> Result<bool, NoMemory>
-    requires { paths.now ≡ map listed (paths_of def.now.levels.items) }
-    ensures { IfOk result (λ fit. fit ≡ all_maps_fit (chars service.now) def.now zones.now) }
+fn are_levels(known: &[Level], levels: &[ZoneLevel]) -> bool
+    ensures { result ≡ list_all (λ (l : ZoneLevel). has_level known.now l.level) levels.now }
 {
-    for zone in zones {
-        if !each_entry_fits(alloc, def, paths, service, zone)? {
-            return Ok(false);
-        }
+    levels
+        .iter()
+        .all(|level| is_named(known, level.level.as_str()))
+}
+
+/// Whether these are distinct levels of the definition on one path. That they are its levels is asked first, so that
+/// the work isn't quadratic in their number.
+fn lie_on_a_path(def: &ServiceDef, paths: &Paths, levels: &[ZoneLevel]) -> bool
+    requires { paths.now ≡ def.now.levels.items }
+    ensures { result ≡ (list_all (λ (l : ZoneLevel). has_level def.now.levels.items l.level) levels.now
+        && all_distinct (λ (l m : ZoneLevel). bytes_eq m.level l.level) levels.now
+        && on_one_path def.now.levels.items (map (λ (l : ZoneLevel). l.level) levels.now)) }
+{
+    are_levels(paths.levels(), levels) && names_distinct(levels) && paths.on_one_path(levels)
+}
+
+fn is_some_level(levels: &[ZoneLevel]) -> bool
+    ensures { result ≡ is_some_level levels.now }
+{
+    match levels {
+        [] => false,
+        _ => true,
     }
-    Ok(true)
+}
+
+#[tactic(auto, using(crate::proofs::Fitting::levels_alike))]
+fn levels_fit(def: &ServiceDef, paths: &Paths, levels: &[ZoneLevel]) -> bool
+    requires { paths.now ≡ def.now.levels.items }
+    ensures { result ≡ levels_fit def.now false (zone_resources def.now levels.now) }
+{
+    is_some_level(levels) && lie_on_a_path(def, paths, levels)
+}
+
+fn map_levels_fit(def: &ServiceDef, paths: &Paths, map: &Seq<ZoneLevel>) -> bool
+    requires { paths.now ≡ def.now.levels.items }
+    ensures { result ≡ map_levels_fit def.now map.now }
+{
+    levels_fit(def, paths, map.as_slice())
+}
+
+fn each_map_levels_fit(def: &ServiceDef, paths: &Paths, maps: &[Seq<ZoneLevel>]) -> bool
+    requires { paths.now ≡ def.now.levels.items }
+    ensures { result ≡ list_all (map_levels_fit def.now) maps.now }
+{
+    maps.iter().all(|map| map_levels_fit(def, paths, map))
+}
+
+/// Whether the service has a map in the zone, and the levels of each map are distinct ones of the definition on one
+/// path (rule Z3 for one service of a zone). The paths are those of the definition.
+pub fn entry_levels_fit(def: &ServiceDef, paths: &Paths, entry: &ZoneService) -> bool
+    requires { paths.now ≡ def.now.levels.items }
+    ensures { result ≡ entry_levels_fit def.now entry.now }
+{
+    match entry.resources.as_slice() {
+        [] => false,
+        maps => each_map_levels_fit(def, paths, maps),
+    }
+}
+
+/// Whether the service has a map wherever the zone lists it, and the levels of each map are distinct ones of the
+/// definition on one path (rule Z3 for one service). The paths are those of the definition.
+pub fn zone_levels_fit(def: &ServiceDef, paths: &Paths, service: &str, zone: &ZoneRow) -> bool
+    requires { paths.now ≡ def.now.levels.items }
+    ensures { result ≡ zone_levels_fit (chars service.now) def.now zone.now }
+{
+    zone.services.as_slice().iter().all(|entry| !is_for(service, entry)
+        || entry_levels_fit(def, paths, entry))
+}
+
+fn values_fit(values: &[Text]) -> bool
+    ensures { result ≡ list_all value_fits values.now }
+{
+    values.iter().all(|value| value_fits(value.as_str()))
+}
+
+fn level_values_fit(level: &ZoneLevel) -> bool
+    ensures { result ≡ level_values_fit level.now }
+{
+    match level.values.as_slice() {
+        [] => false,
+        values => values_fit(values),
+    }
+}
+
+fn map_values_fit(map: &Seq<ZoneLevel>) -> bool
+    ensures { result ≡ map_values_fit map.now }
+{
+    map.as_slice().iter().all(level_values_fit)
+}
+
+/// Whether each level of the service's maps in the zone has a value, and only patterns of 1 to 256 characters without
+/// `{USER}` (rule Z4 for one service of a zone).
+pub fn entry_values_fit(entry: &ZoneService) -> bool
+    ensures { result ≡ entry_values_fit entry.now }
+{
+    entry.resources.as_slice().iter().all(map_values_fit)
+}
+
+/// Whether each level of the service's maps in the zone has a value, and only patterns of 1 to 256 characters without
+/// `{USER}` (rule Z4 for one service).
+pub fn zone_values_fit(service: &str, zone: &ZoneRow) -> bool
+    ensures { result ≡ zone_values_fit (chars service.now) zone.now }
+{
+    zone.services
+        .as_slice()
+        .iter()
+        .all(|entry| !is_for(service, entry) || entry_values_fit(entry))
+}
+
+/// Whether the zone passes Z3 and Z4 for the service. The paths are those of the definition.
+pub fn maps_fit(def: &ServiceDef, paths: &Paths, service: &str, zone: &ZoneRow) -> bool
+    requires { paths.now ≡ def.now.levels.items }
+    ensures { result ≡ maps_fit (chars service.now) def.now zone.now }
+{
+    zone_levels_fit(def, paths, service, zone) && zone_values_fit(service, zone)
+}
+
+/// Whether each of the zones passes Z3 and Z4 for the service. The paths are those of the definition.
+pub fn all_maps_fit(def: &ServiceDef, paths: &Paths, service: &str, zones: &[ZoneRow]) -> bool
+    requires { paths.now ≡ def.now.levels.items }
+    ensures { result ≡ all_maps_fit (chars service.now) def.now zones.now }
+{
+    zones.iter().all(|zone| maps_fit(def, paths, service, zone))
+}
+
+/// Whether each role of the zone's admins and auditors is among these (rule Z5).
+pub fn subjects_exist(roles: &NameIndex, zone: &ZoneRow) -> bool
+    ensures { result ≡ subjects_exist roles.now zone.now }
+{
+    all_there(roles, zone.admins.roles.as_slice())
+        && all_there(roles, zone.auditors.roles.as_slice())
+}
+
+fn is_zone_of(is_tag: bool, service: &str, name: &str, zone: &ZoneRow) -> bool
+    ensures { result ≡ is_zone_of is_tag (chars service.now) (chars name.now) zone.now }
+{
+    same_text(zone.name.as_str(), name) && lists_service(is_tag, service, zone)
+}
+
+fn some_zone_of(is_tag: bool, service: &str, name: &str, zones: &[ZoneRow]) -> bool
+    ensures { result ≡ list_any (is_zone_of is_tag (chars service.now) (chars name.now)) zones.now }
+{
+    zones
+        .iter()
+        .any(|zone| is_zone_of(is_tag, service, name, zone))
+}
+
+/// Whether the policy has no zone, or that of one of these zones which lists the service, a tag service among its tag
+/// services (rule V14).
+pub fn policy_zone_fits(is_tag: bool, service: &str, zones: &[ZoneRow], policy: &Policy) -> bool
+    ensures { result ≡ policy_zone_fits is_tag (chars service.now) zones.now policy.now }
+{
+    let name = policy.zone.as_str();
+    is_empty(name) || some_zone_of(is_tag, service, name, zones)
+}
+
+/// Whether the tag policy has no zone, or that of one of these zones (rule V14 of a tag policy in facts).
+pub fn tag_policy_zone_fits(zones: &[ZoneRow], policy: &Policy) -> bool
+    ensures { result ≡ tag_policy_zone_fits zones.now policy.now }
+{
+    let name = policy.zone.as_str();
+    is_empty(name) || is_named(zones, name)
 }

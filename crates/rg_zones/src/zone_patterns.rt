@@ -4,19 +4,18 @@ ghost use Rattle.std.specs.List.{flat_map, list_all};
 ghost use Rattle.std.specs.Str.{bytes_eq, chars};
 ghost use Rattle.rg_base.specs.Texts.{is_among};
 ghost use Rattle.rg_defs.specs.Paths.{level_of};
-ghost use Rattle.rg_pattern.specs.Atoms.{are_scalars, twin};
-ghost use Rattle.rg_pattern.specs.Reading.{atoms_of};
+ghost use Rattle.rg_pattern.specs.Atoms.{are_scalars, literal_prefix, twin};
+ghost use Rattle.rg_pattern.specs.Reading.{atoms_of, value_fits};
 ghost use Rattle.rg_pattern.specs.Tests.{overlaps};
-ghost use Rattle.rg_resmatch.specs.Compiled.{folds};
 ghost use Rattle.rg_resmatch.specs.Tests.{star};
-ghost use Rattle.rg_zones.specs.Overlap.{entry_maps, form_scalars, level_patterns, map_patterns, with_twin, zone_patterns, zone_scalars};
-ghost use Rattle.rg_zones.specs.Rules.{all_maps_fit, entry_fits, is_for, map_fits, maps_fit, value_fits, wilds, zone_level_fits};
-ghost use Rattle.rg_zones.specs.Zones.{is_recursive};
+ghost use Rattle.rg_zones.specs.Overlap.{folds, form_scalars, level_patterns, map_patterns, needed_names, wilds, with_twin, zone_patterns, zone_scalars};
+ghost use Rattle.rg_zones.specs.Rules.{entry_values_fit, level_values_fit, map_values_fit, zone_values_fit};
+ghost use Rattle.rg_zones.specs.Zones.{entry_maps, is_for, is_recursive};
 
 use crate::resources::is_recursive;
 use crate::row::{ZoneLevel, ZoneRow, ZoneService};
-use crate::rules::{is_for, wilds};
-use rg_base::{NoMemory, Seq, Text, TryCopy, is_among};
+use crate::rules::is_for;
+use rg_base::{Named, NoMemory, Seq, Text, TryCopy, is_among};
 use rg_defs::{Level, ServiceDef, level_of};
 use rg_pattern::{Pattern, PatternFault, twin_keeps};
 use std::alloc::Global;
@@ -42,7 +41,7 @@ impl Model for PlainPattern {
 
 impl PlainPattern {
     fn parse(alloc: Global, text: &str, wild: bool) -> Result<PlainPattern, NoMemory>
-        requires { value_fits wild (chars text.now) ≡ true }
+        requires { value_fits (chars text.now) ≡ true }
         ensures { IfOk result (λ p. p ≡ atoms_of wild (chars text.now)) }
     {
         match Pattern::parse(alloc, text, wild) {
@@ -58,6 +57,12 @@ impl PlainPattern {
         twin_keeps();
         let held = self.held.recursive(alloc)?;
         Ok(PlainPattern { held })
+    }
+
+    pub(crate) fn literal_prefix(&self, alloc: Global, fold: bool) -> Result<Text, NoMemory>
+        ensures { IfOk result (λ t. t ≡ literal_prefix fold self.now) }
+    {
+        self.held.literal_prefix(alloc, fold)
     }
 
     /// Whether some text is stood for by both patterns.
@@ -92,19 +97,31 @@ impl Model for CompiledLevel {
     ghost view = { λ l. record { name = l.name; patterns = l.patterns.items; fold = l.fold; lists_star = l.lists_star } };
 }
 
+impl Named for CompiledLevel {
+    ghost named = { λ l. l.name };
+
+    fn name(&self) -> &str {
+        self.name.as_str()
+    }
+}
+
 /// A resource map of a zone.
 #[derive(Drop)]
 pub(crate) struct CompiledMap {
     pub(crate) levels: Vec<CompiledLevel>,
+    /// The names of the levels that every resource in the map names.
+    pub(crate) needed: Vec<Text>,
 }
 
 impl Model for CompiledMap {
-    ghost use Rattle.std.specs.Prelude.{List};
-    ghost use Rattle.rg_zones.specs.Overlap.{LevelPatterns};
+    ghost use Rattle.std.specs.Prelude.{◌≡◌, List};
+    ghost use Rattle.rg_zones.specs.Overlap.{LevelPatterns, needed_names};
 
     ghost Value = { List LevelPatterns };
 
     ghost view = { λ m. m.levels.items };
+
+    ghost invariant = { λ m. m.needed.items ≡ needed_names m.levels.items };
 }
 
 /// The maps of a zone for the service.
@@ -120,6 +137,15 @@ impl Model for CompiledZone {
     ghost Value = { List (List LevelPatterns) };
 
     ghost view = { λ z. z.maps.items };
+}
+
+fn wilds(level: Option<&Level>) -> bool
+    ensures { result ≡ wilds (option_map (λ l. l.now) level.entry) }
+{
+    match level {
+        Some(level) => level.wild,
+        None => false,
+    }
 }
 
 fn folds(level: Option<&Level>) -> bool
@@ -140,7 +166,7 @@ fn with_value(
     wild: bool,
     recursive: bool,
 ) -> Result<Vec<PlainPattern>, NoMemory>
-    requires { value_fits wild (chars text.now) ≡ true }
+    requires { value_fits (chars text.now) ≡ true }
     ensures exact { IfOk result (λ v. v.items ≡ patterns.items ++ with_twin recursive (atoms_of wild (chars text.now))) }
     ensures scalars { IfOk result (λ v. list_all are_scalars v.items ≡ list_all are_scalars patterns.items) }
 {
@@ -149,9 +175,7 @@ fn with_value(
         let twin = pattern.twin(alloc)?;
         return with_two(patterns, pattern, twin);
     }
-    if patterns.push(pattern).is_err() {
-        return Err(NoMemory);
-    }
+    patterns.push(pattern)?;
     Ok(patterns)
 }
 
@@ -164,12 +188,8 @@ fn with_two(
     ensures exact { IfOk result (λ v. v.items ≡ patterns.items ++ pattern ∷ twin ∷ []) }
     ensures scalars { IfOk result (λ v. list_all are_scalars v.items ≡ list_all are_scalars patterns.items) }
 {
-    if patterns.push(pattern).is_err() {
-        return Err(NoMemory);
-    }
-    if patterns.push(twin).is_err() {
-        return Err(NoMemory);
-    }
+    patterns.push(pattern)?;
+    patterns.push(twin)?;
     Ok(patterns)
 }
 
@@ -179,7 +199,7 @@ fn patterns(
     wild: bool,
     recursive: bool,
 ) -> Result<Vec<PlainPattern>, NoMemory>
-    requires { list_all (value_fits wild) texts.now ≡ true }
+    requires { list_all value_fits texts.now ≡ true }
     ensures exact { IfOk result (λ v. v.items ≡ flat_map (λ t. with_twin recursive (atoms_of wild t)) texts.now) }
     ensures scalars { IfOk result (λ v. list_all are_scalars v.items ≡ true) }
 {
@@ -198,7 +218,7 @@ impl CompiledLevel {
         def: &ServiceDef,
         level: &ZoneLevel,
     ) -> Result<CompiledLevel, NoMemory>
-        requires { zone_level_fits def.now level.now ≡ true }
+        requires { level_values_fit level.now ≡ true }
         ensures exact { IfOk result (λ l. l ≡ level_patterns def.now level.now) }
         ensures scalars { IfOk result (λ l. list_all are_scalars l.patterns ≡ true) }
     {
@@ -221,14 +241,12 @@ fn with_level(
     mut levels: Vec<CompiledLevel>,
     written: &ZoneLevel,
 ) -> Result<Vec<CompiledLevel>, NoMemory>
-    requires { zone_level_fits def.now written.now ≡ true }
+    requires { level_values_fit written.now ≡ true }
     ensures exact { IfOk result (λ v. v.items ≡ levels.items ++ level_patterns def.now written.now ∷ []) }
     ensures scalars { IfOk result (λ v. form_scalars v.items ≡ form_scalars levels.items) }
 {
     let level = CompiledLevel::compile(alloc, def, written)?;
-    if levels.push(level).is_err() {
-        return Err(NoMemory);
-    }
+    levels.push(level)?;
     Ok(levels)
 }
 
@@ -237,7 +255,7 @@ fn compile_levels(
     def: &ServiceDef,
     written: &[ZoneLevel],
 ) -> Result<Vec<CompiledLevel>, NoMemory>
-    requires { list_all (zone_level_fits def.now) written.now ≡ true }
+    requires { list_all level_values_fit written.now ≡ true }
     ensures exact { IfOk result (λ v. v.items ≡ map (level_patterns def.now) written.now) }
     ensures scalars { IfOk result (λ v. form_scalars v.items ≡ true) }
 {
@@ -248,18 +266,31 @@ fn compile_levels(
     Ok(levels)
 }
 
+fn needed_names(alloc: Global, levels: &[CompiledLevel]) -> Result<Vec<Text>, NoMemory>
+    ensures { IfOk result (λ v. v.items ≡ needed_names levels.now) }
+{
+    let mut names = Vec::new(alloc);
+    for level in levels {
+        if !level.lists_star {
+            names.push(level.name.try_copy(alloc)?)?;
+        }
+    }
+    Ok(names)
+}
+
 impl CompiledMap {
     fn compile(
         alloc: Global,
         def: &ServiceDef,
         map: &Seq<ZoneLevel>,
     ) -> Result<CompiledMap, NoMemory>
-        requires { map_fits def.now map.now ≡ true }
+        requires { map_values_fit map.now ≡ true }
         ensures exact { IfOk result (λ m. m ≡ map_patterns def.now map.now) }
         ensures scalars { IfOk result (λ m. form_scalars m ≡ true) }
     {
         let levels = compile_levels(alloc, def, map.as_slice())?;
-        Ok(CompiledMap { levels })
+        let needed = needed_names(alloc, &levels)?;
+        Ok(CompiledMap { levels, needed })
     }
 }
 
@@ -271,15 +302,13 @@ fn with_entry(
     mut maps: Vec<CompiledMap>,
     entry: &[Seq<ZoneLevel>],
 ) -> Result<Vec<CompiledMap>, NoMemory>
-    requires { list_all (map_fits def.now) entry.now ≡ true }
+    requires { list_all map_values_fit entry.now ≡ true }
     ensures exact { IfOk result (λ v. v.items ≡ maps.items ++ map (map_patterns def.now) entry.now) }
     ensures scalars { IfOk result (λ v. zone_scalars v.items ≡ zone_scalars maps.items) }
 {
     for map in entry {
         let map = CompiledMap::compile(alloc, def, map)?;
-        if maps.push(map).is_err() {
-            return Err(NoMemory);
-        }
+        maps.push(map)?;
     }
     Ok(maps)
 }
@@ -292,7 +321,7 @@ fn with_entry_for(
     maps: Vec<CompiledMap>,
     entry: &ZoneService,
 ) -> Result<Vec<CompiledMap>, NoMemory>
-    requires { (not (is_for (chars service.now) entry.now) || entry_fits def.now entry.now) ≡ true }
+    requires { (not (is_for (chars service.now) entry.now) || entry_values_fit entry.now) ≡ true }
     ensures exact { IfOk result (λ v. v.items ≡ maps.items ++ map (map_patterns def.now) (entry_maps (chars service.now) entry.now)) }
     ensures scalars { IfOk result (λ v. zone_scalars v.items ≡ zone_scalars maps.items) }
 {
@@ -303,13 +332,13 @@ fn with_entry_for(
 }
 
 impl CompiledZone {
-    fn compile(
+    pub(crate) fn compile(
         alloc: Global,
         service: &str,
         def: &ServiceDef,
         zone: &ZoneRow,
     ) -> Result<CompiledZone, NoMemory>
-        requires { maps_fit (chars service.now) def.now zone.now ≡ true }
+        requires { zone_values_fit (chars service.now) zone.now ≡ true }
         ensures exact { IfOk result (λ z. z ≡ zone_patterns (chars service.now) def.now zone.now) }
         ensures scalars { IfOk result (λ z. zone_scalars z ≡ true) }
     {
@@ -319,26 +348,4 @@ impl CompiledZone {
         }
         Ok(CompiledZone { maps })
     }
-}
-
-/// The zones, in order.
-#[tactic(auto, using(crate::proofs::Scalars::one_more))]
-pub(crate) fn compile_zones(
-    alloc: Global,
-    service: &str,
-    def: &ServiceDef,
-    zones: &[ZoneRow],
-) -> Result<Vec<CompiledZone>, NoMemory>
-    requires { all_maps_fit (chars service.now) def.now zones.now ≡ true }
-    ensures exact { IfOk result (λ v. v.items ≡ map (zone_patterns (chars service.now) def.now) zones.now) }
-    ensures scalars { IfOk result (λ v. list_all zone_scalars v.items ≡ true) }
-{
-    let mut compiled = Vec::new(alloc);
-    for zone in zones {
-        let zone = CompiledZone::compile(alloc, service, def, zone)?;
-        if compiled.push(zone).is_err() {
-            return Err(NoMemory);
-        }
-    }
-    Ok(compiled)
 }

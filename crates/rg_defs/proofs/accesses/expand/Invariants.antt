@@ -4,5 +4,5 @@ use Rattle.rg_base.specs.Listed.{listed}
 use Rattle.rg_defs.proofs.accesses.expand.Given as goal
 
 -- the access and the grants so far
-abbrev pub invariant-loop-text : goal.invariant-loop-text
-invariant-loop-text l = l.list ≡ listed (chars l.access ∷ take l.text-index l.text-items)
+abbrev pub invariant-loop-grant : goal.invariant-loop-grant
+invariant-loop-grant l = l.list ≡ listed (chars l.access ∷ take l.grant-index l.grant-items)

@@ -11,7 +11,7 @@ climb-preserved c =
     let was : c.climb.upwards.items ++ climb levels c.climb.counter (Some c.in-Some.here) ≡ whole =
     ap (λ at. c.climb.upwards.items ++ climb levels c.climb.counter at) (sym c.in-Some.is) ∙ c.climb.invariant.whole in
     let more = climb_more levels c.climb.counter c.climb.upwards.items whole c.in-Some.here (omega arith) was in
-    let pushed : c.push.new.self.items ≡ c.climb.upwards.items ++ c.in-Some.here ∷ [] = c.in-Ok.ensures.items in
+    let pushed : c.push.new.self.items ≡ c.climb.upwards.items ++ c.in-Some.here ∷ [] = c.in_ok-push.ensures.items in
     record {
       whole = ap (λ up. up ++ climb levels (c.climb.counter - 1) c.parent_of-at.result) pushed
           ∙ ap (λ at. (c.climb.upwards.items ++ c.in-Some.here ∷ []) ++ climb levels (c.climb.counter - 1) at) c.parent_of-at.ensures.place ∙ more;

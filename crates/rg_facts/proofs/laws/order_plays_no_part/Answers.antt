@@ -1,27 +1,17 @@
-use Rattle.std.proofs.Common.{None, refl, sym, ◌∙◌}
-use Rattle.rg_base.specs.Listed.{listed}
-use Rattle.rg_facts.specs.Asks.{ask_of, tags_in, tags_of}
-use Rattle.rg_facts.specs.Cells.{judged}
-use Rattle.rg_facts.proofs.Asked.{flow_by, resource_bests, tag_ask, tag_bests}
-use Rattle.rg_facts.proofs.Order.{resource_reordered, tag_policies_reordered, tags_reordered}
+use Rattle.std.proofs.Common.{sym, ◌∙◌}
+use Rattle.rg_facts.specs.Flow.{outcome_from, outcome_of}
+use Rattle.rg_facts.specs.declared.choice.Kind.TheVariants.{Mask, Filter}
+use Rattle.rg_facts.proofs.Cells.{decider_is}
+use Rattle.rg_facts.proofs.Idle.{by_asking}
+use Rattle.rg_facts.proofs.Reordered.{same_choice, same_decider}
 use Rattle.rg_facts.proofs.laws.order_plays_no_part.Goals as goal
 
-pub returns-clause-policies : goal.returns-clause-policies
-returns-clause-policies c = λ facts q these those distinct same.
-    flow_by facts (listed these) facts.tag_policies facts.tag_rows q
-    ∙ (λ i. judged facts.fallback (tag_bests facts.tag_policies.items (tag_ask facts q) (tags_of facts q)) (resource_reordered (ask_of facts q None) these those distinct same i))
-    ∙ sym (flow_by facts (listed those) facts.tag_policies facts.tag_rows q)
+pub returns-clause-candidates : goal.returns-clause-candidates
+unfolding outcome_of
+returns-clause-candidates c = λ fallback s these those told same i. outcome_from fallback
+    ((decider_is s these ∙ same_decider s these those told same ∙ sym (decider_is s those)) i)
+    (same_choice s Filter these those told same i)
+    (same_choice s Mask these those told same i)
 
-pub returns-clause-tag_policies : goal.returns-clause-tag_policies
-returns-clause-tag_policies c = λ facts q these those distinct same.
-    flow_by facts facts.policies (listed these) facts.tag_rows q
-    ∙ (λ i. judged facts.fallback (tag_policies_reordered (tag_ask facts q) (tags_of facts q) these those (λ tag. refl) distinct same i)
-    (resource_bests facts.policies.items (ask_of facts q None)))
-    ∙ sym (flow_by facts facts.policies (listed those) facts.tag_rows q)
-
-pub returns-clause-tags : goal.returns-clause-tags
-returns-clause-tags c = λ facts q these those distinct same.
-    flow_by facts facts.policies facts.tag_policies (listed these) q
-    ∙ (λ i. judged facts.fallback (tags_reordered (tag_ask facts q) (tags_in facts q these) (tags_in facts q those) facts.tag_policies.items (λ tag. refl) distinct same i)
-    (resource_bests facts.policies.items (ask_of facts q None)))
-    ∙ sym (flow_by facts facts.policies facts.tag_policies (listed those) q)
+pub returns-clause-best : goal.returns-clause-best
+returns-clause-best c = by_asking

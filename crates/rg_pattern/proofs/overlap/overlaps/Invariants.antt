@@ -1,6 +1,9 @@
-use Rattle.std.proofs.Common.{drop}
-use Rattle.rg_pattern.specs.Steps.{IsRow}
+use Rattle.std.proofs.Common.{◌≡◌, length}
+use Rattle.rg_pattern.specs.Tests.{overlaps}
 use Rattle.rg_pattern.proofs.overlap.overlaps.Given as goal
 
-abbrev pub invariant-loop-at : goal.invariant-loop-at
-invariant-loop-at l = IsRow l.fold (drop l.at l.pattern) l.other l.row
+abbrev pub invariant-loop-c : goal.invariant-loop-c
+invariant-loop-c l = overlaps l.fold l.pattern l.other ≡ overlaps l.fold l.fn.pattern l.fn.other
+
+abbrev pub decreases-loop-c : goal.decreases-loop-c
+decreases-loop-c l = length l.pattern

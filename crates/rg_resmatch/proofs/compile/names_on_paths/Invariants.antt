@@ -3,4 +3,4 @@ use Rattle.rg_resmatch.specs.Compiled.{named_paths}
 use Rattle.rg_resmatch.proofs.compile.names_on_paths.Given as goal
 
 abbrev pub invariant-loop-path : goal.invariant-loop-path
-invariant-loop-path l = l.named.items ++ named_paths l.levels l.resources (drop l.path-index l.paths) ≡ named_paths l.levels l.resources l.paths
+invariant-loop-path l = l.named.items ++ named_paths l.paths l.resources (drop l.path-index l.all) ≡ named_paths l.paths l.resources l.all

@@ -8,17 +8,19 @@ use Rattle.rg_roles.proofs.Lookup.{absent, present}
 use Rattle.rg_roles.proofs.chart.places_of.Goals as goal
 
 pub returns-in_default : goal.returns-in_default
-returns-in_default c = λ names ix.
+returns-in_default c =
+    let names = c.args.index.now in
     let within : c.loop-role.role-index < length c.args.roles.now = omega arith in
     list_any_at (is_absent names) c.args.roles.now c.loop-role.role-index c.role-item.result within
-    (ap (is_absent names) (sym c.role-item.is ∙ sym c.as_str.ensures.read) ∙ absent names _ (sym (c.place_of.ensures names ix) ∙ c.in_default.is))
+    (ap (is_absent names) (sym c.role-item.is ∙ sym c.as_str.ensures.read) ∙ absent names _ (sym c.place_of.ensures ∙ c.in_default.is))
 
 pub loop-role-preserved : goal.loop-role-preserved
-loop-role-preserved c = λ names ix.
+loop-role-preserved c =
+    let names = c.args.index.now in
     let within : c.loop-role.role-index < length c.args.roles.now = omega arith in
-    let before = c.loop-role.invariant names ix in
+    let before = c.loop-role.invariant in
     let role = sym c.role-item.is ∙ sym c.as_str.ensures.read in
-    let here = ap (place_in names) role ∙ sym (c.place_of.ensures names ix) ∙ c.in-Some.is in
+    let here = ap (place_in names) role ∙ sym c.place_of.ensures ∙ c.in-Some.is in
     let pushed : c.push.new.self.items ≡ c.loop-role.places.items ++ c.in-Some.place ∷ [] = search rules in (
       list_any_more (is_absent names) c.args.roles.now c.loop-role.role-index c.role-item.result within ∙ or_from _ _ before.0 (present names _ c.in-Some.place here),
       map_more (place_in names) c.args.roles.now c.loop-role.role-index c.role-item.result within

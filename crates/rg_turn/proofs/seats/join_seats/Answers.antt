@@ -12,9 +12,9 @@ join_seat-requires g c =
     let s = c.next.invariant.0 in
     let w = i.2.4 in
     let split : c.args.seats.items ≡ (c.pop.new.self.items ++ c.in-Some.next ∷ []) ++ i.0 = i.1 ∙ ap (λ (l : List Seen). l ++ i.0) c.in-Some.ensures.items in
-    let turn : c.in-Some.next.turn ≡ c.args.table.now.table_id = all_at (λ (x : Seen). x.turn ≡ c.args.table.now.table_id) c.pop.new.self.items i.0 c.in-Some.next (subst (All (λ (x : Seen). x.turn ≡ c.args.table.now.table_id)) split c.requires.seats) in (
+    let turn : c.in-Some.next.turn.table ≡ c.args.table.now.table_id = all_at (λ (x : Seen). x.turn.table ≡ c.args.table.now.table_id) c.pop.new.self.items i.0 c.in-Some.next (subst (All (λ (x : Seen). x.turn.table ≡ c.args.table.now.table_id)) split c.requires.seats) in (
       i.2.0 ∙ c.requires.table.0,
-      ap (λ (x : Seen). x.turn) c.next.view_is ∙ turn,
+      ap (λ (x : Seen). x.turn.table) c.next.view_is ∙ turn,
       s.0,
       omega (arith, c.requires.table.1),
       takes_over g.M.Machine.state g.M.Machine.transition _ _ c.loop-next.kept.id c.loop-next.kept.me.0 c.next.inside.seat.id c.next.inside.seat.me.0 i.2.2 i.2.3 (omega (arith, w, c.requires.idle.3)) s.1,

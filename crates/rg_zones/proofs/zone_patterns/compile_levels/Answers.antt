@@ -3,7 +3,7 @@ use Rattle.std.proofs.lemmas.Bool.{and_parts}
 use Rattle.std.specs.List.{list_all}
 use Rattle.rg_zones.specs.declared.row.ZoneLevel.{ZoneLevel}
 use Rattle.rg_zones.specs.Overlap.{LevelPatterns, level_patterns}
-use Rattle.rg_zones.specs.Rules.{zone_level_fits}
+use Rattle.rg_zones.specs.Rules.{level_values_fit}
 use Rattle.rg_zones.proofs.Joining.{next_item}
 use Rattle.rg_zones.proofs.zone_patterns.compile_levels.Goals as goal
 
@@ -23,5 +23,5 @@ loop-one-preserved c =
           ∙ ap (λ (ys : List ZoneLevel). old ++ map (level_patterns def) ys) (sym step)
           ∙ c.loop-one.invariant.so_far;
       scalars = c.in_ok-levels.ensures.scalars ∙ c.loop-one.invariant.scalars;
-      fit = (and_parts (zone_level_fits def x) (list_all (zone_level_fits def) (drop (i + 1) xs)) (ap (list_all (zone_level_fits def)) (sym step) ∙ c.loop-one.invariant.fit)).1;
+      fit = (and_parts (level_values_fit x) (list_all level_values_fit (drop (i + 1) xs)) (ap (list_all level_values_fit) (sym step) ∙ c.loop-one.invariant.fit)).1;
     }

@@ -17,7 +17,7 @@ split_seat-past-requires g c =
     let all = subst (All (λ (x : Seen). x.turn ≡ c.args.self.turn)) (c.in-Some.ensures.items ∙ sym (append-nil (c.pop.new.self.items ++ c.in-Some.first ∷ []))) c.requires.turn in
     let turn : c.in-Some.first.turn ≡ c.args.self.turn = all_at (λ (x : Seen). x.turn ≡ c.args.self.turn) c.pop.new.self.items [] c.in-Some.first all in
     let wide = c.self.invariant.0 in
-    (e.0 ∙ ap (λ (x : Seen). x.turn) c.first.view_is ∙ turn ∙ sym (ap (λ t. t.turn) c.self.view_is), omega (arith, wide), keeps_history g.M.Machine.state g.M.Machine.transition _ _ c.join_seats-kept.result.id c.join_seats-kept.result.me.0 e.2)
+    (e.0 ∙ ap (λ (x : Seen). x.turn.table) c.first.view_is ∙ ap (λ n. n.table) turn ∙ sym (ap (λ t. t.turn.table) c.self.view_is), omega (arith, wide), keeps_history g.M.Machine.state g.M.Machine.transition _ _ c.join_seats-kept.result.id c.join_seats-kept.result.me.0 e.2)
 
 pub returns-clause-begins : goal.returns-clause-begins
 returns-clause-begins g c =

@@ -1,0 +1,3 @@
+pub mod GrantedTexts
+pub mod ItemsCompiled
+pub mod RulesPassed

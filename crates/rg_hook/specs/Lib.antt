@@ -1,0 +1,5 @@
+pub mod Audits
+pub mod Enriching
+pub mod Sinks
+pub mod Tables
+pub mod Written

@@ -1,0 +1,12 @@
+pub mod Again
+pub mod Chars
+pub mod Owned
+pub mod Paths
+pub mod Plain
+pub mod Printed
+pub mod Puts
+pub mod Refusals
+pub mod Right
+pub mod Sorted
+pub mod Utf8
+pub mod Views

@@ -1,0 +1,10 @@
+pub mod CommandLine
+pub mod Commands
+pub mod Follow
+pub mod Limits
+pub mod Moments
+pub mod Ports
+pub mod Replay
+pub mod Runs
+pub mod Statuses
+pub mod Streams

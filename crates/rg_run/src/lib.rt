@@ -1,0 +1,16 @@
+// The program: words and a script in, a text and a status out.
+#![tactic(auto)]
+
+mod command;
+mod follow;
+mod machine;
+mod program;
+mod reading;
+mod replay;
+mod status;
+mod writing;
+
+pub use command::Command;
+pub use machine::start;
+pub use program::run;
+pub use status::Status;

@@ -1,0 +1,108 @@
+// From words and bytes to bytes and a status.
+ghost use Rattle.std.specs.Prelude.{◌≡◌, ◌⊎◌, ℕ, List, Some, None, false, map, string_bytes};
+ghost use Rattle.rg_run.specs.declared.command.Command.{Command};
+ghost use Rattle.rg_run.specs.Commands.{command_of, only_built};
+ghost use Rattle.rg_run.specs.Follow.{worked};
+ghost use Rattle.rg_run.specs.Limits.{is_too_long};
+ghost use Rattle.rg_run.specs.Ports.{ports};
+ghost use Rattle.rg_run.specs.Runs.{Answers, IsRun, OfStatus, Stands};
+
+use crate::command::{Command, command_of};
+use crate::follow::{Worker, follow};
+use crate::reading::{Stop, read_all};
+use crate::replay::State;
+use crate::status::Status;
+use crate::writing::write_all;
+use rg_ports::{Clock, Sink, Source};
+use std::alloc::Global;
+
+/// Reads a script to its end, and then works it.
+fn work_script<W: Worker, S: Source, K: Sink, C: Clock>(
+    alloc: Global,
+    worker: &mut W,
+    source: &mut S,
+    sink: &mut K,
+    clock: &mut C,
+) -> Status
+    ensures run { IsRun (Stands _ (worked W.step worker.old 1))
+        (ports (S.left source.old) (S.ended source.old) (S.faults source.old) (C.given clock.old) (K.held sink.old) (K.faults sink.old))
+        (ports (S.left source.new) (S.ended source.new) (S.faults source.new) (C.given clock.new) (K.held sink.new) (K.faults sink.new)) result }
+    ensures clock_stays { (result ≡ Status.ReadFault) ⊎ (result ≡ Status.TooLong) → clock.new ≡ clock.old }
+{
+    let bytes = match read_all(alloc, source) {
+        Ok(bytes) => bytes,
+        Err(Stop::Fault) => return Status::ReadFault,
+        Err(Stop::NoMemory) => return Status::NoMemory,
+        Err(Stop::TooLong) => {
+            return match write_all(sink, b"too long\n") {
+                Ok(()) => Status::TooLong,
+                Err(_) => Status::WriteFault,
+            };
+        }
+    };
+    match follow(alloc, worker, bytes.as_slice(), clock) {
+        Ok(worked) => match write_all(sink, worked.text.as_bytes()) {
+            Ok(()) => worked.status,
+            Err(_) => Status::WriteFault,
+        },
+        Err(_) => Status::NoMemory,
+    }
+}
+
+/// Answers a command; None is that of words that ask for none.
+fn answer<S: Source, K: Sink, C: Clock>(
+    alloc: Global,
+    command: Option<Command>,
+    source: &mut S,
+    sink: &mut K,
+    clock: &mut C,
+) -> Status
+    ensures run { IsRun (Answers (only_built command))
+        (ports (S.left source.old) (S.ended source.old) (S.faults source.old) (C.given clock.old) (K.held sink.old) (K.faults sink.old))
+        (ports (S.left source.new) (S.ended source.new) (S.faults source.new) (C.given clock.new) (K.held sink.new) (K.faults sink.new)) result }
+    ensures clock_stays { (result ≡ Status.ReadFault) ⊎ (result ≡ Status.TooLong) → clock.new ≡ clock.old }
+    ensures untouched { only_built command ≡ None → (source.new ≡ source.old) × (clock.new ≡ clock.old) }
+{
+    match command {
+        Some(Command::Replay) => work_script(alloc, &mut State::Empty, source, sink, clock),
+        // The other commands aren't built yet.
+        _ => match write_all(
+            sink,
+            b"usage: rangerd replay | serve ADDRESS LINKS | drill SEED POLICIES REQUESTS\n",
+        ) {
+            Ok(()) => Status::Usage,
+            Err(_) => Status::WriteFault,
+        },
+    }
+}
+
+/// Runs the command that the words ask for, and answers the number of its status.
+pub fn run<S: Source, K: Sink, C: Clock>(
+    _rt: &impl Sized,
+    alloc: Global,
+    words: &[String],
+    source: &mut S,
+    sink: &mut K,
+    clock: &mut C,
+) -> u8
+    // Each status comes as `Answers` says: with Done and BadLine the sink got exactly the text of the command's definition over the source's
+    // lines and the clock's moments, after a failed write a prefix of the one text that belongs to the words, the bytes and these moments,
+    // and a count of faults rose exactly where the status says so.
+    ensures answers { OfStatus result (IsRun (Answers (only_built (command_of (map string_bytes words.now))))
+        (ports (S.left source.old) (S.ended source.old) (S.faults source.old) (C.given clock.old) (K.held sink.old) (K.faults sink.old))
+        (ports (S.left source.new) (S.ended source.new) (S.faults source.new) (C.given clock.new) (K.held sink.new) (K.faults sink.new))) }
+
+    // Words that ask for no command leave source and clock alone, and limits are decided before the clock is asked.
+    ensures untouched { only_built (command_of (map string_bytes words.now)) ≡ None → (source.new ≡ source.old) × (clock.new ≡ clock.old) }
+    ensures clock_stays { (result ≡ 1) ⊎ ((result ≡ 3) ⊎ (result ≡ 6)) → clock.new ≡ clock.old }
+
+    // Completeness: a command, bytes within the limits and no fault give the script's status, or want of memory.
+    ensures complete { (command : Command) → only_built (command_of (map string_bytes words.now)) ≡ Some command →
+        S.faults source.new ≡ S.faults source.old → K.faults sink.new ≡ K.faults sink.old →
+        (bytes : List ℕ) → S.left source.old ≡ Some bytes → is_too_long bytes ≡ false → (result ≡ 0) ⊎ ((result ≡ 2) ⊎ (result ≡ 9)) }
+{
+    match command_of(alloc, words) {
+        Ok(command) => answer(alloc, command, source, sink, clock).number(),
+        Err(_) => Status::NoMemory.number(),
+    }
+}

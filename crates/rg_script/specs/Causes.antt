@@ -1,0 +1,33 @@
+-- Why a line is bad where it stands.
+use Rattle.std.specs.Prelude.{ℕ, Bool, true, false, List, Option, Some, None, Result, Ok, Err, if◌then◌else◌}
+use Rattle.rg_base.specs.declared.numbers.Moment.{Moment}
+use Rattle.rg_facts.specs.Sound.{sound}
+use Rattle.rg_script.specs.declared.cause.Cause.{Cause}
+use Rattle.rg_script.specs.declared.cause.Cause.TheVariants.{NoWord, Json, OutOfPlace, Unsound}
+use Rattle.rg_script.specs.declared.cause.Place.{Place}
+use Rattle.rg_script.specs.declared.cause.Place.TheVariants as place
+use Rattle.rg_script.specs.declared.line.Line.{Line}
+use Rattle.rg_script.specs.declared.line.Line.TheVariants as line
+use Rattle.rg_script.specs.Line.{line_read}
+
+-- facts come once, at the start, and are sound; requests come after them
+abbrev pub place_cause : Place → Line → Option Cause
+place_cause place line.Blank = None
+place_cause place.Start (line.Facts facts) = if sound facts then None else Some Unsound
+place_cause place.Facts (line.Facts facts) = Some OutOfPlace
+place_cause place.Start (line.Decide q) = Some OutOfPlace
+place_cause place.Facts (line.Decide q) = None
+
+abbrev pub cause_from : Place → Result Line Cause → Option Cause
+cause_from place (Ok line) = place_cause place line
+cause_from place (Err cause) = Some cause
+
+-- why the line is bad where it stands, None where it isn't
+abbrev pub cause_of : Place → List ℕ → Moment → Option Cause
+cause_of place bytes now = cause_from place (line_read bytes now)
+
+-- the line isn't read at all
+abbrev pub is_unread : Option Cause → Bool
+is_unread (Some NoWord) = true
+is_unread (Some (Json path kind)) = true
+is_unread _ = false

@@ -1,0 +1,13 @@
+// Scripts: what their lines ask, and why a line is bad.
+#![tactic(auto)]
+
+mod cause;
+mod line;
+mod lines;
+#[cfg(test)]
+mod tests;
+mod word;
+
+pub use cause::{Cause, Place, explain_line};
+pub use line::{Line, LineFault, read_line};
+pub use lines::split_line;

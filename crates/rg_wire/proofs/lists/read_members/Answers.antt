@@ -1,5 +1,0 @@
-use Rattle.rg_wire.proofs.Sorted.{sorted}
-use Rattle.rg_wire.proofs.lists.read_members.Goals as goal
-
-pub returns-clause-sorted : goal.returns-clause-sorted
-returns-clause-sorted g c = sorted c.args.members.now.entries c.iter-key-items.ensures.ordered

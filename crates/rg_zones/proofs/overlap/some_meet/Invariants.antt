@@ -1,6 +1,0 @@
-use Rattle.std.proofs.Common.{◌≡◌, drop}
-use Rattle.rg_zones.specs.Overlap.{some_meet}
-use Rattle.rg_zones.proofs.overlap.some_meet.Given as goal
-
-abbrev pub invariant-loop-map : goal.invariant-loop-map
-invariant-loop-map l = some_meet l.levels (drop l.map-index l.maps) l.others ≡ some_meet l.levels l.maps l.others
