@@ -29,9 +29,6 @@ equal_from_eq Less e = cc
 equal_from_eq Equal e = refl
 equal_from_eq Greater e = cc
 
-pub unequal_from : (o : Ordering) → false ≡ is_eq o → o ≡ Equal → ⊥
-unequal_from o h e = let bad : false ≡ true = h ∙ ap is_eq e in cc
-
 -- two comparisons of which the first decides before the second both tie where the two together do
 both_tie : (o s : Ordering) → ordering_then o s ≡ Equal → (o ≡ Equal) × (s ≡ Equal)
 both_tie Less s e = cc
@@ -41,6 +38,10 @@ both_tie Greater s e = cc
 -- keys that tie are the same
 pub same_key : (p q : List ℕ) → slice_cmp nat_cmp p q ≡ Equal → p ≡ q
 same_key p q e = slice_cmp-IsAntisymmetric nat_cmp-IsAntisymmetric p q e
+
+-- characters that tie are the same
+pub same_character : (c d : ℕ) → nat_cmp c d ≡ Equal → c ≡ d
+same_character c d e = nat_cmp-IsAntisymmetric c d e
 
 -- entries that tie are the same
 pub same_entry : (a b : Filed) → entry_order a b ≡ Equal → a ≡ b

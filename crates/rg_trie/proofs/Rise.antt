@@ -43,6 +43,9 @@ module _ {X : Type 0} (R : X → X → Type 0) where
   rising_right [] ys h = h
   rising_right (x ∷ xs) ys h = rising_right xs ys h.1
 
+  pub rising_rest : (xs ys : List X) (n : ℕ) → IsRising R (xs ++ ys) → IsRising R (drop n xs ++ ys)
+  rising_rest xs ys n h = rising_right (take n xs) (drop n xs ++ ys) (subst (IsRising R) (ap (λ zs. zs ++ ys) (sym (take-append-drop n xs)) ∙ append_assoc (take n xs) (drop n xs) ys) h)
+
   pub rising_across : (xs ys : List X) → IsRising R (xs ++ ys) → Across xs ys
   rising_across [] ys h = All-nil (λ x. All (R x) ys)
   rising_across (x ∷ xs) ys h = All-cons (λ z. All (R z) ys) x xs (all_right (R x) xs ys h.0) (rising_across xs ys h.1)
@@ -140,6 +143,10 @@ module _ {X : Type 0} (R : X → X → Type 0) where
           let last : test (get_or (x ∷ xs) (length (x ∷ xs) - 1) x) ≡ true = subst (λ ys. All (λ y. test y ≡ true) ys) (take_all n (x ∷ xs) ge) a (length (x ∷ xs) - 1) x (omega arith) in
           absurd (both_ways _ e (ends_last test early (x ∷ xs) x (omega arith) ∙ last))
     ]
+
+    pub stops_within : (xs : List X) (n : ℕ) → ends_passing test xs ≡ false → n ≤ length xs → All (λ x. test x ≡ true) (take n xs) → n < length xs
+    stops_within [] n e b a = cc
+    stops_within (x ∷ xs) n e b a = stops_inside (x ∷ xs) n (omega arith) e b a
 
     pub fails_from : {B : Type 0} (f : B → List X) (bs : List B) (b n : ℕ) (d : B) → b < length bs → IsRising R (flat_map f bs) → n < length (f (get_or bs b d)) → All (λ x. test x ≡ false) (drop n (f (get_or bs b d))) → All (λ x. test x ≡ false) (drop n (flat_map f (drop b bs)))
     fails_from f bs b n d l h m a = all_fail test early (flat_map f (drop b bs)) (rising_dropped f bs b h) n

@@ -11,7 +11,7 @@ use crate::pair::{Block, Filed, Pair};
 use std::sync::Arc;
 
 /// Whether the last of the pairs comes before the text, where there is one.
-fn ends_before(pairs: &[Pair], text: &str, fold: bool, entry: Option<Filed>) -> bool
+pub(crate) fn ends_before(pairs: &[Pair], text: &str, fold: bool, entry: Option<Filed>) -> bool
     ensures { result ≡ ends_passing (before (folded fold (chars text.now)) entry) pairs.now }
 {
     match pairs.last() {
