@@ -1,5 +1,5 @@
 -- A key that is a prefix of a text, and the order of keys.
-use Rattle.std.proofs.Common.{◌≡◌, ℕ, ◌+◌, ◌<◌, ◌≤◌, zero, suc, Bool, true, false, List, [], ◌∷◌, ◌++◌, length, get_or, take, map, filter, cond, refl, sym, ap, ◌∙◌, subst, arith, inl, inr, None}
+use Rattle.std.proofs.Common.{◌≡◌, ℕ, ◌+◌, ◌<◌, ◌≤◌, zero, suc, Bool, true, false, List, [], ◌∷◌, ◌++◌, length, get_or, take, map, filter, cond, refl, sym, ap, ◌∙◌, subst, arith, inl, inr}
 use Rattle.std.proofs.lemmas.Bool.{cases_lt, false_from_ne_true, both_ways}
 use Rattle.std.proofs.lemmas.Bool.Decides.{nat_tests}
 use Rattle.std.proofs.lemmas.Cmp.{nat_list_cmp_total, nat_cmp_total, tied_itself, alike_right}
@@ -11,6 +11,7 @@ use Rattle.std.specs.List.{All, AllPairs}
 use Rattle.std.specs.Ordering.{nat_cmp, ordering_then, ordering_reverse, is_gt}
 use Rattle.std.specs.declared.cmp.Ordering.{Ordering}
 use Rattle.std.specs.declared.cmp.Ordering.TheVariants.{Less, Equal, Greater}
+use Rattle.rg_trie.specs.declared.order.Mark.TheVariants.{Start}
 use Rattle.rg_trie.specs.declared.pair.Pair.{Pair}
 use Rattle.rg_trie.specs.Blocks.{IsRising}
 use Rattle.rg_trie.specs.Pairs.{Below, entry_order}
@@ -43,7 +44,7 @@ not_above : (p q : List ℕ) → keys p q ≡ Greater → is_gt (keys p q) ≡ f
 not_above p q e f = both_ways _ f (ap is_gt e)
 
 -- one that is above a front of the text, and below the next, is not under it
-between : (text : List ℕ) (n : ℕ) (p : Pair) → keys p.key (take n text) ≡ Greater → before (take (n + 1) text) None p ≡ true → is_under text p ≡ false
+between : (text : List ℕ) (n : ℕ) (p : Pair) → keys p.key (take n text) ≡ Greater → before (take (n + 1) text) Start p ≡ true → is_under text p ≡ false
 between text n p g b = false_from_ne_true _ (λ u. elim (cases_lt n (length p.key)) [
   | inl lt ↦
       let up = prefix_up text (n + 1) (length p.key) (omega arith) in
@@ -79,13 +80,13 @@ all_above t p ps h g (suc k) d l = above_next t p (get_or ps k d) (h.0 k d (omeg
 
 -- a walk goes on to the prefix that the first key isn't above, and passes over nothing that is under the text
 pub skips : (text next : List ℕ) (p : Pair) (ps passed rest : List Pair) → IsRising Below (p ∷ ps) → IsBetween text p.key next → p ∷ ps ≡ passed ++ rest
-    → All (λ q. before next None q ≡ true) passed → entries_under text (p ∷ ps) ≡ entries_under text rest
+    → All (λ q. before next Start q ≡ true) passed → entries_under text (p ∷ ps) ≡ entries_under text rest
 skips text next p ps passed rest h b e a =
     let n = b.shared in
     let above = subst (All (λ q. keys q.key (take n text) ≡ Greater)) e (all_above (take n text) p ps h b.after) in
     let gone : All (λ q. is_under text q ≡ false) passed =
     λ k d l. between text n (get_or passed k d) (all_left Below (λ q. keys q.key (take n text) ≡ Greater) passed rest above k d l)
-    (subst (λ w. before w None (get_or passed k d) ≡ true) b.longer (a k d l)) in
+    (subst (λ w. before w Start (get_or passed k d) ≡ true) b.longer (a k d l)) in
     ap (entries_under text) e ∙ ap (map (λ q. q.entry)) (filter-append (is_under text) passed rest ∙ ap (λ xs. xs ++ filter (is_under text) rest) (filter_none (is_under text) passed gone))
 
 -- a walk ends at a key that is above the whole text

@@ -10,6 +10,7 @@ use Rattle.std.specs.List.Sorted.{IsPartitionedBy}
 use Rattle.std.specs.Option.{option_map_or}
 use Rattle.rg_trie.specs.Blocks.{IsRising}
 use Rattle.rg_trie.specs.Sought.{ends_passing}
+use Rattle.rg_trie.proofs.Shares.{counted_drop}
 
 module _ {X : Type 0} (R : X → X → Type 0) where
   pub rises_at : (xs : List X) → IsRising R xs → (i j : ℕ) (d : X) → i < j → j < length xs → R (get_or xs i d) (get_or xs j d)
@@ -161,7 +162,7 @@ module _ {X B : Type 0} (f : B → List X) where
       ∙ ap (λ xs. flat_map f (take b bs) ++ xs) (take-append-drop n (flat_map f (drop b bs)))
       ∙ sym (flat_map-append f (take b bs) (drop b bs)) ∙ ap (flat_map f) (take-append-drop b bs)
 
-pub ruleset cuts = (cut_whole, All-take, All-drop)
+pub ruleset cuts = (cut_whole, counted_drop, All-take, All-drop)
 
 module _ {X : Type 0} (R : X → X → Type 0) (test : X → Bool) (early : (p q : X) → R p q → test q ≡ true → test p ≡ true) where
   -- a list that rises fails from where its front begins to fail

@@ -85,16 +85,28 @@ fn compare_entries(a: Filed, b: Filed) -> Ordering
     }
 }
 
-/// Whether a pair comes before the text with that entry, or before the text with any entry.
-pub(crate) fn is_before(pair: &Pair, text: &str, fold: bool, entry: Option<Filed>) -> bool
-    ensures { result ≡ before (folded fold (chars text.now)) entry pair.now }
+/// A place among the pairs that have a key.
+#[derive(Clone, Copy)]
+pub(crate) enum Mark {
+    /// Before all of them.
+    Start,
+    /// Where the entry stands or would stand.
+    At(Filed),
+    /// Behind all of them.
+    End,
+}
+
+/// Whether a pair comes before the mark of the text as key.
+pub(crate) fn is_before(pair: &Pair, text: &str, fold: bool, mark: Mark) -> bool
+    ensures { result ≡ before (folded fold (chars text.now)) mark pair.now }
 {
     match key_order(pair.key.as_str(), text, fold) {
         Ordering::Less => true,
         Ordering::Greater => false,
-        Ordering::Equal => match entry {
-            None => false,
-            Some(entry) => compare_entries(pair.entry, entry) == Ordering::Less,
+        Ordering::Equal => match mark {
+            Mark::Start => false,
+            Mark::At(entry) => compare_entries(pair.entry, entry) == Ordering::Less,
+            Mark::End => true,
         },
     }
 }
