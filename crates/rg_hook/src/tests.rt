@@ -4,7 +4,7 @@ ghost use Rattle.rg_base.specs.Pairs.{value_of};
 
 use crate::{
     AuditFan, AuditSink, Enricher, Enrichers, FixedPair, MemAudit, PairRow, SubjectPairs,
-    WriterSink,
+    WorkerHooks, WriterSink,
 };
 use rg_base::{Failed, Moment, NoMemory, Pair, Seq, Tally, Text, TryCopy, value_of};
 use rg_policy::{AccessRequest, Resource};
@@ -183,6 +183,8 @@ fn request(alloc: Global, user: &str, groups: &[&str]) -> Result<AccessRequest, 
     })
 }
 
+fn check_send<T: Send>(_hooks: &T) {}
+
 fn check_pairs(rt: &impl Abort, request: &AccessRequest, wanted: &str) {
     let mut wanted = wanted.split('|');
     for pair in request.context.as_slice() {
@@ -205,7 +207,11 @@ fn each_enricher_sees_the_pairs_of_those_before_it(rt: HostRuntime) -> Result<()
     list.push(Box::new(alloc, FixedPair { pair: tier })?)?;
     list.push(Box::new(alloc, subjects)?)?;
     list.push(Box::new(alloc, second_key(alloc, "team", "late")?)?)?;
-    let mut enrichers = Enrichers::new(list);
+    let mut hooks = WorkerHooks {
+        sinks: AuditFan::new(Vec::new(alloc)),
+        enrichers: Enrichers::new(list),
+    };
+    check_send(&hooks);
     for (user, groups, wanted) in [
         ("ann", ["audit", "sales"], "from|app|tier|gold|desk|7"),
         (
@@ -217,7 +223,7 @@ fn each_enricher_sees_the_pairs_of_those_before_it(rt: HostRuntime) -> Result<()
         ("bob", ["ann", "x"], "from|app|tier|gold"),
     ] {
         let mut request = request(alloc, user, &groups)?;
-        enrichers.run(alloc, &mut request)?;
+        hooks.enrichers.run(alloc, &mut request)?;
         check_pairs(&rt, &request, wanted);
     }
     Ok(())
