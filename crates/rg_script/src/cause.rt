@@ -5,7 +5,7 @@ ghost use Rattle.rg_script.specs.Line.{line_of};
 
 use crate::line::{Line, Unread, line_or_cause};
 use rg_base::{Moment, NoMemory, Text};
-use rg_facts::is_sound;
+use rg_sound::is_sound;
 use rg_wire::WireKind;
 use std::alloc::Global;
 

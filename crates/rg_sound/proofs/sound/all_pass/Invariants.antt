@@ -1,7 +1,7 @@
 use Rattle.std.proofs.Common.{◌≡◌, drop}
 use Rattle.std.specs.List.{list_all}
 use Rattle.rg_facts.specs.Sound.{passes}
-use Rattle.rg_facts.proofs.sound.all_pass.Given as goal
+use Rattle.rg_sound.proofs.sound.all_pass.Given as goal
 
 -- the rest decides
 abbrev pub invariant-loop-policy : goal.invariant-loop-policy

@@ -14,14 +14,13 @@ ghost use Rattle.rg_roles.specs.Members.{names_of};
 ghost use Rattle.rg_zones.specs.Overlap.{first_overlap};
 ghost use Rattle.rg_zones.specs.Rules.{all_maps_fit, listing_fits, policy_zone_fits, subjects_exist, tag_policy_zone_fits};
 
-use crate::building::frame_of;
-use crate::facts::Facts;
 use crate::ids::{ids_distinct, ids_sound};
 use rg_base::{NameIndex, NoMemory, same_text};
 use rg_cond::{TimeZoneFault, TimeZones};
 use rg_defs::{DefFault, Paths, ServiceDef, check_def, tag_name};
 use rg_effect::subjects_fit;
 use rg_evalr::{Frame, Side, policy_fault};
+use rg_facts::{Facts, frame_of};
 use rg_policy::{Policy, TimeZoneRow};
 use rg_resmatch::tagged_fit;
 use rg_roles::{RoleRow, role_fault};
@@ -73,7 +72,7 @@ fn tag_def_sound(alloc: Global, facts: &Facts) -> Result<bool, NoMemory>
     }
 }
 
-#[tactic(auto, unfolding(crate::specs::Sound::defs_sound))]
+#[tactic(auto, unfolding(rg_facts::specs::Sound::defs_sound))]
 fn defs_sound(alloc: Global, facts: &Facts) -> Result<bool, NoMemory>
     ensures { IfOk result (λ sound. sound ≡ defs_sound facts.now) }
 {
@@ -103,7 +102,7 @@ fn role_names(alloc: Global, rows: &[RoleRow]) -> Result<NameIndex, NoMemory>
     NameIndex::build(alloc, rows)
 }
 
-#[tactic(auto, unfolding(crate::specs::Sound::roles_sound))]
+#[tactic(auto, unfolding(rg_facts::specs::Sound::roles_sound))]
 fn roles_sound(alloc: Global, facts: &Facts, names: &NameIndex) -> Result<bool, NoMemory>
     requires { names.now ≡ names_of facts.now.roles.items }
     ensures { IfOk result (λ sound. sound ≡ roles_sound facts.now) }
@@ -135,7 +134,7 @@ fn all_tag_zones_fit(zones: &[ZoneRow], policies: &[Policy]) -> bool
         .all(|policy| tag_policy_zone_fits(zones, policy))
 }
 
-#[tactic(auto, unfolding(crate::specs::Sound::zone_names_sound))]
+#[tactic(auto, unfolding(rg_facts::specs::Sound::zone_names_sound))]
 fn zone_names_sound(facts: &Facts) -> bool
     ensures { result ≡ zone_names_sound facts.now }
 {
@@ -177,7 +176,7 @@ fn none_overlap(alloc: Global, facts: &Facts) -> Result<bool, NoMemory>
 }
 
 /// The definition has passed its own rules.
-#[tactic(auto, unfolding(crate::specs::Sound::zones_sound))]
+#[tactic(auto, unfolding(rg_facts::specs::Sound::zones_sound))]
 fn zones_sound(
     alloc: Global,
     facts: &Facts,
@@ -228,7 +227,7 @@ fn row_ids_distinct(alloc: Global, rows: &[TagRow]) -> Result<bool, NoMemory>
     ids_distinct(alloc, ids.as_slice())
 }
 
-#[tactic(auto, unfolding(crate::specs::Sound::tag_rows_sound))]
+#[tactic(auto, unfolding(rg_facts::specs::Sound::tag_rows_sound))]
 fn tag_rows_sound(
     alloc: Global,
     def: &ServiceDef,
@@ -297,7 +296,7 @@ fn tag_policies_pass(alloc: Global, frame: &Frame, policies: &[Policy]) -> Resul
 }
 
 /// The definitions have passed their own rules.
-#[tactic(auto, using(crate::proofs::Soundness::tag_def_of), unfolding(crate::specs::Sound::policies_sound))]
+#[tactic(auto, using(rg_facts::proofs::Soundness::tag_def_of), unfolding(rg_facts::specs::Sound::policies_sound))]
 fn policies_sound(alloc: Global, facts: &Facts, paths: &Paths) -> Result<bool, NoMemory>
     requires defs { defs_sound facts.now ≡ true }
     requires paths { paths.now ≡ facts.now.def.levels.items }
@@ -314,7 +313,7 @@ fn policies_sound(alloc: Global, facts: &Facts, paths: &Paths) -> Result<bool, N
 }
 
 /// Whether the facts are sound. It takes memory for the ids, the paths, the time zones, the names of the roles and patterns.
-#[tactic(auto, using(crate::proofs::Soundness::lawful_def), unfolding(crate::specs::Sound::sound))]
+#[tactic(auto, using(rg_facts::proofs::Soundness::lawful_def), unfolding(rg_facts::specs::Sound::sound))]
 pub fn is_sound(alloc: Global, facts: &Facts) -> Result<bool, NoMemory>
     ensures { IfOk result (λ is_sound. is_sound ≡ sound facts.now) }
 {

@@ -1,7 +1,7 @@
 use Rattle.std.proofs.Common.{rules, ◌≡◌, IfOk, subst}
-use Rattle.rg_facts.proofs.Soundness.{policies_sound_by}
+use Rattle.rg_sound.proofs.Parts.{policies_sound_by}
 use Rattle.rg_facts.specs.Sound.{tag_policies_pass}
-use Rattle.rg_facts.proofs.sound.policies_sound.Goals as goal
+use Rattle.rg_sound.proofs.sound.policies_sound.Goals as goal
 
 pub returns : goal.returns
 returns c =

@@ -1,0 +1,3 @@
+mod Distinct
+mod Numbered
+mod Parts
