@@ -1,3 +1,3 @@
 mod Distinct
+pub mod Law
 mod Numbered
-mod Parts

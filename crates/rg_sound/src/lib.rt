@@ -1,7 +1,9 @@
-// Whether facts are sound.
+// What makes facts unsound.
 #![tactic(auto)]
 
 mod ids;
 mod sound;
+mod unsound;
 
-pub use sound::is_sound;
+pub use sound::{is_sound, sound_without_cause, unsound_cause};
+pub use unsound::Unsound;

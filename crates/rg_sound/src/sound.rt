@@ -1,20 +1,28 @@
-// Whether facts are sound.
-ghost use Rattle.std.specs.Prelude.{◌≡◌, true, false, None, IfOk, MatchOption, is_none, map};
-ghost use Rattle.std.specs.List.{list_all};
+// What makes facts unsound, and whether anything does.
+ghost use Rattle.std.specs.Prelude.{◌≡◌, ℕ, true, None, IfOk, is_none, map, not, option_map, position};
+ghost use Rattle.std.specs.List.{find};
+ghost use Rattle.std.specs.Str.{chars};
 ghost use Rattle.std.specs.Ordering.{int_eq};
 ghost use Rattle.rg_base.specs.Texts.{all_distinct};
-ghost use Rattle.rg_cond.specs.Zones.{bad_rule};
+ghost use Rattle.rg_policy.specs.declared.policy.Policy.{Policy};
+ghost use Rattle.rg_cond.specs.Zones.{bad_rule, place_number};
 ghost use Rattle.rg_defs.specs.Rules.{def_fault};
 ghost use Rattle.rg_effect.specs.PolicyRules.{subjects_fit};
 ghost use Rattle.rg_evalr.specs.Frames.{def_of};
-ghost use Rattle.rg_facts.specs.Candidates.{frame_of};
-ghost use Rattle.rg_facts.specs.Sound.{defs_sound, is_no_policy, is_tag_def, passes, policies_sound, roles_sound, row_ids, row_sound, sound, tag_def_sound, tag_policies_pass, tag_rows_sound, versions_fit, zone_names_sound, zones_sound};
+ghost use Rattle.rg_facts.specs.declared.facts.Facts.{Facts};
+ghost use Rattle.rg_facts.specs.Sound.{is_no_policy, is_tag_def, passes, row_ids, sound, tag_def_sound, versions_fit};
+ghost use Rattle.rg_resmatch.specs.Rules.{tagged_fit};
 ghost use Rattle.rg_roles.specs.Faults.{fault_of};
 ghost use Rattle.rg_roles.specs.Members.{names_of};
+ghost use Rattle.rg_tags.specs.Rules.{tags_fit};
+ghost use Rattle.rg_tags.specs.declared.row.TagRow.{TagRow};
 ghost use Rattle.rg_zones.specs.Overlap.{first_overlap};
-ghost use Rattle.rg_zones.specs.Rules.{all_maps_fit, listing_fits, policy_zone_fits, subjects_exist, tag_policy_zone_fits};
+ghost use Rattle.rg_zones.specs.Rules.{all_maps_fit, listing_fits, policy_zone_fits, subjects_exist, tag_policy_zone_fits, zone_levels_fit, zone_values_fit};
+ghost use Rattle.rg_sound.specs.Causes.{def_causes, faulty, first_cause, first_faulty, first_some, policy_causes, role_causes, tag_def_causes, tag_policies_cause, tag_row_causes, unless, zone_causes, zone_name_causes};
+ghost use Rattle.rg_sound.specs.declared.unsound.Unsound.TheVariants as cause;
 
 use crate::ids::{ids_distinct, ids_sound};
+use crate::unsound::Unsound;
 use rg_base::{NameIndex, NoMemory, same_text};
 use rg_cond::{TimeZoneFault, TimeZones};
 use rg_defs::{DefFault, Paths, ServiceDef, check_def, tag_name};
@@ -23,11 +31,11 @@ use rg_evalr::{Frame, Side, policy_fault};
 use rg_facts::{Facts, frame_of};
 use rg_policy::{Policy, TimeZoneRow};
 use rg_resmatch::tagged_fit;
-use rg_roles::{RoleRow, role_fault};
+use rg_roles::role_fault;
 use rg_tags::{TagRow, tags_fit};
 use rg_zones::{
-    ZoneRow, all_maps_fit, listing_fits, overlapping, policy_zone_fits, subjects_exist,
-    tag_policy_zone_fits,
+    ZoneRow, listing_fits, overlapping, policy_zone_fits, subjects_exist, tag_policy_zone_fits,
+    zone_levels_fit, zone_values_fit,
 };
 use std::alloc::Global;
 
@@ -41,13 +49,20 @@ fn versions_fit(facts: &Facts) -> bool
         && (facts.tag_version.0 <= LAST_VERSION && facts.role_version.0 <= LAST_VERSION)
 }
 
-/// Whether the definition passes its rules.
-fn def_sound(alloc: Global, def: &ServiceDef) -> Result<bool, NoMemory>
-    ensures { IfOk result (λ sound. sound ≡ is_none (def_fault def.now)) }
+/// The cause, unless the test holds.
+fn unless(holds: bool, cause: Unsound) -> Option<Unsound>
+    ensures { result ≡ unless holds cause }
+{
+    if holds { None } else { Some(cause) }
+}
+
+/// The first rule that the definition fails.
+fn def_rule(alloc: Global, def: &ServiceDef) -> Result<Option<u8>, NoMemory>
+    ensures { IfOk result (λ rule. rule ≡ def_fault def.now) }
 {
     match check_def(alloc, def) {
-        Ok(()) => Ok(true),
-        Err(DefFault::Rule(_)) => Ok(false),
+        Ok(()) => Ok(None),
+        Err(DefFault::Rule(rule)) => Ok(Some(rule)),
         Err(DefFault::NoMemory) => Err(NoMemory),
     }
 }
@@ -58,155 +73,207 @@ fn is_tag_def(def: &ServiceDef) -> bool
     same_text(def.name.as_str(), tag_name())
 }
 
-fn tag_def_sound(alloc: Global, facts: &Facts) -> Result<bool, NoMemory>
-    ensures { IfOk result (λ sound. sound ≡ tag_def_sound facts.now.tag_def) }
+fn tag_def_cause(alloc: Global, def: Option<&ServiceDef>) -> Result<Option<Unsound>, NoMemory>
+    ensures { IfOk result (λ cause. cause ≡ first_some (tag_def_causes (option_map (λ d. d.now) def.entry))) }
 {
-    match &facts.tag_def {
-        Some(def) => {
-            if !def_sound(alloc, def)? {
-                return Ok(false);
-            }
-            Ok(is_tag_def(def))
-        }
-        None => Ok(true),
+    let Some(def) = def else {
+        return Ok(None);
+    };
+    match def_rule(alloc, def)? {
+        Some(rule) => Ok(Some(Unsound::TagDefinition(rule))),
+        None => Ok(unless(is_tag_def(def), Unsound::TagName)),
     }
 }
 
-#[tactic(auto, unfolding(rg_facts::specs::Sound::defs_sound))]
-fn defs_sound(alloc: Global, facts: &Facts) -> Result<bool, NoMemory>
-    ensures { IfOk result (λ sound. sound ≡ defs_sound facts.now) }
+fn def_cause(alloc: Global, facts: &Facts) -> Result<Option<Unsound>, NoMemory>
+    ensures { IfOk result (λ cause. cause ≡ first_some (def_causes facts.now)) }
 {
-    if !def_sound(alloc, &facts.def)? {
-        return Ok(false);
+    match def_rule(alloc, &facts.def)? {
+        Some(rule) => Ok(Some(Unsound::Definition(rule))),
+        None => tag_def_cause(alloc, facts.tag_def.as_ref()),
     }
-    tag_def_sound(alloc, facts)
 }
 
-/// Whether the roles have distinct names, name roles that are there, and go in no circle.
-fn roles_build(alloc: Global, rows: &[RoleRow]) -> Result<bool, NoMemory>
-    ensures { IfOk result (λ sound. sound ≡ is_none (fault_of rows.now)) }
+/// The rule of this number fails for the policy.
+fn of_policy(rule: u8, policy: Option<&Policy>) -> Option<Unsound>
+    ensures { result ≡ option_map (λ (p : Policy). cause.Policy p.id rule) (option_map (λ p. p.now) policy.entry) }
 {
-    Ok(role_fault(alloc, rows)?.is_none())
+    match policy {
+        Some(policy) => Some(Unsound::Policy(policy.id, rule)),
+        None => None,
+    }
 }
 
-fn all_subjects_fit(roles: &NameIndex, policies: &[Policy]) -> bool
-    ensures { result ≡ list_all (subjects_fit roles.now) policies.now }
+/// The first policy that names no subject, or a role that isn't one of these.
+fn unfit_subjects<'a>(roles: &NameIndex, policies: &'a [Policy]) -> Option<&'a Policy>
+    ensures { option_map (λ p. p.now) result ≡ find (λ p. not (subjects_fit roles.now p)) policies.now }
 {
-    policies.iter().all(|policy| subjects_fit(roles, policy))
+    policies
+        .iter()
+        .find(|policy| !subjects_fit(roles, policy))
 }
 
-/// The names of the roles.
-fn role_names(alloc: Global, rows: &[RoleRow]) -> Result<NameIndex, NoMemory>
-    ensures { IfOk result (λ names. names ≡ names_of rows.now) }
-{
-    NameIndex::build(alloc, rows)
-}
-
-#[tactic(auto, unfolding(rg_facts::specs::Sound::roles_sound))]
-fn roles_sound(alloc: Global, facts: &Facts, names: &NameIndex) -> Result<bool, NoMemory>
+fn role_cause(
+    alloc: Global,
+    facts: &Facts,
+    names: &NameIndex,
+) -> Result<Option<Unsound>, NoMemory>
     requires { names.now ≡ names_of facts.now.roles.items }
-    ensures { IfOk result (λ sound. sound ≡ roles_sound facts.now) }
+    ensures { IfOk result (λ cause. cause ≡ first_some (role_causes facts.now)) }
 {
-    if !roles_build(alloc, facts.roles.as_slice())? {
-        return Ok(false);
+    if let Some(fault) = role_fault(alloc, facts.roles.as_slice())? {
+        return Ok(Some(Unsound::Roles(fault)));
     }
-    Ok(
-        all_subjects_fit(names, facts.policies.as_slice())
-            && all_subjects_fit(names, facts.tag_policies.as_slice()),
-    )
+    let unfit = of_policy(10, unfit_subjects(names, facts.policies.as_slice()));
+    if unfit.is_some() {
+        return Ok(unfit);
+    }
+    Ok(of_policy(10, unfit_subjects(names, facts.tag_policies.as_slice())))
 }
 
-fn all_zones_fit(is_tag: bool, facts: &Facts, policies: &[Policy]) -> bool
-    ensures { result ≡ list_all (policy_zone_fits is_tag facts.now.service facts.now.zones.items) policies.now }
+/// The first policy that has no zone in which it may stand.
+fn out_of_zone<'a>(is_tag: bool, facts: &'a Facts) -> Option<&'a Policy>
+    ensures { option_map (λ p. p.now) result ≡ find (λ p. not (policy_zone_fits is_tag facts.now.service facts.now.zones.items p)) facts.now.policies.items }
 {
     let service = facts.service.as_str();
     let zones = facts.zones.as_slice();
-    policies
+    facts
+        .policies
+        .as_slice()
         .iter()
-        .all(|policy| policy_zone_fits(is_tag, service, zones, policy))
+        .find(|policy| !policy_zone_fits(is_tag, service, zones, policy))
 }
 
-fn all_tag_zones_fit(zones: &[ZoneRow], policies: &[Policy]) -> bool
-    ensures { result ≡ list_all (tag_policy_zone_fits zones.now) policies.now }
-{
-    policies
-        .iter()
-        .all(|policy| tag_policy_zone_fits(zones, policy))
-}
-
-#[tactic(auto, unfolding(rg_facts::specs::Sound::zone_names_sound))]
-fn zone_names_sound(facts: &Facts) -> bool
-    ensures { result ≡ zone_names_sound facts.now }
-{
-    all_zones_fit(is_tag_def(&facts.def), facts, facts.policies.as_slice())
-        && all_tag_zones_fit(facts.zones.as_slice(), facts.tag_policies.as_slice())
-}
-
-fn all_listings_fit(is_tag: bool, facts: &Facts) -> bool
-    ensures { result ≡ list_all (listing_fits is_tag facts.now.service) facts.now.zones.items }
-{
-    let service = facts.service.as_str();
-    let zones = facts.zones.as_slice();
-    zones.iter().all(|zone| listing_fits(is_tag, service, zone))
-}
-
-fn all_subjects_exist(roles: &NameIndex, zones: &[ZoneRow]) -> bool
-    ensures { result ≡ list_all (subjects_exist roles.now) zones.now }
-{
-    zones.iter().all(|zone| subjects_exist(roles, zone))
-}
-
-fn all_maps_are_fit(paths: &Paths, facts: &Facts) -> bool
-    requires { paths.now ≡ facts.now.def.levels.items }
-    ensures { result ≡ all_maps_fit facts.now.service facts.now.def facts.now.zones.items }
+fn tag_out_of_zone(facts: &Facts) -> Option<&Policy>
+    ensures { option_map (λ p. p.now) result ≡ find (λ p. not (tag_policy_zone_fits facts.now.zones.items p)) facts.now.tag_policies.items }
 {
     let zones = facts.zones.as_slice();
-    all_maps_fit(&facts.def, paths, facts.service.as_str(), zones)
+    facts
+        .tag_policies
+        .as_slice()
+        .iter()
+        .find(|policy| !tag_policy_zone_fits(zones, policy))
 }
 
-/// Whether no two zones overlap for the service, whose maps fit.
-fn none_overlap(alloc: Global, facts: &Facts) -> Result<bool, NoMemory>
+fn zone_name_cause(facts: &Facts) -> Option<Unsound>
+    ensures { result ≡ first_some (zone_name_causes facts.now) }
+{
+    let outside = of_policy(14, out_of_zone(is_tag_def(&facts.def), facts));
+    if outside.is_some() {
+        return outside;
+    }
+    of_policy(14, tag_out_of_zone(facts))
+}
+
+/// The rule of this number fails for the zone at this place.
+fn of_zone(rule: u8, place: Option<usize>) -> Option<Unsound>
+    ensures { result ≡ option_map (λ place. cause.Zone place rule) place }
+{
+    match place {
+        Some(place) => Some(Unsound::Zone(place, rule)),
+        None => None,
+    }
+}
+
+fn unfit_listing(is_tag: bool, service: &str, zones: &[ZoneRow]) -> Option<usize>
+    ensures { result ≡ position (λ z. not (listing_fits is_tag (chars service.now) z)) zones.now }
+{
+    zones
+        .iter()
+        .position(|zone| !listing_fits(is_tag, service, zone))
+}
+
+fn unknown_subjects(roles: &NameIndex, zones: &[ZoneRow]) -> Option<usize>
+    ensures { result ≡ position (λ z. not (subjects_exist roles.now z)) zones.now }
+{
+    zones.iter().position(|zone| !subjects_exist(roles, zone))
+}
+
+fn unfit_levels(def: &ServiceDef, paths: &Paths, service: &str, zones: &[ZoneRow]) -> Option<usize>
+    requires { paths.now ≡ def.now.levels.items }
+    ensures { result ≡ position (λ z. not (zone_levels_fit (chars service.now) def.now z)) zones.now }
+{
+    zones
+        .iter()
+        .position(|zone| !zone_levels_fit(def, paths, service, zone))
+}
+
+fn unfit_values(service: &str, zones: &[ZoneRow]) -> Option<usize>
+    ensures { result ≡ position (λ z. not (zone_values_fit (chars service.now) z)) zones.now }
+{
+    zones
+        .iter()
+        .position(|zone| !zone_values_fit(service, zone))
+}
+
+/// The first two zones that overlap for the service, whose maps fit.
+fn overlap_cause(alloc: Global, facts: &Facts) -> Result<Option<Unsound>, NoMemory>
     requires lawful { def_fault facts.now.def ≡ None }
     requires fit { all_maps_fit facts.now.service facts.now.def facts.now.zones.items ≡ true }
-    ensures { IfOk result (λ none. none ≡ is_none (first_overlap facts.now.service facts.now.def facts.now.zones.items)) }
+    ensures { IfOk result (λ cause. cause ≡ option_map (λ (pair : ℕ × ℕ). cause.Overlap pair.0 pair.1) (first_overlap facts.now.service facts.now.def facts.now.zones.items)) }
 {
     let zones = facts.zones.as_slice();
-    let found = overlapping(alloc, zones, facts.service.as_str(), &facts.def)?;
-    Ok(found.is_none())
+    match overlapping(alloc, zones, facts.service.as_str(), &facts.def)? {
+        Some((first, second)) => Ok(Some(Unsound::Overlap(first, second))),
+        None => Ok(None),
+    }
 }
 
 /// The definition has passed its own rules.
-#[tactic(auto, unfolding(rg_facts::specs::Sound::zones_sound))]
-fn zones_sound(
+fn zone_cause(
     alloc: Global,
     facts: &Facts,
     paths: &Paths,
     roles: &NameIndex,
-) -> Result<bool, NoMemory>
+) -> Result<Option<Unsound>, NoMemory>
     requires lawful { def_fault facts.now.def ≡ None }
     requires paths { paths.now ≡ facts.now.def.levels.items }
     requires roles { roles.now ≡ names_of facts.now.roles.items }
-    ensures { IfOk result (λ sound. sound ≡ zones_sound facts.now) }
+    ensures { IfOk result (λ cause. cause ≡ first_some (zone_causes facts.now)) }
 {
-    if !all_listings_fit(is_tag_def(&facts.def), facts) {
-        return Ok(false);
+    let service = facts.service.as_str();
+    let zones = facts.zones.as_slice();
+    let listing = of_zone(2, unfit_listing(is_tag_def(&facts.def), service, zones));
+    if listing.is_some() {
+        return Ok(listing);
     }
-    if !all_subjects_exist(roles, facts.zones.as_slice()) || !all_maps_are_fit(paths, facts) {
-        return Ok(false);
+    let subjects = of_zone(5, unknown_subjects(roles, zones));
+    if subjects.is_some() {
+        return Ok(subjects);
     }
-    none_overlap(alloc, facts)
+    let levels = of_zone(3, unfit_levels(&facts.def, paths, service, zones));
+    if levels.is_some() {
+        return Ok(levels);
+    }
+    let values = of_zone(4, unfit_values(service, zones));
+    if values.is_some() {
+        return Ok(values);
+    }
+    overlap_cause(alloc, facts)
 }
 
-fn rows_sound(def: &ServiceDef, paths: &Paths, rows: &[TagRow]) -> bool
-    requires { paths.now ≡ def.now.levels.items }
-    ensures { result ≡ list_all (row_sound def.now) rows.now }
+/// The rule of this number fails for the tag row.
+fn of_tag_row(rule: u8, row: Option<&TagRow>) -> Option<Unsound>
+    ensures { result ≡ option_map (λ (r : TagRow). cause.TagRow r.id rule) (option_map (λ r. r.now) row.entry) }
 {
-    for row in rows {
-        if !tagged_fit(def, paths, row.resources.as_slice()) || !tags_fit(row.tags.as_slice()) {
-            return false;
-        }
+    match row {
+        Some(row) => Some(Unsound::TagRow(row.id, rule)),
+        None => None,
     }
-    true
+}
+
+fn unfit_resources<'a>(def: &ServiceDef, paths: &Paths, rows: &'a [TagRow]) -> Option<&'a TagRow>
+    requires { paths.now ≡ def.now.levels.items }
+    ensures { option_map (λ r. r.now) result ≡ find (λ (r : TagRow). not (tagged_fit def.now r.resources.items)) rows.now }
+{
+    rows.iter()
+        .find(|row| !tagged_fit(def, paths, row.resources.as_slice()))
+}
+
+fn unfit_tags(rows: &[TagRow]) -> Option<&TagRow>
+    ensures { option_map (λ r. r.now) result ≡ find (λ (r : TagRow). not (tags_fit r.tags.items)) rows.now }
+{
+    rows.iter().find(|row| !tags_fit(row.tags.as_slice()))
 }
 
 /// The ids of the rows.
@@ -227,29 +294,29 @@ fn row_ids_distinct(alloc: Global, rows: &[TagRow]) -> Result<bool, NoMemory>
     ids_distinct(alloc, ids.as_slice())
 }
 
-#[tactic(auto, unfolding(rg_facts::specs::Sound::tag_rows_sound))]
-fn tag_rows_sound(
-    alloc: Global,
-    def: &ServiceDef,
-    paths: &Paths,
-    rows: &[TagRow],
-) -> Result<bool, NoMemory>
-    requires { paths.now ≡ def.now.levels.items }
-    ensures { IfOk result (λ sound. sound ≡ tag_rows_sound def.now rows.now) }
+fn tag_row_cause(alloc: Global, facts: &Facts, paths: &Paths) -> Result<Option<Unsound>, NoMemory>
+    requires { paths.now ≡ facts.now.def.levels.items }
+    ensures { IfOk result (λ cause. cause ≡ first_some (tag_row_causes facts.now)) }
 {
-    if !rows_sound(def, paths, rows) {
-        return Ok(false);
+    let rows = facts.tag_rows.as_slice();
+    let resources = of_tag_row(2, unfit_resources(&facts.def, paths, rows));
+    if resources.is_some() {
+        return Ok(resources);
     }
-    row_ids_distinct(alloc, rows)
+    let tags = of_tag_row(3, unfit_tags(rows));
+    if tags.is_some() {
+        return Ok(tags);
+    }
+    Ok(unless(row_ids_distinct(alloc, rows)?, Unsound::TagRowIds))
 }
 
-/// Whether each rule of the time zones reads.
-fn time_zones_read(alloc: Global, rows: &[TimeZoneRow]) -> Result<bool, NoMemory>
-    ensures { IfOk result (λ sound. sound ≡ is_none (bad_rule rows.now)) }
+/// The first time zone whose rule doesn't read.
+fn time_zone_cause(alloc: Global, rows: &[TimeZoneRow]) -> Result<Option<Unsound>, NoMemory>
+    ensures { IfOk result (λ cause. cause ≡ option_map cause.TimeZone (option_map place_number (bad_rule rows.now))) }
 {
     match TimeZones::build(alloc, rows) {
-        Ok(_) => Ok(true),
-        Err(TimeZoneFault::BadRule(_)) => Ok(false),
+        Ok(_) => Ok(None),
+        Err(TimeZoneFault::BadRule(place)) => Ok(Some(Unsound::TimeZone(place))),
         Err(TimeZoneFault::NoMemory) => Err(NoMemory),
     }
 }
@@ -261,16 +328,32 @@ fn passes(frame: &Frame, side: Side, paths: &Paths, policy: &Policy) -> bool
     policy_fault(frame, side, paths, policy).is_none()
 }
 
-fn all_pass(frame: &Frame, side: Side, paths: &Paths, policies: &[Policy]) -> bool
+/// The first policy that fails a rule of V3 to V9, V11 and V12.
+fn unfit<'a>(frame: &Frame, side: Side, paths: &Paths, policies: &'a [Policy]) -> Option<&'a Policy>
     requires { paths.now ≡ (def_of frame.now side).levels.items }
-    ensures { result ≡ list_all (passes frame.now side) policies.now }
+    ensures { option_map (λ p. p.now) result ≡ find (λ p. not (passes frame.now side p)) policies.now }
 {
-    for policy in policies {
-        if !passes(frame, side, paths, policy) {
-            return false;
-        }
+    policies
+        .iter()
+        .find(|policy| !passes(frame, side, paths, policy))
+}
+
+fn faulty(frame: &Frame, side: Side, paths: &Paths, policy: &Policy) -> Option<Unsound>
+    requires { paths.now ≡ (def_of frame.now side).levels.items }
+    ensures { result ≡ faulty frame.now side policy.now }
+{
+    match policy_fault(frame, side, paths, policy) {
+        Some(rule) => Some(Unsound::Policy(policy.id, rule)),
+        None => None,
     }
-    true
+}
+
+fn first_faulty(frame: &Frame, side: Side, paths: &Paths, policies: &[Policy]) -> Option<Unsound>
+    requires { paths.now ≡ (def_of frame.now side).levels.items }
+    ensures { result ≡ first_faulty frame.now side policies.now }
+{
+    let policy = unfit(frame, side, paths, policies)?;
+    faulty(frame, side, paths, policy)
 }
 
 fn is_no_policy(policies: &[Policy]) -> bool
@@ -282,54 +365,81 @@ fn is_no_policy(policies: &[Policy]) -> bool
     }
 }
 
-fn tag_policies_pass(alloc: Global, frame: &Frame, policies: &[Policy]) -> Result<bool, NoMemory>
+fn tag_policies_cause(
+    alloc: Global,
+    frame: &Frame,
+    policies: &[Policy],
+) -> Result<Option<Unsound>, NoMemory>
     requires { tag_def_sound frame.now.tag_def ≡ true }
-    ensures { IfOk result (λ s. s ≡ tag_policies_pass frame.now frame.now.tag_def policies.now) }
+    ensures { IfOk result (λ cause. cause ≡ tag_policies_cause frame.now frame.now.tag_def policies.now) }
 {
-    match &frame.tag_def {
-        Some(def) => {
-            let paths = Paths::of(alloc, def)?;
-            Ok(all_pass(frame, Side::Tag, &paths, policies))
-        }
-        None => Ok(is_no_policy(policies)),
-    }
+    let Some(def) = &frame.tag_def else {
+        return Ok(unless(is_no_policy(policies), Unsound::NoTagDefinition));
+    };
+    let paths = Paths::of(alloc, def)?;
+    Ok(first_faulty(frame, Side::Tag, &paths, policies))
 }
 
 /// The definitions have passed their own rules.
-#[tactic(auto, using(rg_facts::proofs::Soundness::tag_def_of), unfolding(rg_facts::specs::Sound::policies_sound))]
-fn policies_sound(alloc: Global, facts: &Facts, paths: &Paths) -> Result<bool, NoMemory>
-    requires defs { defs_sound facts.now ≡ true }
+fn policy_cause(alloc: Global, facts: &Facts, paths: &Paths) -> Result<Option<Unsound>, NoMemory>
+    requires tag_def { tag_def_sound facts.now.tag_def ≡ true }
     requires paths { paths.now ≡ facts.now.def.levels.items }
-    ensures { IfOk result (λ sound. sound ≡ policies_sound facts.now) }
+    ensures { IfOk result (λ cause. cause ≡ first_some (policy_causes facts.now)) }
 {
-    if !time_zones_read(alloc, facts.time_zones.as_slice())? {
-        return Ok(false);
+    let time_zone = time_zone_cause(alloc, facts.time_zones.as_slice())?;
+    if time_zone.is_some() {
+        return Ok(time_zone);
     }
     let frame = frame_of(alloc, facts)?;
-    if !all_pass(&frame, Side::Resource, paths, facts.policies.as_slice()) {
-        return Ok(false);
+    let policy = first_faulty(&frame, Side::Resource, paths, facts.policies.as_slice());
+    if policy.is_some() {
+        return Ok(policy);
     }
-    tag_policies_pass(alloc, &frame, facts.tag_policies.as_slice())
+    tag_policies_cause(alloc, &frame, facts.tag_policies.as_slice())
 }
 
-/// Whether the facts are sound. It takes memory for the ids, the paths, the time zones, the names of the roles and patterns.
-#[tactic(auto, using(rg_facts::proofs::Soundness::lawful_def), unfolding(rg_facts::specs::Sound::sound))]
+/// What makes the facts unsound: the first cause, None where they are sound. It takes memory for the ids, the paths, the
+/// time zones, the names of the roles and patterns.
+#[tactic(auto, using(crate::proofs::Law::lawful), unfolding(crate::specs::Causes::first_cause))]
+pub fn unsound_cause(alloc: Global, facts: &Facts) -> Result<Option<Unsound>, NoMemory>
+    ensures { IfOk result (λ cause. cause ≡ first_cause facts.now) }
+{
+    if !versions_fit(facts) {
+        return Ok(Some(Unsound::Version));
+    }
+    if let Some(cause) = def_cause(alloc, facts)? {
+        return Ok(Some(cause));
+    }
+    let paths = Paths::of(alloc, &facts.def)?;
+    let names = NameIndex::build(alloc, facts.roles.as_slice())?;
+    if !ids_sound(alloc, facts)? {
+        return Ok(Some(Unsound::PolicyIds));
+    }
+    if let Some(cause) = role_cause(alloc, facts, &names)? {
+        return Ok(Some(cause));
+    }
+    if let Some(cause) = zone_name_cause(facts) {
+        return Ok(Some(cause));
+    }
+    if let Some(cause) = zone_cause(alloc, facts, &paths, &names)? {
+        return Ok(Some(cause));
+    }
+    if let Some(cause) = tag_row_cause(alloc, facts, &paths)? {
+        return Ok(Some(cause));
+    }
+    policy_cause(alloc, facts, &paths)
+}
+
+/// Facts are sound exactly where there is no such cause.
+pub fn sound_without_cause()
+    ensures { (facts : Facts) → is_none (first_cause facts) ≡ sound facts }
+{
+}
+
+/// Whether the facts are sound.
 pub fn is_sound(alloc: Global, facts: &Facts) -> Result<bool, NoMemory>
     ensures { IfOk result (λ is_sound. is_sound ≡ sound facts.now) }
 {
-    if !versions_fit(facts) || !defs_sound(alloc, facts)? {
-        return Ok(false);
-    }
-    let paths = Paths::of(alloc, &facts.def)?;
-    let names = role_names(alloc, facts.roles.as_slice())?;
-    if !ids_sound(alloc, facts)? || !roles_sound(alloc, facts, &names)? {
-        return Ok(false);
-    }
-    if !zone_names_sound(facts) || !zones_sound(alloc, facts, &paths, &names)? {
-        return Ok(false);
-    }
-    if !tag_rows_sound(alloc, &facts.def, &paths, facts.tag_rows.as_slice())? {
-        return Ok(false);
-    }
-    policies_sound(alloc, facts, &paths)
+    sound_without_cause();
+    Ok(unsound_cause(alloc, facts)?.is_none())
 }
