@@ -27,7 +27,7 @@ use Rattle.rg_facts.specs.Sound.{all_policies, defs_sound, ids_sound, is_no_poli
 use Rattle.rg_facts.specs.declared.facts.Facts.{Facts}
 use Rattle.rg_sound.specs.Causes.{def_causes, faulty, first_cause, first_faulty, first_policy, first_some, first_tag_row, first_zone, policy_causes, role_causes, tag_def_causes, tag_policies_cause, tag_row_causes, unless, zone_causes, zone_name_causes}
 use Rattle.rg_sound.specs.declared.unsound.Unsound.{Unsound}
-use Rattle.rg_sound.specs.declared.unsound.Unsound.TheVariants as cause
+use Rattle.rg_sound.specs.declared.unsound.Unsound.TheVariants as unsound
 
 -- ---- there is no first cause where there is none in the list
 
@@ -79,35 +79,35 @@ both_all p q (x ∷ xs) = swapped (p x) (list_all p xs) (q x) (list_all q xs) �
 -- ---- part by part
 
 policy_none : (rule : ℕ) (test : Policy → Bool) (ps : List Policy) → is_none (first_policy rule test ps) ≡ list_all test ps
-policy_none rule test ps = none_mapped (λ (p : Policy). cause.Policy p.id rule) _ ∙ none_found test ps
+policy_none rule test ps = none_mapped (λ (p : Policy). unsound.Policy p.id rule) _ ∙ none_found test ps
 
 zone_none : (rule : ℕ) (test : ZoneRow → Bool) (zs : List ZoneRow) → is_none (first_zone rule test zs) ≡ list_all test zs
-zone_none rule test zs = none_mapped (λ place. cause.Zone place rule) _ ∙ none_placed test zs
+zone_none rule test zs = none_mapped (λ place. unsound.Zone place rule) _ ∙ none_placed test zs
 
 tag_row_none : (rule : ℕ) (test : TagRow → Bool) (rows : List TagRow) → is_none (first_tag_row rule test rows) ≡ list_all test rows
-tag_row_none rule test rows = none_mapped (λ (r : TagRow). cause.TagRow r.id rule) _ ∙ none_found test rows
+tag_row_none rule test rows = none_mapped (λ (r : TagRow). unsound.TagRow r.id rule) _ ∙ none_found test rows
 
 faulty_none : (frame : Frame) (side : Side) (ps : List Policy) → is_none (first_faulty frame side ps) ≡ list_all (passes frame side) ps
 faulty_none frame side [] = refl
 faulty_none frame side (p ∷ ps) = elim (policy_fault frame side p) as
     (λ o. policy_fault frame side p ≡ o → is_none (option_and_then (faulty frame side) (cond (not (is_none o)) (Some p) (find (λ q. not (passes frame side q)) ps))) ≡ (is_none o && list_all (passes frame side) ps)) [
-  | None ↦ λ e. faulty_none frame side ps
-  | Some n ↦ λ e. none_mapped (cause.Policy p.id) (policy_fault frame side p) ∙ ap is_none e
-] refl
+      | None ↦ λ e. faulty_none frame side ps
+      | Some n ↦ λ e. none_mapped (unsound.Policy p.id) (policy_fault frame side p) ∙ ap is_none e
+    ] refl
 
 tag_def_none : (o : Option ServiceDef) → list_all is_none (tag_def_causes o) ≡ tag_def_sound o
 tag_def_none None = refl
-tag_def_none (Some def) = λ i. none_mapped cause.TagDefinition (def_fault def) i && (and_true (is_none (unless (is_tag_def def) cause.TagName)) ∙ none_unless (is_tag_def def) cause.TagName) i
+tag_def_none (Some def) = λ i. none_mapped unsound.TagDefinition (def_fault def) i && (and_true (is_none (unless (is_tag_def def) unsound.TagName)) ∙ none_unless (is_tag_def def) unsound.TagName) i
 
 defs_none : (facts : Facts) → is_none (first_some (def_causes facts)) ≡ defs_sound facts
 unfolding defs_sound
-defs_none facts = none_of_all (def_causes facts) ∙ (λ i. none_mapped cause.Definition (def_fault facts.def) i && tag_def_none facts.tag_def i)
+defs_none facts = none_of_all (def_causes facts) ∙ (λ i. none_mapped unsound.Definition (def_fault facts.def) i && tag_def_none facts.tag_def i)
 
 roles_none : (facts : Facts) → is_none (first_some (role_causes facts)) ≡ roles_sound facts
 unfolding roles_sound
 roles_none facts = let test = subjects_fit (names_of facts.roles.items) in
     none_of_all (role_causes facts)
-    ∙ (λ i. none_mapped cause.Roles (fault_of facts.roles.items) i && (policy_none 10 test facts.policies.items i && (and_true _ ∙ policy_none 10 test facts.tag_policies.items) i))
+    ∙ (λ i. none_mapped unsound.Roles (fault_of facts.roles.items) i && (policy_none 10 test facts.policies.items i && (and_true _ ∙ policy_none 10 test facts.tag_policies.items) i))
 
 zone_names_none : (facts : Facts) → is_none (first_some (zone_name_causes facts)) ≡ zone_names_sound facts
 unfolding zone_names_sound
@@ -125,10 +125,10 @@ zones_none facts =
     && (zone_none 5 (subjects_exist (names_of facts.roles.items)) zones i
     && (zone_none 3 (zone_levels_fit facts.service facts.def) zones i
     && (zone_none 4 (zone_values_fit facts.service) zones i
-    && (and_true _ ∙ none_mapped (λ (pair : ℕ × ℕ). cause.Overlap pair.0 pair.1) (first_overlap facts.service facts.def zones)) i))))
+    && (and_true _ ∙ none_mapped (λ (pair : ℕ × ℕ). unsound.Overlap pair.0 pair.1) (first_overlap facts.service facts.def zones)) i))))
     ∙ ap (λ b. list_all (listing_fits (is_tag_def facts.def) facts.service) zones && (list_all (subjects_exist (names_of facts.roles.items)) zones && b)) (
-        and_inside (list_all (zone_levels_fit facts.service facts.def) zones) (list_all (zone_values_fit facts.service) zones) (is_none (first_overlap facts.service facts.def zones))
-        ∙ ap (λ b. b && is_none (first_overlap facts.service facts.def zones)) (both_all (zone_levels_fit facts.service facts.def) (zone_values_fit facts.service) zones))
+    and_inside (list_all (zone_levels_fit facts.service facts.def) zones) (list_all (zone_values_fit facts.service) zones) (is_none (first_overlap facts.service facts.def zones))
+    ∙ ap (λ b. b && is_none (first_overlap facts.service facts.def zones)) (both_all (zone_levels_fit facts.service facts.def) (zone_values_fit facts.service) zones))
 
 tag_rows_none : (facts : Facts) → is_none (first_some (tag_row_causes facts)) ≡ tag_rows_sound facts.def facts.tag_rows.items
 unfolding tag_rows_sound
@@ -137,19 +137,19 @@ tag_rows_none facts =
     let fits : TagRow → Bool = λ (r : TagRow). tagged_fit facts.def r.resources.items in
     let tags : TagRow → Bool = λ (r : TagRow). tags_fit r.tags.items in
     none_of_all (tag_row_causes facts)
-    ∙ (λ i. tag_row_none 2 fits rows i && (tag_row_none 3 tags rows i && (and_true _ ∙ none_unless (all_distinct int_eq (row_ids rows)) cause.TagRowIds) i))
+    ∙ (λ i. tag_row_none 2 fits rows i && (tag_row_none 3 tags rows i && (and_true _ ∙ none_unless (all_distinct int_eq (row_ids rows)) unsound.TagRowIds) i))
     ∙ and_inside (list_all fits rows) (list_all tags rows) (all_distinct int_eq (row_ids rows))
     ∙ ap (λ b. b && all_distinct int_eq (row_ids rows)) (both_all fits tags rows)
 
 tag_policies_none : (frame : Frame) (o : Option ServiceDef) (ps : List Policy) → is_none (tag_policies_cause frame o ps) ≡ tag_policies_pass frame o ps
-tag_policies_none frame None ps = none_unless (is_no_policy ps) cause.NoTagDefinition
+tag_policies_none frame None ps = none_unless (is_no_policy ps) unsound.NoTagDefinition
 tag_policies_none frame (Some def) ps = faulty_none frame Tag ps
 
 policies_none : (facts : Facts) → is_none (first_some (policy_causes facts)) ≡ policies_sound facts
 unfolding policies_sound
 policies_none facts =
     none_of_all (policy_causes facts)
-    ∙ (λ i. (none_mapped cause.TimeZone (option_map place_number (bad_rule facts.time_zones.items)) ∙ none_mapped place_number (bad_rule facts.time_zones.items)) i
+    ∙ (λ i. (none_mapped unsound.TimeZone (option_map place_number (bad_rule facts.time_zones.items)) ∙ none_mapped place_number (bad_rule facts.time_zones.items)) i
     && (faulty_none (frame_of facts) Resource facts.policies.items i
     && (and_true _ ∙ tag_policies_none (frame_of facts) facts.tag_def facts.tag_policies.items) i))
 
@@ -159,9 +159,9 @@ pub without_cause : (facts : Facts) → is_none (first_cause facts) ≡ sound fa
 unfolding first_cause sound
 without_cause facts =
     none_of_all _
-    ∙ (λ i. none_unless (versions_fit facts) cause.Version i
+    ∙ (λ i. none_unless (versions_fit facts) unsound.Version i
     && (defs_none facts i
-    && (none_unless (ids_sound (all_policies facts)) cause.PolicyIds i
+    && (none_unless (ids_sound (all_policies facts)) unsound.PolicyIds i
     && (roles_none facts i
     && (zone_names_none facts i
     && (zones_none facts i

@@ -25,7 +25,7 @@ use Rattle.rg_facts.specs.Candidates.{frame_of}
 use Rattle.rg_facts.specs.Sound.{all_policies, ids_sound, is_no_policy, is_tag_def, passes, row_ids, versions_fit}
 use Rattle.rg_facts.specs.declared.facts.Facts.{Facts}
 use Rattle.rg_sound.specs.declared.unsound.Unsound.{Unsound}
-use Rattle.rg_sound.specs.declared.unsound.Unsound.TheVariants as cause
+use Rattle.rg_sound.specs.declared.unsound.Unsound.TheVariants as unsound
 
 -- the cause, unless the test holds
 abbrev pub unless : Bool → Unsound → Option Unsound
@@ -33,11 +33,11 @@ unless holds cause = if holds then None else Some cause
 
 -- the first policy that fails the rule of this number
 abbrev pub first_policy : ℕ → (Policy → Bool) → List Policy → Option Unsound
-first_policy rule test policies = option_map (λ (p : Policy). cause.Policy p.id rule) (find (λ p. not (test p)) policies)
+first_policy rule test policies = option_map (λ (p : Policy). unsound.Policy p.id rule) (find (λ p. not (test p)) policies)
 
 -- the first rule of V3 to V9, V11 and V12 that the policy fails
 abbrev pub faulty : Frame → Side → Policy → Option Unsound
-faulty frame side p = option_map (cause.Policy p.id) (policy_fault frame side p)
+faulty frame side p = option_map (unsound.Policy p.id) (policy_fault frame side p)
 
 -- the first policy that fails such a rule
 abbrev pub first_faulty : Frame → Side → List Policy → Option Unsound
@@ -45,24 +45,24 @@ first_faulty frame side policies = option_and_then (faulty frame side) (find (λ
 
 -- the place of the first zone that fails the rule of this number
 abbrev pub first_zone : ℕ → (ZoneRow → Bool) → List ZoneRow → Option Unsound
-first_zone rule test zones = option_map (λ place. cause.Zone place rule) (position (λ z. not (test z)) zones)
+first_zone rule test zones = option_map (λ place. unsound.Zone place rule) (position (λ z. not (test z)) zones)
 
 -- the first tag row that fails the rule of this number
 abbrev pub first_tag_row : ℕ → (TagRow → Bool) → List TagRow → Option Unsound
-first_tag_row rule test rows = option_map (λ (r : TagRow). cause.TagRow r.id rule) (find (λ r. not (test r)) rows)
+first_tag_row rule test rows = option_map (λ (r : TagRow). unsound.TagRow r.id rule) (find (λ r. not (test r)) rows)
 
 abbrev pub tag_def_causes : Option ServiceDef → List (Option Unsound)
 tag_def_causes None = []
-tag_def_causes (Some def) = option_map cause.TagDefinition (def_fault def) ∷ unless (is_tag_def def) cause.TagName ∷ []
+tag_def_causes (Some def) = option_map unsound.TagDefinition (def_fault def) ∷ unless (is_tag_def def) unsound.TagName ∷ []
 
 -- S1 to S8 of both definitions, and the name of the tag definition
 abbrev pub def_causes : Facts → List (Option Unsound)
-def_causes facts = option_map cause.Definition (def_fault facts.def) ∷ tag_def_causes facts.tag_def
+def_causes facts = option_map unsound.Definition (def_fault facts.def) ∷ tag_def_causes facts.tag_def
 
 -- the roles, and V10 of each policy
 abbrev pub role_causes : Facts → List (Option Unsound)
 role_causes facts =
-    option_map cause.Roles (fault_of facts.roles.items)
+    option_map unsound.Roles (fault_of facts.roles.items)
     ∷ first_policy 10 (subjects_fit (names_of facts.roles.items)) facts.policies.items
     ∷ first_policy 10 (subjects_fit (names_of facts.roles.items)) facts.tag_policies.items ∷ []
 
@@ -79,23 +79,23 @@ zone_causes facts =
     ∷ first_zone 5 (subjects_exist (names_of facts.roles.items)) facts.zones.items
     ∷ first_zone 3 (zone_levels_fit facts.service facts.def) facts.zones.items
     ∷ first_zone 4 (zone_values_fit facts.service) facts.zones.items
-    ∷ option_map (λ (pair : ℕ × ℕ). cause.Overlap pair.0 pair.1) (first_overlap facts.service facts.def facts.zones.items) ∷ []
+    ∷ option_map (λ (pair : ℕ × ℕ). unsound.Overlap pair.0 pair.1) (first_overlap facts.service facts.def facts.zones.items) ∷ []
 
 -- G2, G3 and the ids of tag rows
 abbrev pub tag_row_causes : Facts → List (Option Unsound)
 tag_row_causes facts =
     first_tag_row 2 (λ (r : TagRow). tagged_fit facts.def r.resources.items) facts.tag_rows.items
     ∷ first_tag_row 3 (λ (r : TagRow). tags_fit r.tags.items) facts.tag_rows.items
-    ∷ unless (all_distinct int_eq (row_ids facts.tag_rows.items)) cause.TagRowIds ∷ []
+    ∷ unless (all_distinct int_eq (row_ids facts.tag_rows.items)) unsound.TagRowIds ∷ []
 
 abbrev pub tag_policies_cause : Frame → Option ServiceDef → List Policy → Option Unsound
-tag_policies_cause frame None policies = unless (is_no_policy policies) cause.NoTagDefinition
+tag_policies_cause frame None policies = unless (is_no_policy policies) unsound.NoTagDefinition
 tag_policies_cause frame (Some def) policies = first_faulty frame Tag policies
 
 -- the time zones, and V3 to V9, V11 and V12 of each policy
 abbrev pub policy_causes : Facts → List (Option Unsound)
 policy_causes facts =
-    option_map cause.TimeZone (option_map place_number (bad_rule facts.time_zones.items))
+    option_map unsound.TimeZone (option_map place_number (bad_rule facts.time_zones.items))
     ∷ first_faulty (frame_of facts) Resource facts.policies.items
     ∷ tag_policies_cause (frame_of facts) facts.tag_def facts.tag_policies.items ∷ []
 
@@ -107,9 +107,9 @@ first_some (o ∷ os) = option_or o (first_some os)
 -- the first cause: versions, definitions, ids, roles, zones, tag rows, policies
 unfoldable pub first_cause : Facts → Option Unsound
 first_cause facts = first_some (
-    unless (versions_fit facts) cause.Version
+    unless (versions_fit facts) unsound.Version
     ∷ first_some (def_causes facts)
-    ∷ unless (ids_sound (all_policies facts)) cause.PolicyIds
+    ∷ unless (ids_sound (all_policies facts)) unsound.PolicyIds
     ∷ first_some (role_causes facts)
     ∷ first_some (zone_name_causes facts)
     ∷ first_some (zone_causes facts)

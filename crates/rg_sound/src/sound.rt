@@ -19,7 +19,7 @@ ghost use Rattle.rg_tags.specs.declared.row.TagRow.{TagRow};
 ghost use Rattle.rg_zones.specs.Overlap.{first_overlap};
 ghost use Rattle.rg_zones.specs.Rules.{all_maps_fit, listing_fits, policy_zone_fits, subjects_exist, tag_policy_zone_fits, zone_levels_fit, zone_values_fit};
 ghost use Rattle.rg_sound.specs.Causes.{def_causes, faulty, first_cause, first_faulty, first_some, policy_causes, role_causes, tag_def_causes, tag_policies_cause, tag_row_causes, unless, zone_causes, zone_name_causes};
-ghost use Rattle.rg_sound.specs.declared.unsound.Unsound.TheVariants as cause;
+ghost use Rattle.rg_sound.specs.declared.unsound.Unsound.TheVariants as unsound;
 
 use crate::ids::{ids_distinct, ids_sound};
 use crate::unsound::Unsound;
@@ -96,7 +96,7 @@ fn def_cause(alloc: Global, facts: &Facts) -> Result<Option<Unsound>, NoMemory>
 
 /// The rule of this number fails for the policy.
 fn of_policy(rule: u8, policy: Option<&Policy>) -> Option<Unsound>
-    ensures { result ≡ option_map (λ (p : Policy). cause.Policy p.id rule) (option_map (λ p. p.now) policy.entry) }
+    ensures { result ≡ option_map (λ (p : Policy). unsound.Policy p.id rule) (option_map (λ p. p.now) policy.entry) }
 {
     match policy {
         Some(policy) => Some(Unsound::Policy(policy.id, rule)),
@@ -108,16 +108,10 @@ fn of_policy(rule: u8, policy: Option<&Policy>) -> Option<Unsound>
 fn unfit_subjects<'a>(roles: &NameIndex, policies: &'a [Policy]) -> Option<&'a Policy>
     ensures { option_map (λ p. p.now) result ≡ find (λ p. not (subjects_fit roles.now p)) policies.now }
 {
-    policies
-        .iter()
-        .find(|policy| !subjects_fit(roles, policy))
+    policies.iter().find(|policy| !subjects_fit(roles, policy))
 }
 
-fn role_cause(
-    alloc: Global,
-    facts: &Facts,
-    names: &NameIndex,
-) -> Result<Option<Unsound>, NoMemory>
+fn role_cause(alloc: Global, facts: &Facts, names: &NameIndex) -> Result<Option<Unsound>, NoMemory>
     requires { names.now ≡ names_of facts.now.roles.items }
     ensures { IfOk result (λ cause. cause ≡ first_some (role_causes facts.now)) }
 {
@@ -167,7 +161,7 @@ fn zone_name_cause(facts: &Facts) -> Option<Unsound>
 
 /// The rule of this number fails for the zone at this place.
 fn of_zone(rule: u8, place: Option<usize>) -> Option<Unsound>
-    ensures { result ≡ option_map (λ place. cause.Zone place rule) place }
+    ensures { result ≡ option_map (λ place. unsound.Zone place rule) place }
 {
     match place {
         Some(place) => Some(Unsound::Zone(place, rule)),
@@ -210,7 +204,7 @@ fn unfit_values(service: &str, zones: &[ZoneRow]) -> Option<usize>
 fn overlap_cause(alloc: Global, facts: &Facts) -> Result<Option<Unsound>, NoMemory>
     requires lawful { def_fault facts.now.def ≡ None }
     requires fit { all_maps_fit facts.now.service facts.now.def facts.now.zones.items ≡ true }
-    ensures { IfOk result (λ cause. cause ≡ option_map (λ (pair : ℕ × ℕ). cause.Overlap pair.0 pair.1) (first_overlap facts.now.service facts.now.def facts.now.zones.items)) }
+    ensures { IfOk result (λ cause. cause ≡ option_map (λ (pair : ℕ × ℕ). unsound.Overlap pair.0 pair.1) (first_overlap facts.now.service facts.now.def facts.now.zones.items)) }
 {
     let zones = facts.zones.as_slice();
     match overlapping(alloc, zones, facts.service.as_str(), &facts.def)? {
@@ -254,7 +248,7 @@ fn zone_cause(
 
 /// The rule of this number fails for the tag row.
 fn of_tag_row(rule: u8, row: Option<&TagRow>) -> Option<Unsound>
-    ensures { result ≡ option_map (λ (r : TagRow). cause.TagRow r.id rule) (option_map (λ r. r.now) row.entry) }
+    ensures { result ≡ option_map (λ (r : TagRow). unsound.TagRow r.id rule) (option_map (λ r. r.now) row.entry) }
 {
     match row {
         Some(row) => Some(Unsound::TagRow(row.id, rule)),
@@ -312,7 +306,7 @@ fn tag_row_cause(alloc: Global, facts: &Facts, paths: &Paths) -> Result<Option<U
 
 /// The first time zone whose rule doesn't read.
 fn time_zone_cause(alloc: Global, rows: &[TimeZoneRow]) -> Result<Option<Unsound>, NoMemory>
-    ensures { IfOk result (λ cause. cause ≡ option_map cause.TimeZone (option_map place_number (bad_rule rows.now))) }
+    ensures { IfOk result (λ cause. cause ≡ option_map unsound.TimeZone (option_map place_number (bad_rule rows.now))) }
 {
     match TimeZones::build(alloc, rows) {
         Ok(_) => Ok(None),
@@ -433,8 +427,7 @@ pub fn unsound_cause(alloc: Global, facts: &Facts) -> Result<Option<Unsound>, No
 /// Facts are sound exactly where there is no such cause.
 pub fn sound_without_cause()
     ensures { (facts : Facts) → is_none (first_cause facts) ≡ sound facts }
-{
-}
+{}
 
 /// Whether the facts are sound.
 pub fn is_sound(alloc: Global, facts: &Facts) -> Result<bool, NoMemory>
