@@ -6,8 +6,8 @@ ghost use Rattle.rg_base.specs.Texts.{all_distinct};
 ghost use Rattle.rg_policy.specs.declared.policy.Policy.{Policy};
 ghost use Rattle.rg_facts.specs.Sound.{all_policies, ids_sound};
 
-use crate::facts::Facts;
 use rg_base::NoMemory;
+use rg_facts::Facts;
 use rg_policy::Policy;
 use std::alloc::Global;
 use std::collections::BTreeSet;

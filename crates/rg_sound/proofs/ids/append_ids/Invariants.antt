@@ -1,6 +1,6 @@
 use Rattle.std.proofs.Common.{◌≡◌, ◌++◌, map, take}
 use Rattle.rg_policy.specs.declared.policy.Policy.{Policy}
-use Rattle.rg_facts.proofs.ids.append_ids.Given as goal
+use Rattle.rg_sound.proofs.ids.append_ids.Given as goal
 
 -- the ids so far
 abbrev pub invariant-loop-policy : goal.invariant-loop-policy

@@ -3,7 +3,7 @@ use Rattle.std.specs.BTreeSet.{contains}
 use Rattle.std.specs.List.{list_any}
 use Rattle.std.specs.Ordering.{int_cmp, int_eq}
 use Rattle.rg_base.specs.Texts.{all_distinct}
-use Rattle.rg_facts.proofs.ids.ids_distinct.Given as goal
+use Rattle.rg_sound.proofs.ids.ids_distinct.Given as goal
 
 -- the ids from this place on were seen, each once
 abbrev pub invariant-loop-at : goal.invariant-loop-at

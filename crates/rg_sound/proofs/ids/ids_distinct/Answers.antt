@@ -4,8 +4,8 @@ use Rattle.std.specs.BTreeSet.{contains}
 use Rattle.std.specs.Ordering.{int_cmp}
 use mir.Syntax.{w64}
 use mir.Val.{SFits, of_z, to_z}
-use Rattle.rg_facts.proofs.Distinct.{distinct_more, repeat_before, seen_more}
-use Rattle.rg_facts.proofs.ids.ids_distinct.Goals as goal
+use Rattle.rg_sound.proofs.Distinct.{distinct_more, repeat_before, seen_more}
+use Rattle.rg_sound.proofs.ids.ids_distinct.Goals as goal
 
 pub loop-at-preserved : goal.loop-at-preserved
 loop-at-preserved c =
