@@ -13,11 +13,12 @@ use Rattle.rg_policy.specs.declared.policy.Item.{Item}
 use Rattle.rg_policy.specs.declared.policy.PolicyResource.{PolicyResource}
 use Rattle.rg_policy.specs.declared.policy.ResourceMap.{ResourceMap}
 use Rattle.rg_policy.specs.declared.policy.Policy.{Policy}
+use Rattle.rg_policy.specs.declared.request.AccessRequest.{AccessRequest}
 use Rattle.rg_facts.specs.declared.decision.Access.{Access}
 use Rattle.rg_facts.specs.declared.decision.Decision.{Decision}
 use Rattle.rg_facts.specs.declared.decision.MaskText.{MaskText}
 use Rattle.rg_wire.specs.Names.{name_of}
-use Rattle.rg_wire.specs.Printing.{entry_data, entry_members, condition_members, mask_members, schedule_members, filter_members, item_members, resource_members, policy_members, condition_data, mask_data, recurrences_data, schedule_data, filter_data, item_data, resource_data, level_members, resources_data, map_data, policy_data, access_data, mask_text_data, mask_text_members, decision_data, decision_members}
+use Rattle.rg_wire.specs.Printing.{entry_data, entry_members, condition_members, mask_members, schedule_members, filter_members, item_members, resource_members, policy_members, condition_data, mask_data, recurrences_data, schedule_data, filter_data, item_data, resource_data, level_members, resources_data, map_data, policy_data, access_data, mask_text_data, mask_text_members, decision_data, decision_members, audit_data, audit_members}
 
 entry_plain : (e : AccessEntry) → Plain 1 (entry_data e)
 unfolding entry_data
@@ -201,6 +202,39 @@ decision_plain d = object_plain name_of 1 2 (decision_members d) (omega arith) (
 pub decision_has_no_float : (d : Decision) → has_float (decision_data d) ≡ false
 decision_has_no_float d = (decision_plain d).0
 
+pub audit_plain : (service : List ℕ) (q : AccessRequest) (d : Decision) → Plain 1 (audit_data service q d)
+unfolding audit_data
+audit_plain service q d = object_plain name_of 0 1 (audit_members service q d) (omega arith) (
+  text_plain 0 q.access,
+  (
+    integer_plain 0 q.moment.0,
+    (
+      integer_plain 0 d.policy.0,
+      (
+        text_plain 0 service,
+        (
+          text_plain 0 q.user,
+          (
+            text_plain 0 d.path,
+            (
+              access_plain 0 d.access,
+              (
+                count_plain 0 d.serial.0,
+                tt,
+              ),
+            ),
+          ),
+        ),
+      ),
+    ),
+  ),
+)
+
+pub audit_has_no_float : (service : List ℕ) (q : AccessRequest) (d : Decision) → has_float (audit_data service q d) ≡ false
+audit_has_no_float service q d = (audit_plain service q d).0
+
 pub ruleset policies = (policy_has_no_float, policy_is_shallow)
 
 pub ruleset decisions = (decision_has_no_float)
+
+pub ruleset audits = (audit_has_no_float)

@@ -12,6 +12,7 @@ use Rattle.rg_policy.specs.declared.policy.Item.{Item}
 use Rattle.rg_policy.specs.declared.policy.PolicyResource.{PolicyResource}
 use Rattle.rg_policy.specs.declared.policy.ResourceMap.{ResourceMap}
 use Rattle.rg_policy.specs.declared.policy.Policy.{Policy}
+use Rattle.rg_policy.specs.declared.request.AccessRequest.{AccessRequest}
 use Rattle.rg_facts.specs.declared.decision.Access.{Access}
 use Rattle.rg_facts.specs.declared.decision.Access.TheVariants.{Allowed, Denied, Undetermined}
 use Rattle.rg_facts.specs.declared.decision.Decision.{Decision}
@@ -172,3 +173,24 @@ decision_data d = object_of (decision_members d)
 -- the decision line, without its LF
 unfoldable pub decision_text : Decision → List ℕ
 decision_text d = compact_text (decision_data d)
+
+-- ---- audit lines
+
+-- the service, the request and its decision, which has the text of the resource
+abbrev pub audit_members : List ℕ → AccessRequest → Decision → List (Key × Data)
+audit_members service q d =
+    (key.Access, text_data q.access) ∷
+    (key.EvtTime, integer_data q.moment.0) ∷
+    (key.Policy, integer_data d.policy.0) ∷
+    (key.Repo, text_data service) ∷
+    (key.ReqUser, text_data q.user) ∷
+    (key.Resource, text_data d.path) ∷
+    (key.Result, access_data d.access) ∷
+    (key.Serial, count_data d.serial.0) ∷ []
+
+unfoldable pub audit_data : List ℕ → AccessRequest → Decision → Data
+audit_data service q d = object_of (audit_members service q d)
+
+-- the audit line, without its LF
+unfoldable pub audit_line : List ℕ → AccessRequest → Decision → List ℕ
+audit_line service q d = compact_text (audit_data service q d)

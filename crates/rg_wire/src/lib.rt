@@ -1,6 +1,7 @@
 // The records in JSON: tables of their fields, readers that name the first fault, and printers.
 #![tactic(auto)]
 
+mod audit_text;
 mod decision_text;
 mod definition;
 mod facts;
@@ -15,6 +16,7 @@ mod rows;
 mod tables;
 mod wire;
 
+pub use audit_text::print_audit;
 pub use decision_text::print_decision;
 pub use law::read_again;
 pub use policy_text::print_policy;
