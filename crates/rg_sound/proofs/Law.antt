@@ -1,8 +1,10 @@
 -- Facts are sound exactly where nothing makes them unsound.
-use Rattle.std.proofs.Common.{◌≡◌, ◌&&◌, true, false, not, ℕ, suc, Bool, cond, List, [], ◌∷◌, Option, Some, None, is_none, refl, ap, sym, ◌∙◌}
+use Rattle.std.proofs.Common.{◌≡◌, ◌&&◌, true, false, not, ℕ, ◌+◌, suc, Bool, cond, List, [], ◌∷◌, Option, Some, None, is_none, refl, ap, sym, ◌∙◌}
 use Rattle.std.proofs.lemmas.Bool.{and_from, and_parts}
-use Rattle.std.specs.List.{find, list_all}
+use Rattle.std.proofs.lemmas.Iterator.Adapters.{position_from-zero}
+use Rattle.std.specs.List.{find, list_all, position_from}
 use Rattle.std.specs.Ordering.{int_eq}
+use Rattle.std.specs.Option.{option_or}
 use Rattle.std.specs.Prelude.{option_and_then, option_map, position}
 use Rattle.rg_base.specs.Texts.{all_distinct}
 use Rattle.rg_policy.specs.declared.policy.Policy.{Policy}
@@ -25,7 +27,7 @@ use Rattle.rg_evalr.specs.declared.frame.Side.TheVariants.{Resource, Tag}
 use Rattle.rg_facts.specs.Candidates.{frame_of}
 use Rattle.rg_facts.specs.Sound.{all_policies, defs_sound, ids_sound, is_no_policy, is_tag_def, passes, policies_sound, roles_sound, row_ids, row_sound, sound, tag_def_sound, tag_policies_pass, tag_rows_sound, versions_fit, zone_names_sound, zones_sound}
 use Rattle.rg_facts.specs.declared.facts.Facts.{Facts}
-use Rattle.rg_sound.specs.Causes.{def_causes, faulty, first_cause, first_faulty, first_policy, first_some, first_tag_row, first_zone, policy_causes, role_causes, tag_def_causes, tag_policies_cause, tag_row_causes, unless, zone_causes, zone_name_causes}
+use Rattle.rg_sound.specs.Causes.{causes, def_causes, faulty, first_cause, first_faulty, first_policy, first_some, first_tag_row, first_zone, policy_causes, role_causes, rule_cause, tag_def_causes, tag_policies_cause, tag_row_causes, unless, zone_causes, zone_name_causes}
 use Rattle.rg_sound.specs.declared.unsound.Unsound.{Unsound}
 use Rattle.rg_sound.specs.declared.unsound.Unsound.TheVariants as unsound
 
@@ -51,12 +53,15 @@ none_found test (x ∷ xs) = elim (test x) as (λ b. is_none (cond (not b) (Some
   | false ↦ refl
 ]
 
-none_placed : {X : Type 0} (test : X → Bool) (xs : List X) → is_none (position (λ x. not (test x)) xs) ≡ list_all test xs
-none_placed test [] = refl
-none_placed test (x ∷ xs) = elim (test x) as (λ b. is_none (cond (not b) (Some 0) (option_map suc (position (λ y. not (test y)) xs))) ≡ (b && list_all test xs)) [
-  | true ↦ none_mapped suc (position (λ y. not (test y)) xs) ∙ none_placed test xs
+none_from : {X : Type 0} (test : X → Bool) (i : ℕ) (xs : List X) → is_none (position_from (λ x. not (test x)) i xs) ≡ list_all test xs
+none_from test i [] = refl
+none_from test i (x ∷ xs) = elim (test x) as (λ b. is_none (cond (not b) (Some i) (position_from (λ y. not (test y)) (i + 1) xs)) ≡ (b && list_all test xs)) [
+  | true ↦ none_from test (i + 1) xs
   | false ↦ refl
 ]
+
+none_placed : {X : Type 0} (test : X → Bool) (xs : List X) → is_none (position (λ x. not (test x)) xs) ≡ list_all test xs
+none_placed test xs = ap is_none (position_from-zero (λ x. not (test x)) xs) ∙ none_from test 0 xs
 
 and_true : (b : Bool) → (b && true) ≡ b
 and_true true = refl
@@ -145,20 +150,29 @@ tag_policies_none : (frame : Frame) (o : Option ServiceDef) (ps : List Policy) �
 tag_policies_none frame None ps = none_unless (is_no_policy ps) unsound.NoTagDefinition
 tag_policies_none frame (Some def) ps = faulty_none frame Tag ps
 
+none_or : {X : Type 0} (o p : Option X) → is_none (option_or o p) ≡ (is_none o && is_none p)
+none_or None p = refl
+none_or (Some x) p = refl
+
+rules_none : (facts : Facts) → is_none (rule_cause facts) ≡ (list_all (passes (frame_of facts) Resource) facts.policies.items && tag_policies_pass (frame_of facts) facts.tag_def facts.tag_policies.items)
+unfolding rule_cause
+rules_none facts =
+    none_or (first_faulty (frame_of facts) Resource facts.policies.items) _
+    ∙ (λ i. faulty_none (frame_of facts) Resource facts.policies.items i && tag_policies_none (frame_of facts) facts.tag_def facts.tag_policies.items i)
+
 policies_none : (facts : Facts) → is_none (first_some (policy_causes facts)) ≡ policies_sound facts
 unfolding policies_sound
 policies_none facts =
     none_of_all (policy_causes facts)
     ∙ (λ i. (none_mapped unsound.TimeZone (option_map place_number (bad_rule facts.time_zones.items)) ∙ none_mapped place_number (bad_rule facts.time_zones.items)) i
-    && (faulty_none (frame_of facts) Resource facts.policies.items i
-    && (and_true _ ∙ tag_policies_none (frame_of facts) facts.tag_def facts.tag_policies.items) i))
+    && (and_true _ ∙ rules_none facts) i)
 
 -- ---- the whole
 
 pub without_cause : (facts : Facts) → is_none (first_cause facts) ≡ sound facts
 unfolding first_cause sound
 without_cause facts =
-    none_of_all _
+    none_of_all (causes facts)
     ∙ (λ i. none_unless (versions_fit facts) unsound.Version i
     && (defs_none facts i
     && (none_unless (ids_sound (all_policies facts)) unsound.PolicyIds i
@@ -191,3 +205,5 @@ fitting_maps service def zones levels values =
     ∙ and_from _ _ (sym (zone_none 3 (zone_levels_fit service def) zones) ∙ ap is_none levels) (sym (zone_none 4 (zone_values_fit service) zones) ∙ ap is_none values)
 
 pub ruleset lawful = (lawful_def, lawful_tag_def)
+
+pub ruleset fitting = (fitting_maps)

@@ -92,21 +92,22 @@ abbrev pub tag_policies_cause : Frame → Option ServiceDef → List Policy → 
 tag_policies_cause frame None policies = unless (is_no_policy policies) unsound.NoTagDefinition
 tag_policies_cause frame (Some def) policies = first_faulty frame Tag policies
 
--- the time zones, and V3 to V9, V11 and V12 of each policy
+-- V3 to V9, V11 and V12 of each policy, those of the tag service last
+unfoldable pub rule_cause : Facts → Option Unsound
+rule_cause facts = option_or (first_faulty (frame_of facts) Resource facts.policies.items) (tag_policies_cause (frame_of facts) facts.tag_def facts.tag_policies.items)
+
+-- the time zones, and the rules of each policy under them
 abbrev pub policy_causes : Facts → List (Option Unsound)
-policy_causes facts =
-    option_map unsound.TimeZone (option_map place_number (bad_rule facts.time_zones.items))
-    ∷ first_faulty (frame_of facts) Resource facts.policies.items
-    ∷ tag_policies_cause (frame_of facts) facts.tag_def facts.tag_policies.items ∷ []
+policy_causes facts = option_map unsound.TimeZone (option_map place_number (bad_rule facts.time_zones.items)) ∷ rule_cause facts ∷ []
 
 -- the first that there is
 abbrev pub first_some : {X : Type 0} → List (Option X) → Option X
 first_some [] = None
 first_some (o ∷ os) = option_or o (first_some os)
 
--- the first cause: versions, definitions, ids, roles, zones, tag rows, policies
-unfoldable pub first_cause : Facts → Option Unsound
-first_cause facts = first_some (
+-- all causes in order: versions, definitions, ids, roles, zones, tag rows, policies
+abbrev pub causes : Facts → List (Option Unsound)
+causes facts =
     unless (versions_fit facts) unsound.Version
     ∷ first_some (def_causes facts)
     ∷ unless (ids_sound (all_policies facts)) unsound.PolicyIds
@@ -114,4 +115,8 @@ first_cause facts = first_some (
     ∷ first_some (zone_name_causes facts)
     ∷ first_some (zone_causes facts)
     ∷ first_some (tag_row_causes facts)
-    ∷ first_some (policy_causes facts) ∷ [])
+    ∷ first_some (policy_causes facts) ∷ []
+
+-- the first cause
+unfoldable pub first_cause : Facts → Option Unsound
+first_cause facts = first_some (causes facts)

@@ -9,6 +9,8 @@ ghost use Rattle.rg_cond.specs.Zones.{bad_rule, place_number};
 ghost use Rattle.rg_defs.specs.Rules.{def_fault};
 ghost use Rattle.rg_effect.specs.PolicyRules.{subjects_fit};
 ghost use Rattle.rg_evalr.specs.Frames.{def_of};
+ghost use Rattle.rg_evalr.specs.declared.frame.Side.TheVariants as Side;
+ghost use Rattle.rg_facts.specs.Candidates.{frame_of};
 ghost use Rattle.rg_facts.specs.declared.facts.Facts.{Facts};
 ghost use Rattle.rg_facts.specs.Sound.{is_no_policy, is_tag_def, passes, row_ids, sound, tag_def_sound, versions_fit};
 ghost use Rattle.rg_resmatch.specs.Rules.{tagged_fit};
@@ -18,7 +20,7 @@ ghost use Rattle.rg_tags.specs.Rules.{tags_fit};
 ghost use Rattle.rg_tags.specs.declared.row.TagRow.{TagRow};
 ghost use Rattle.rg_zones.specs.Overlap.{first_overlap};
 ghost use Rattle.rg_zones.specs.Rules.{all_maps_fit, listing_fits, policy_zone_fits, subjects_exist, tag_policy_zone_fits, zone_levels_fit, zone_values_fit};
-ghost use Rattle.rg_sound.specs.Causes.{def_causes, faulty, first_cause, first_faulty, first_some, policy_causes, role_causes, tag_def_causes, tag_policies_cause, tag_row_causes, unless, zone_causes, zone_name_causes};
+ghost use Rattle.rg_sound.specs.Causes.{def_causes, faulty, first_cause, first_faulty, first_some, first_tag_row, first_zone, policy_causes, role_causes, rule_cause, tag_def_causes, tag_policies_cause, tag_row_causes, unless, zone_causes, zone_name_causes};
 ghost use Rattle.rg_sound.specs.declared.unsound.Unsound.TheVariants as unsound;
 
 use crate::ids::{ids_distinct, ids_sound};
@@ -118,9 +120,8 @@ fn role_cause(alloc: Global, facts: &Facts, names: &NameIndex) -> Result<Option<
     if let Some(fault) = role_fault(alloc, facts.roles.as_slice())? {
         return Ok(Some(Unsound::Roles(fault)));
     }
-    let unfit = of_policy(10, unfit_subjects(names, facts.policies.as_slice()));
-    if unfit.is_some() {
-        return Ok(unfit);
+    if let Some(cause) = of_policy(10, unfit_subjects(names, facts.policies.as_slice())) {
+        return Ok(Some(cause));
     }
     Ok(of_policy(10, unfit_subjects(names, facts.tag_policies.as_slice())))
 }
@@ -152,9 +153,8 @@ fn tag_out_of_zone(facts: &Facts) -> Option<&Policy>
 fn zone_name_cause(facts: &Facts) -> Option<Unsound>
     ensures { result ≡ first_some (zone_name_causes facts.now) }
 {
-    let outside = of_policy(14, out_of_zone(is_tag_def(&facts.def), facts));
-    if outside.is_some() {
-        return outside;
+    if let Some(cause) = of_policy(14, out_of_zone(is_tag_def(&facts.def), facts)) {
+        return Some(cause);
     }
     of_policy(14, tag_out_of_zone(facts))
 }
@@ -177,10 +177,27 @@ fn unfit_listing(is_tag: bool, service: &str, zones: &[ZoneRow]) -> Option<usize
         .position(|zone| !listing_fits(is_tag, service, zone))
 }
 
+fn listing_cause(facts: &Facts) -> Option<Unsound>
+    ensures { result ≡ first_zone 2 (listing_fits (is_tag_def facts.now.def) facts.now.service) facts.now.zones.items }
+{
+    let is_tag = is_tag_def(&facts.def);
+    of_zone(
+        2,
+        unfit_listing(is_tag, facts.service.as_str(), facts.zones.as_slice()),
+    )
+}
+
 fn unknown_subjects(roles: &NameIndex, zones: &[ZoneRow]) -> Option<usize>
     ensures { result ≡ position (λ z. not (subjects_exist roles.now z)) zones.now }
 {
     zones.iter().position(|zone| !subjects_exist(roles, zone))
+}
+
+fn subject_cause(facts: &Facts, roles: &NameIndex) -> Option<Unsound>
+    requires { roles.now ≡ names_of facts.now.roles.items }
+    ensures { result ≡ first_zone 5 (subjects_exist (names_of facts.now.roles.items)) facts.now.zones.items }
+{
+    of_zone(5, unknown_subjects(roles, facts.zones.as_slice()))
 }
 
 fn unfit_levels(def: &ServiceDef, paths: &Paths, service: &str, zones: &[ZoneRow]) -> Option<usize>
@@ -192,12 +209,32 @@ fn unfit_levels(def: &ServiceDef, paths: &Paths, service: &str, zones: &[ZoneRow
         .position(|zone| !zone_levels_fit(def, paths, service, zone))
 }
 
+fn level_cause(facts: &Facts, paths: &Paths) -> Option<Unsound>
+    requires { paths.now ≡ facts.now.def.levels.items }
+    ensures { result ≡ first_zone 3 (zone_levels_fit facts.now.service facts.now.def) facts.now.zones.items }
+{
+    let service = facts.service.as_str();
+    of_zone(
+        3,
+        unfit_levels(&facts.def, paths, service, facts.zones.as_slice()),
+    )
+}
+
 fn unfit_values(service: &str, zones: &[ZoneRow]) -> Option<usize>
     ensures { result ≡ position (λ z. not (zone_values_fit (chars service.now) z)) zones.now }
 {
     zones
         .iter()
         .position(|zone| !zone_values_fit(service, zone))
+}
+
+fn value_cause(facts: &Facts) -> Option<Unsound>
+    ensures { result ≡ first_zone 4 (zone_values_fit facts.now.service) facts.now.zones.items }
+{
+    of_zone(
+        4,
+        unfit_values(facts.service.as_str(), facts.zones.as_slice()),
+    )
 }
 
 /// The first two zones that overlap for the service, whose maps fit.
@@ -214,6 +251,7 @@ fn overlap_cause(alloc: Global, facts: &Facts) -> Result<Option<Unsound>, NoMemo
 }
 
 /// The definition has passed its own rules.
+#[tactic(auto, using(crate::proofs::Law::fitting))]
 fn zone_cause(
     alloc: Global,
     facts: &Facts,
@@ -225,25 +263,20 @@ fn zone_cause(
     requires roles { roles.now ≡ names_of facts.now.roles.items }
     ensures { IfOk result (λ cause. cause ≡ first_some (zone_causes facts.now)) }
 {
-    let service = facts.service.as_str();
-    let zones = facts.zones.as_slice();
-    let listing = of_zone(2, unfit_listing(is_tag_def(&facts.def), service, zones));
-    if listing.is_some() {
-        return Ok(listing);
+    if let Some(cause) = listing_cause(facts) {
+        return Ok(Some(cause));
     }
-    let subjects = of_zone(5, unknown_subjects(roles, zones));
-    if subjects.is_some() {
-        return Ok(subjects);
+    if let Some(cause) = subject_cause(facts, roles) {
+        return Ok(Some(cause));
     }
-    let levels = of_zone(3, unfit_levels(&facts.def, paths, service, zones));
-    if levels.is_some() {
-        return Ok(levels);
+    if let Some(cause) = level_cause(facts, paths) {
+        return Ok(Some(cause));
     }
-    let values = of_zone(4, unfit_values(service, zones));
-    if values.is_some() {
-        return Ok(values);
+    if let Some(cause) = value_cause(facts) {
+        return Ok(Some(cause));
     }
-    overlap_cause(alloc, facts)
+    let cause = overlap_cause(alloc, facts)?;
+    Ok(cause)
 }
 
 /// The rule of this number fails for the tag row.
@@ -256,18 +289,24 @@ fn of_tag_row(rule: u8, row: Option<&TagRow>) -> Option<Unsound>
     }
 }
 
-fn unfit_resources<'a>(def: &ServiceDef, paths: &Paths, rows: &'a [TagRow]) -> Option<&'a TagRow>
-    requires { paths.now ≡ def.now.levels.items }
-    ensures { option_map (λ r. r.now) result ≡ find (λ (r : TagRow). not (tagged_fit def.now r.resources.items)) rows.now }
+fn resource_cause(facts: &Facts, paths: &Paths) -> Option<Unsound>
+    requires { paths.now ≡ facts.now.def.levels.items }
+    ensures { result ≡ first_tag_row 2 (λ (r : TagRow). tagged_fit facts.now.def r.resources.items) facts.now.tag_rows.items }
 {
-    rows.iter()
-        .find(|row| !tagged_fit(def, paths, row.resources.as_slice()))
+    let def = &facts.def;
+    let rows = facts.tag_rows.as_slice();
+    let row = rows
+        .iter()
+        .find(|row| !tagged_fit(def, paths, row.resources.as_slice()));
+    of_tag_row(2, row)
 }
 
-fn unfit_tags(rows: &[TagRow]) -> Option<&TagRow>
-    ensures { option_map (λ r. r.now) result ≡ find (λ (r : TagRow). not (tags_fit r.tags.items)) rows.now }
+fn tag_cause(facts: &Facts) -> Option<Unsound>
+    ensures { result ≡ first_tag_row 3 (λ (r : TagRow). tags_fit r.tags.items) facts.now.tag_rows.items }
 {
-    rows.iter().find(|row| !tags_fit(row.tags.as_slice()))
+    let rows = facts.tag_rows.as_slice();
+    let row = rows.iter().find(|row| !tags_fit(row.tags.as_slice()));
+    of_tag_row(3, row)
 }
 
 /// The ids of the rows.
@@ -292,16 +331,14 @@ fn tag_row_cause(alloc: Global, facts: &Facts, paths: &Paths) -> Result<Option<U
     requires { paths.now ≡ facts.now.def.levels.items }
     ensures { IfOk result (λ cause. cause ≡ first_some (tag_row_causes facts.now)) }
 {
-    let rows = facts.tag_rows.as_slice();
-    let resources = of_tag_row(2, unfit_resources(&facts.def, paths, rows));
-    if resources.is_some() {
-        return Ok(resources);
+    if let Some(cause) = resource_cause(facts, paths) {
+        return Ok(Some(cause));
     }
-    let tags = of_tag_row(3, unfit_tags(rows));
-    if tags.is_some() {
-        return Ok(tags);
+    if let Some(cause) = tag_cause(facts) {
+        return Ok(Some(cause));
     }
-    Ok(unless(row_ids_distinct(alloc, rows)?, Unsound::TagRowIds))
+    let are_distinct = row_ids_distinct(alloc, facts.tag_rows.as_slice())?;
+    Ok(unless(are_distinct, Unsound::TagRowIds))
 }
 
 /// The first time zone whose rule doesn't read.
@@ -374,22 +411,55 @@ fn tag_policies_cause(
     Ok(first_faulty(frame, Side::Tag, &paths, policies))
 }
 
+/// The first policy of the service that fails a rule of V3 to V9, V11 and V12 under this frame, which is the facts'.
+fn resource_policy_cause(facts: &Facts, frame: &Frame, paths: &Paths) -> Option<Unsound>
+    requires frame { frame.now ≡ frame_of facts.now }
+    requires paths { paths.now ≡ facts.now.def.levels.items }
+    ensures { result ≡ first_faulty (frame_of facts.now) Side.Resource facts.now.policies.items }
+{
+    first_faulty(frame, Side::Resource, paths, facts.policies.as_slice())
+}
+
+/// The same of the tag service's policies.
+fn tag_policy_cause(
+    alloc: Global,
+    facts: &Facts,
+    frame: &Frame,
+) -> Result<Option<Unsound>, NoMemory>
+    requires frame { frame.now ≡ frame_of facts.now }
+    requires tag_def { tag_def_sound facts.now.tag_def ≡ true }
+    ensures { IfOk result (λ cause. cause ≡ tag_policies_cause (frame_of facts.now) facts.now.tag_def facts.now.tag_policies.items) }
+{
+    let cause = tag_policies_cause(alloc, frame, facts.tag_policies.as_slice())?;
+    Ok(cause)
+}
+
+/// The definitions have passed their own rules.
+#[tactic(auto, unfolding(crate::specs::Causes::rule_cause))]
+fn rule_cause(alloc: Global, facts: &Facts, paths: &Paths) -> Result<Option<Unsound>, NoMemory>
+    requires tag_def { tag_def_sound facts.now.tag_def ≡ true }
+    requires paths { paths.now ≡ facts.now.def.levels.items }
+    ensures { IfOk result (λ cause. cause ≡ rule_cause facts.now) }
+{
+    let frame = frame_of(alloc, facts)?;
+    if let Some(cause) = resource_policy_cause(facts, &frame, paths) {
+        return Ok(Some(cause));
+    }
+    let cause = tag_policy_cause(alloc, facts, &frame)?;
+    Ok(cause)
+}
+
 /// The definitions have passed their own rules.
 fn policy_cause(alloc: Global, facts: &Facts, paths: &Paths) -> Result<Option<Unsound>, NoMemory>
     requires tag_def { tag_def_sound facts.now.tag_def ≡ true }
     requires paths { paths.now ≡ facts.now.def.levels.items }
     ensures { IfOk result (λ cause. cause ≡ first_some (policy_causes facts.now)) }
 {
-    let time_zone = time_zone_cause(alloc, facts.time_zones.as_slice())?;
-    if time_zone.is_some() {
-        return Ok(time_zone);
+    if let Some(cause) = time_zone_cause(alloc, facts.time_zones.as_slice())? {
+        return Ok(Some(cause));
     }
-    let frame = frame_of(alloc, facts)?;
-    let policy = first_faulty(&frame, Side::Resource, paths, facts.policies.as_slice());
-    if policy.is_some() {
-        return Ok(policy);
-    }
-    tag_policies_cause(alloc, &frame, facts.tag_policies.as_slice())
+    let cause = rule_cause(alloc, facts, paths)?;
+    Ok(cause)
 }
 
 /// What makes the facts unsound: the first cause, None where they are sound. It takes memory for the ids, the paths, the
@@ -421,7 +491,8 @@ pub fn unsound_cause(alloc: Global, facts: &Facts) -> Result<Option<Unsound>, No
     if let Some(cause) = tag_row_cause(alloc, facts, &paths)? {
         return Ok(Some(cause));
     }
-    policy_cause(alloc, facts, &paths)
+    let cause = policy_cause(alloc, facts, &paths)?;
+    Ok(cause)
 }
 
 /// Facts are sound exactly where there is no such cause.
