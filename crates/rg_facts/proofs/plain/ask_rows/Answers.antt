@@ -20,8 +20,8 @@ rows-preserved-then-row_lies c =
     let matched : c.rows.matchers.now ≡ c.in-Some-Some.matcher.now ∷ c.in-Some-Some.more.now = search rules in
     let matchers = sym matched ∙ c.rows.invariant.matchers ∙ ap (map (row_matching facts.def)) listed in
     let lies : row_lies facts s.request row ≡ true =
-        sym (ap (λ (x : Setting). row_lies facts x.request row) c.setting.view_is)
-        ∙ sym (c.row_lies.ensures facts (first_matcher facts.def _ _ row later matchers)) ∙ c.if-row_lies.true in
+    sym (ap (λ (x : Setting). row_lies facts x.request row) c.setting.view_is)
+    ∙ sym (c.row_lies.ensures facts (first_matcher facts.def _ _ row later matchers)) ∙ c.if-row_lies.true in
     record {
       same = ap (after All s (flat_map made (tags_in facts s.request later))) (c.ask_tags-best.ensures ∙ ap (λ (tags : List Tag). after All s (flat_map made tags) c.rows.best) c.as_slice.ensures)
           ∙ row_next facts s.request made row later All s c.rows.best lies

@@ -19,5 +19,5 @@ returns c =
     let held = c.self.inside.held in
     let sources : c.as_slice-2.result.now ≡ sources_of (frame_of held) Resource held.policies.items = c.as_slice-2.ensures ∙ ap (λ (l : Listed Source). l.items) c.self.invariant.3.evaluators in
     let asked : asked_for None c.as_slice-2.result.now ≡ resource_candidates c.args.self.now =
-        ap (asked_for None) sources ∙ candidates_are (frame_of held) Resource None held.policies.items ∙ ap resource_candidates c.self.view_is in
+    ap (asked_for None) sources ∙ candidates_are (frame_of held) Resource None held.policies.items ∙ ap resource_candidates c.self.view_is in
     c.ask_policies.ensures ∙ ap (λ (cs : List Candidate). after c.args.pass c.args.setting.now cs c.args.best) asked

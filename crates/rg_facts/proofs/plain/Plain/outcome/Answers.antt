@@ -12,11 +12,11 @@ returns-then-not-allows c =
     let facts = c.args.self.now in
     let q = c.args.request.now in
     let tagged : c.ask_tag_policies-best.result ≡ after All (setting_of facts q) (flat_map (tag_candidates facts) (tags_of facts q)) none_yet =
-        c.ask_tag_policies-best.ensures ∙ ap (λ (s : Setting). after All s (flat_map (tag_candidates facts) (tags_of facts s.request)) none_yet) c.setting-setting.ensures in
+    c.ask_tag_policies-best.ensures ∙ ap (λ (s : Setting). after All s (flat_map (tag_candidates facts) (tags_of facts s.request)) none_yet) c.setting-setting.ensures in
     let asked : c.ask_resource_policies-best.result ≡ after Access (setting_of facts q) (resource_candidates facts) (after All (setting_of facts q) (flat_map (tag_candidates facts) (tags_of facts q)) none_yet) =
-        c.ask_resource_policies-best.ensures
-        ∙ ap (λ (s : Setting). after Access s (resource_candidates facts) c.ask_tag_policies-best.result) c.setting-setting.ensures
-        ∙ ap (after Access (setting_of facts q) (resource_candidates facts)) tagged in
+    c.ask_resource_policies-best.ensures
+    ∙ ap (λ (s : Setting). after Access s (resource_candidates facts) c.ask_tag_policies-best.result) c.setting-setting.ensures
+    ∙ ap (after Access (setting_of facts q) (resource_candidates facts)) tagged in
     c.outcome.ensures
     ∙ ap (λ (f : Facts). outcome_by f.fallback c.ask_resource_policies-best.result) c.self.view_is
     ∙ sym (outcome_denied facts q c.ask_resource_policies-best.result asked (c.allows.ensures facts.fallback ∙ c.if-not-allows.true))
@@ -27,14 +27,14 @@ returns c =
     let q = c.args.request.now in
     let s = setting_of facts q in
     let tagged : c.ask_tag_policies-best.result ≡ after All (setting_of facts q) (flat_map (tag_candidates facts) (tags_of facts q)) none_yet =
-        c.ask_tag_policies-best.ensures ∙ ap (λ (x : Setting). after All x (flat_map (tag_candidates facts) (tags_of facts x.request)) none_yet) c.setting-setting.ensures in
+    c.ask_tag_policies-best.ensures ∙ ap (λ (x : Setting). after All x (flat_map (tag_candidates facts) (tags_of facts x.request)) none_yet) c.setting-setting.ensures in
     c.outcome-2.ensures
     ∙ ap (λ (f : Facts). outcome_by f.fallback c.ask_resource_policies-best-2.result) c.self.view_is
     ∙ ap (outcome_by facts.fallback) (
-        c.ask_resource_policies-best-2.ensures
-        ∙ ap (λ (x : Setting). after Choices x (resource_candidates facts) c.ask_resource_policies-best.result) c.setting-setting.ensures
-        ∙ ap (after Choices (setting_of facts q) (resource_candidates facts)) (
-            c.ask_resource_policies-best.ensures
-            ∙ ap (λ (x : Setting). after Access x (resource_candidates facts) c.ask_tag_policies-best.result) c.setting-setting.ensures
-            ∙ ap (after Access (setting_of facts q) (resource_candidates facts)) tagged))
+    c.ask_resource_policies-best-2.ensures
+    ∙ ap (λ (x : Setting). after Choices x (resource_candidates facts) c.ask_resource_policies-best.result) c.setting-setting.ensures
+    ∙ ap (after Choices (setting_of facts q) (resource_candidates facts)) (
+    c.ask_resource_policies-best.ensures
+    ∙ ap (λ (x : Setting). after Access x (resource_candidates facts) c.ask_tag_policies-best.result) c.setting-setting.ensures
+    ∙ ap (after Access (setting_of facts q) (resource_candidates facts)) tagged))
     ∙ sym (outcome_found facts q)
