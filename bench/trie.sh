@@ -1,5 +1,5 @@
 #!/usr/bin/env bash
-# What an edit of a trie and a walk over it cost, at three sizes. Prints microseconds; the lowest of three runs counts.
+# What an edit of a trie, a walk over it and a count of what the walk gives cost, at three sizes. Prints microseconds; the lowest of three runs counts.
 set -eu
 cd "$(dirname "$0")/../crates/bench_trie"
 rt run > /dev/null 2>&1 || { echo "bench_trie is not built: see rt run in crates/bench_trie" >&2; exit 1; }
@@ -20,9 +20,10 @@ lowest() {
 }
 
 for pairs in 1000 10000 100000; do
-    filled=$(lowest "$pairs" 0 0)
-    edited=$(lowest "$pairs" "$ROUNDS" 0)
-    walked=$(lowest "$pairs" 0 "$WALKS")
-    awk -v pairs="$pairs" -v filled="$filled" -v edited="$edited" -v walked="$walked" -v rounds="$ROUNDS" -v walks="$WALKS" \
-        'BEGIN { printf "pairs=%d insertion while filling=%.1f edit=%.1f walk=%.2f\n", pairs, filled / pairs, (edited - filled) / (2 * rounds), (walked - filled) / walks }'
+    filled=$(lowest "$pairs" 0 0 0)
+    edited=$(lowest "$pairs" "$ROUNDS" 0 0)
+    walked=$(lowest "$pairs" 0 "$WALKS" 0)
+    counted=$(lowest "$pairs" 0 0 "$WALKS")
+    awk -v pairs="$pairs" -v filled="$filled" -v edited="$edited" -v walked="$walked" -v counted="$counted" -v rounds="$ROUNDS" -v walks="$WALKS" \
+        'BEGIN { printf "pairs=%d insertion while filling=%.1f edit=%.1f walk=%.2f count=%.2f\n", pairs, filled / pairs, (edited - filled) / (2 * rounds), (walked - filled) / walks, (counted - filled) / walks }'
 done

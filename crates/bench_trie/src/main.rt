@@ -1,5 +1,5 @@
-// Builds a trie, takes pairs out and puts them back, and walks it. With no argument it does so on a small scale and prints
-// fixed counts; `bench/trie.sh` gives it the three numbers and takes the time.
+// Builds a trie, takes pairs out and puts them back, walks it and counts what walks give. With no argument it does so on a
+// small scale and prints fixed counts; `bench/trie.sh` gives it the four numbers and takes the time.
 #![tactic(auto)]
 
 use anyhow::{Context, Result, anyhow};
@@ -17,6 +17,8 @@ struct Load {
     rounds: u32,
     /// How many walks are made.
     walks: u32,
+    /// How often the entries of a walk are counted.
+    counts: u32,
 }
 
 /// The load that the arguments name; a small one where there is none.
@@ -27,14 +29,17 @@ fn load_of(rt: &HostRuntime) -> Result<Load> {
             pairs: 1000,
             rounds: 100,
             walks: 100,
+            counts: 100,
         });
     };
     let rounds = words.next().context("the rounds are missing")?;
     let walks = words.next().context("the walks are missing")?;
+    let counts = words.next().context("the counts are missing")?;
     Ok(Load {
         pairs: pairs.as_str().parse()?,
         rounds: rounds.as_str().parse()?,
         walks: walks.as_str().parse()?,
+        counts: counts.as_str().parse()?,
     })
 }
 
@@ -99,19 +104,33 @@ fn walked(alloc: Global, trie: &Trie, load: Load) -> Result<u64, NoMemory> {
     Ok(found)
 }
 
-fn measured(alloc: Global, load: Load) -> Result<(u64, u64), NoMemory> {
+/// How many entries the walks would give.
+fn counted(alloc: Global, trie: &Trie, load: Load) -> Result<u64, NoMemory> {
+    let mut found = 0u64;
+    for i in 0..load.counts {
+        let number = scrambled(i, load.pairs);
+        let Ok(value) = format!(in alloc; "db{number}/orders") else {
+            return Err(NoMemory);
+        };
+        found = found.saturating_add(trie.count(value.as_str(), false) as u64);
+    }
+    Ok(found)
+}
+
+fn measured(alloc: Global, load: Load) -> Result<(u64, u64, u64), NoMemory> {
     let mut steps = Steps::counted();
     let trie = filled(alloc, load.pairs, &mut steps)?;
     let trie = edited(alloc, trie, load, &mut steps)?;
     let found = walked(alloc, &trie, load)?;
-    Ok((steps.ledger().edits, found))
+    let counted = counted(alloc, &trie, load)?;
+    Ok((steps.ledger().edits, found, counted))
 }
 
 fn main(rt: HostRuntime) -> Result<()> {
     let load = load_of(&rt)?;
-    let Ok((edits, found)) = measured(rt.alloc(), load) else {
+    let Ok((edits, found, counted)) = measured(rt.alloc(), load) else {
         return Err(anyhow!("memory was refused"));
     };
-    println!(rt; "edits={edits} found={found}")?;
+    println!(rt; "edits={edits} found={found} counted={counted}")?;
     Ok(())
 }
