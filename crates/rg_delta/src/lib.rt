@@ -1,8 +1,16 @@
 // The changes of a service, as its logs keep them and as they are applied.
 #![tactic(auto)]
 
+mod apply;
+mod births;
+mod by_id;
+mod edit;
+mod fates;
 mod log;
 mod touch;
 
 pub use log::{DeltaLog, Since};
 pub use touch::Touch;
+
+#[cfg(test)]
+mod tests;
