@@ -7,9 +7,12 @@ mod by_id;
 mod edit;
 mod fates;
 mod log;
+mod plain;
+mod sides;
 mod touch;
 
 pub use log::{DeltaLog, Since};
+pub use plain::apply_plain;
 pub use touch::Touch;
 
 #[cfg(test)]
