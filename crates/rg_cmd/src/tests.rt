@@ -185,7 +185,10 @@ fn states_are_copied(rt: HostRuntime) {
     {
         assert!(rt; there, "part {place}");
     }
-    assert_eq!(rt; (copy.next_id, copy.count, copy.role_version), (8, 5, Version(2)));
+    assert_eq!(rt;
+        (copy.next_id, copy.count, copy.role_version),
+        (8, 5, Version(2))
+    );
 }
 
 fn config(alloc: Global) -> Result<Config, NoMemory> {
@@ -234,7 +237,10 @@ fn logs_are_copied(rt: HostRuntime) {
     let log = log(rt.alloc()).expect(&rt, "ample memory");
     let copy = log.try_copy(rt.alloc()).expect(&rt, "ample memory");
     assert!(rt; same_text(copy.service.as_str(), "hive1"));
-    assert_eq!(rt; (copy.policy_version, copy.tag_version), (Version(4), Version(5)));
+    assert_eq!(rt;
+        (copy.policy_version, copy.tag_version),
+        (Version(4), Version(5))
+    );
     assert_eq!(rt; copy.policy_changes.len(), 2);
     for entry in copy.policy_changes.as_slice() {
         if let LogEntry::Policy(change) = entry {
@@ -301,7 +307,10 @@ fn deltas_are_copied(rt: HostRuntime) {
         assert!(rt; false, "the policies part is a delta");
     }
     if let TagPart::Delta(delta) = &copy.tags {
-        assert_eq!(rt; (delta.from, delta.to, delta.changes.len()), (Version(3), Version(4), 1));
+        assert_eq!(rt;
+            (delta.from, delta.to, delta.changes.len()),
+            (Version(3), Version(4), 1)
+        );
     } else {
         assert!(rt; false, "the tags part is a delta");
     }
@@ -311,7 +320,10 @@ fn deltas_are_copied(rt: HostRuntime) {
         roles: None,
     };
     let copy = roles.try_copy(rt.alloc()).expect(&rt, "ample memory");
-    assert_eq!(rt; (copy.from, copy.to, copy.roles.is_none()), (Version(5), Version(6), true));
+    assert_eq!(rt;
+        (copy.from, copy.to, copy.roles.is_none()),
+        (Version(5), Version(6), true)
+    );
 }
 
 #[test]
@@ -321,8 +333,14 @@ fn wholes_are_copied(rt: HostRuntime) {
     if let PolicyPart::Whole(whole) = &copy.policies {
         assert_eq!(rt; (whole.version, whole.fallback), (Version(2), true));
         assert!(rt; same_text(whole.def.name.as_str(), "hive") && whole.tag_def.is_some());
-        assert!(rt; is_named(whole.policies.as_slice(), "p7") && is_named(whole.tag_policies.as_slice(), "p7"));
-        assert!(rt; is_named(whole.zones.as_slice(), "finance") && is_named(whole.time_zones.as_slice(), "Berlin"));
+        assert!(rt;
+            is_named(whole.policies.as_slice(), "p7")
+                && is_named(whole.tag_policies.as_slice(), "p7")
+        );
+        assert!(rt;
+            is_named(whole.zones.as_slice(), "finance")
+                && is_named(whole.time_zones.as_slice(), "Berlin")
+        );
     } else {
         assert!(rt; false, "the policies part is whole");
     }
