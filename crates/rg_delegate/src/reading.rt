@@ -9,7 +9,7 @@ ghost use Rattle.rg_defs.specs.Paths.{level_of};
 ghost use Rattle.rg_policy.specs.Maps.{maps_of};
 ghost use Rattle.rg_resmatch.specs.Rules.{all_values_fit, are_written, policy_values_fit, values_fit};
 ghost use Rattle.rg_delegate.specs.Compiled.{level_form, map_form, map_forms};
-ghost use Rattle.rg_delegate.specs.Covering.{has_wildcards, ignores_case};
+ghost use Rattle.rg_delegate.specs.Covering.{has_wildcards, ignores_case, patterns_at};
 
 use rg_base::{Named, NoMemory};
 use rg_defs::{ServiceDef, level_of};
@@ -59,22 +59,34 @@ impl<'a> Model for ReadMap<'a> {
     ghost view = { λ m. m.levels.items };
 }
 
-fn has_wildcards(def: &ServiceDef, name: &str) -> bool
-    ensures { result ≡ has_wildcards def.now (chars name.now) }
+fn has_wildcards(def: &ServiceDef, resource: &PolicyResource) -> bool
+    ensures { result ≡ has_wildcards def.now resource.now.level }
 {
-    match level_of(def, name) {
+    match level_of(def, resource.level.as_str()) {
         Some(level) => level.wild,
         None => false,
     }
 }
 
-fn ignores_case(def: &ServiceDef, name: &str) -> bool
-    ensures { result ≡ ignores_case def.now (chars name.now) }
+fn ignores_case(def: &ServiceDef, resource: &PolicyResource) -> bool
+    ensures { result ≡ ignores_case def.now resource.now.level }
 {
-    match level_of(def, name) {
+    match level_of(def, resource.level.as_str()) {
         Some(level) => level.fold,
         None => false,
     }
+}
+
+fn patterns_at(
+    alloc: Global,
+    def: &ServiceDef,
+    resource: &PolicyResource,
+) -> Result<Vec<Pattern>, NoMemory>
+    requires { list_all is_name resource.now.values.items ≡ true }
+    ensures { IfOk result (λ v. v.items ≡ patterns_at def.now resource.now) }
+{
+    let wild = has_wildcards(def, resource);
+    value_patterns(alloc, resource.values.as_slice(), wild, resource.recursive)
 }
 
 fn read_level<'a>(
@@ -85,10 +97,8 @@ fn read_level<'a>(
     requires { list_all is_name resource.now.values.items ≡ true }
     ensures { IfOk result (λ l. l ≡ level_form def.now resource.now) }
 {
-    let level = resource.level.as_str();
-    let wild = has_wildcards(def, level);
-    let fold = ignores_case(def, level);
-    let patterns = value_patterns(alloc, resource.values.as_slice(), wild, resource.recursive)?;
+    let patterns = patterns_at(alloc, def, resource)?;
+    let fold = ignores_case(def, resource);
     Ok(ReadLevel {
         written: resource,
         patterns,
