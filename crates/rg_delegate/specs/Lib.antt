@@ -1,0 +1,9 @@
+pub mod Accesses
+pub mod Authority
+pub mod Compiled
+pub mod Covering
+pub mod Found
+pub mod Laws
+pub mod Listing
+pub mod Ready
+pub mod Rules
