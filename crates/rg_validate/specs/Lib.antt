@@ -1,0 +1,10 @@
+pub mod Definitions
+pub mod Failing
+pub mod Policies
+pub mod Roles
+pub mod Rules
+pub mod Tags
+pub mod Twins
+pub mod Users
+pub mod Valid
+pub mod Zones
