@@ -1,0 +1,4 @@
+pub mod Kinds
+pub mod Lists
+pub mod Lookups
+pub mod RuleNames

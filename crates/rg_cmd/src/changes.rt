@@ -1,7 +1,8 @@
 // Changes, and the log of a service that notes them.
-use rg_base::{Named, Seq, Text, Version};
+use rg_base::{Named, NoMemory, Seq, Text, TryCopy, Version};
 use rg_policy::Policy;
 use rg_tags::TagRow;
+use std::alloc::Global;
 
 /// The type of a change that created something.
 pub const CREATED: u8 = 0;
@@ -55,5 +56,45 @@ impl Named for Log {
 
     fn name(&self) -> &str {
         self.service.as_str()
+    }
+}
+
+impl TryCopy for PolicyChange {
+    fn try_copy(&self, alloc: Global) -> Result<PolicyChange, NoMemory> {
+        Ok(PolicyChange {
+            change_type: self.change_type,
+            tag: self.tag,
+            policy: self.policy.try_copy(alloc)?,
+        })
+    }
+}
+
+impl TryCopy for TagChange {
+    fn try_copy(&self, alloc: Global) -> Result<TagChange, NoMemory> {
+        Ok(TagChange {
+            change_type: self.change_type,
+            row: self.row.try_copy(alloc)?,
+        })
+    }
+}
+
+impl TryCopy for LogEntry {
+    fn try_copy(&self, alloc: Global) -> Result<LogEntry, NoMemory> {
+        match self {
+            LogEntry::Policy(change) => Ok(LogEntry::Policy(change.try_copy(alloc)?)),
+            LogEntry::Zones => Ok(LogEntry::Zones),
+        }
+    }
+}
+
+impl TryCopy for Log {
+    fn try_copy(&self, alloc: Global) -> Result<Log, NoMemory> {
+        Ok(Log {
+            service: self.service.try_copy(alloc)?,
+            policy_version: self.policy_version,
+            tag_version: self.tag_version,
+            policy_changes: self.policy_changes.try_copy(alloc)?,
+            tag_changes: self.tag_changes.try_copy(alloc)?,
+        })
     }
 }

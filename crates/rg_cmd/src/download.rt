@@ -1,11 +1,14 @@
 // What a service's plugin downloads.
+ghost use Rattle.std.specs.Prelude.{◌≡◌, IfOk};
+
 use crate::changes::{PolicyChange, TagChange};
-use rg_base::{Seq, Version};
+use rg_base::{NoMemory, Seq, TryCopy, Version};
 use rg_defs::ServiceDef;
 use rg_policy::{Policy, TimeZoneRow};
 use rg_roles::RoleRow;
 use rg_tags::TagRow;
 use rg_zones::ZoneRow;
+use std::alloc::Global;
 
 /// What a download has a version of.
 #[derive(Clone, Copy, Debug, PartialEq, Eq)]
@@ -99,4 +102,133 @@ pub struct Download {
     pub policies: PolicyPart,
     pub tags: TagPart,
     pub roles: RolePart,
+}
+
+impl TryCopy for PolicyDelta {
+    fn try_copy(&self, alloc: Global) -> Result<PolicyDelta, NoMemory> {
+        Ok(PolicyDelta {
+            from: self.from,
+            to: self.to,
+            changes: self.changes.try_copy(alloc)?,
+            zones: self.zones.try_copy(alloc)?,
+        })
+    }
+}
+
+impl TryCopy for TagDelta {
+    fn try_copy(&self, alloc: Global) -> Result<TagDelta, NoMemory> {
+        Ok(TagDelta {
+            from: self.from,
+            to: self.to,
+            changes: self.changes.try_copy(alloc)?,
+        })
+    }
+}
+
+impl TryCopy for RoleDelta {
+    fn try_copy(&self, alloc: Global) -> Result<RoleDelta, NoMemory> {
+        Ok(RoleDelta {
+            from: self.from,
+            to: self.to,
+            roles: self.roles.try_copy(alloc)?,
+        })
+    }
+}
+
+// A copy of the whole is made in parts, so that few things are let go where memory is refused.
+
+fn copy_defs(
+    alloc: Global,
+    whole: &PolicyWhole,
+) -> Result<(ServiceDef, Option<ServiceDef>), NoMemory>
+    ensures { IfOk result (λ defs. (defs.0 ≡ whole.now.def) × (defs.1 ≡ whole.now.tag_def)) }
+{
+    let def = whole.def.try_copy(alloc)?;
+    let tag_def = whole.tag_def.try_copy(alloc)?;
+    Ok((def, tag_def))
+}
+
+fn copy_policies(alloc: Global, whole: &PolicyWhole) -> Result<(Seq<Policy>, Seq<Policy>), NoMemory>
+    ensures { IfOk result (λ lists. (lists.0 ≡ whole.now.policies) × (lists.1 ≡ whole.now.tag_policies)) }
+{
+    let policies = whole.policies.try_copy(alloc)?;
+    let tag_policies = whole.tag_policies.try_copy(alloc)?;
+    Ok((policies, tag_policies))
+}
+
+impl TryCopy for PolicyWhole {
+    fn try_copy(&self, alloc: Global) -> Result<PolicyWhole, NoMemory> {
+        let (def, tag_def) = copy_defs(alloc, self)?;
+        let (policies, tag_policies) = copy_policies(alloc, self)?;
+        let zones = self.zones.try_copy(alloc)?;
+        let time_zones = self.time_zones.try_copy(alloc)?;
+        Ok(PolicyWhole {
+            version: self.version,
+            fallback: self.fallback,
+            def,
+            tag_def,
+            policies,
+            tag_policies,
+            zones,
+            time_zones,
+        })
+    }
+}
+
+impl TryCopy for TagWhole {
+    fn try_copy(&self, alloc: Global) -> Result<TagWhole, NoMemory> {
+        Ok(TagWhole {
+            version: self.version,
+            rows: self.rows.try_copy(alloc)?,
+        })
+    }
+}
+
+impl TryCopy for RoleWhole {
+    fn try_copy(&self, alloc: Global) -> Result<RoleWhole, NoMemory> {
+        Ok(RoleWhole {
+            version: self.version,
+            roles: self.roles.try_copy(alloc)?,
+        })
+    }
+}
+
+impl TryCopy for PolicyPart {
+    fn try_copy(&self, alloc: Global) -> Result<PolicyPart, NoMemory> {
+        match self {
+            PolicyPart::Unchanged => Ok(PolicyPart::Unchanged),
+            PolicyPart::Delta(delta) => Ok(PolicyPart::Delta(delta.try_copy(alloc)?)),
+            PolicyPart::Whole(whole) => Ok(PolicyPart::Whole(whole.try_copy(alloc)?)),
+        }
+    }
+}
+
+impl TryCopy for TagPart {
+    fn try_copy(&self, alloc: Global) -> Result<TagPart, NoMemory> {
+        match self {
+            TagPart::Unchanged => Ok(TagPart::Unchanged),
+            TagPart::Delta(delta) => Ok(TagPart::Delta(delta.try_copy(alloc)?)),
+            TagPart::Whole(whole) => Ok(TagPart::Whole(whole.try_copy(alloc)?)),
+        }
+    }
+}
+
+impl TryCopy for RolePart {
+    fn try_copy(&self, alloc: Global) -> Result<RolePart, NoMemory> {
+        match self {
+            RolePart::Unchanged => Ok(RolePart::Unchanged),
+            RolePart::Whole(whole) => Ok(RolePart::Whole(whole.try_copy(alloc)?)),
+        }
+    }
+}
+
+impl TryCopy for Download {
+    fn try_copy(&self, alloc: Global) -> Result<Download, NoMemory> {
+        Ok(Download {
+            seq: self.seq,
+            policies: self.policies.try_copy(alloc)?,
+            tags: self.tags.try_copy(alloc)?,
+            roles: self.roles.try_copy(alloc)?,
+        })
+    }
 }

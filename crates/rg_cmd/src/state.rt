@@ -1,10 +1,13 @@
 // What an administration holds.
-use rg_base::{Named, Seq, Text, Version};
+ghost use Rattle.std.specs.Prelude.{◌≡◌, IfOk};
+
+use rg_base::{Named, NoMemory, Seq, Text, TryCopy, Version};
 use rg_defs::ServiceDef;
 use rg_policy::{Policy, TimeZoneRow};
 use rg_roles::RoleRow;
 use rg_tags::TagRow;
 use rg_zones::ZoneRow;
+use std::alloc::Global;
 
 /// A service (RangerService).
 #[derive(Drop)]
@@ -61,5 +64,84 @@ impl Named for UserRow {
 
     fn name(&self) -> &str {
         self.name.as_str()
+    }
+}
+
+impl TryCopy for ServiceRow {
+    fn try_copy(&self, alloc: Global) -> Result<ServiceRow, NoMemory> {
+        Ok(ServiceRow {
+            name: self.name.try_copy(alloc)?,
+            def: self.def.try_copy(alloc)?,
+            tag_service: self.tag_service.try_copy(alloc)?,
+            fallback: self.fallback,
+        })
+    }
+}
+
+impl TryCopy for UserRow {
+    fn try_copy(&self, alloc: Global) -> Result<UserRow, NoMemory> {
+        Ok(UserRow {
+            name: self.name.try_copy(alloc)?,
+            groups: self.groups.try_copy(alloc)?,
+        })
+    }
+}
+
+// A copy of a state is made in parts, so that few things are let go where memory is refused.
+
+fn copy_services(
+    alloc: Global,
+    state: &State,
+) -> Result<(Seq<ServiceDef>, Seq<ServiceRow>, Seq<TimeZoneRow>), NoMemory>
+    ensures { IfOk result (λ lists. (lists.0 ≡ state.now.defs) × (lists.1 ≡ state.now.services) × (lists.2 ≡ state.now.time_zones)) }
+{
+    let defs = state.defs.try_copy(alloc)?;
+    let services = state.services.try_copy(alloc)?;
+    let time_zones = state.time_zones.try_copy(alloc)?;
+    Ok((defs, services, time_zones))
+}
+
+fn copy_policies(alloc: Global, state: &State) -> Result<(Seq<Policy>, Seq<TagRow>), NoMemory>
+    ensures { IfOk result (λ lists. (lists.0 ≡ state.now.policies) × (lists.1 ≡ state.now.tag_rows)) }
+{
+    let policies = state.policies.try_copy(alloc)?;
+    let tag_rows = state.tag_rows.try_copy(alloc)?;
+    Ok((policies, tag_rows))
+}
+
+fn copy_subjects(
+    alloc: Global,
+    state: &State,
+) -> Result<(Seq<Text>, Seq<UserRow>, Seq<ZoneRow>, Seq<RoleRow>), NoMemory>
+    ensures { IfOk result (λ lists. (lists.0 ≡ state.now.admins) × (lists.1 ≡ state.now.users) × (lists.2 ≡ state.now.zones) × (lists.3 ≡ state.now.roles)) }
+{
+    let admins = state.admins.try_copy(alloc)?;
+    let users = state.users.try_copy(alloc)?;
+    let zones = state.zones.try_copy(alloc)?;
+    let roles = state.roles.try_copy(alloc)?;
+    Ok((admins, users, zones, roles))
+}
+
+impl TryCopy for State {
+    fn try_copy(&self, alloc: Global) -> Result<State, NoMemory> {
+        let (defs, services, time_zones) = copy_services(alloc, self)?;
+        let (policies, tag_rows) = copy_policies(alloc, self)?;
+        let (admins, users, zones, roles) = copy_subjects(alloc, self)?;
+        let plugin = self.plugin.try_copy(alloc)?;
+        Ok(State {
+            admins,
+            users,
+            time_zones,
+            defs,
+            services,
+            policies,
+            zones,
+            roles,
+            tag_rows,
+            plugin,
+            next_id: self.next_id,
+            count: self.count,
+            role_version: self.role_version,
+        })
     }
 }
