@@ -5,15 +5,15 @@ use Rattle.std.specs.Str.{bytes_eq}
 use Rattle.rg_base.specs.Texts.{is_name}
 use Rattle.rg_base.specs.declared.numbers.PolicyId.{PolicyId}
 use Rattle.rg_policy.specs.declared.policy.Policy.{Policy}
+use Rattle.rg_defs.specs.declared.service_def.ServiceDef.{ServiceDef}
 use Rattle.rg_cond.specs.PolicyRules.{conditions_compile, schedules_read}
 use Rattle.rg_effect.specs.PolicyRules.{entries_fit, lists_fit, outcomes_fit, priority_fits, subjects_fit, type_fits}
 use Rattle.rg_resmatch.specs.Rules.{policy_levels_fit, policy_values_fit}
 use Rattle.rg_roles.specs.Members.{names_of}
 use Rattle.rg_zones.specs.Rules.{policy_zone_fits}
-use Rattle.rg_cmd.specs.Lookups.{def_of, has_id, is_tag_service, policy_at}
+use Rattle.rg_cmd.specs.Lookups.{has_id, is_tag_service, policy_at}
 use Rattle.rg_cmd.specs.declared.rule.Rule.TheVariants.{V1, V2, V3, V4, V5, V6, V7, V8, V9, V10, V11, V12, V13, V14}
 use Rattle.rg_cmd.specs.declared.state.State.{State}
-use Rattle.rg_validate.specs.Definitions.{under}
 use Rattle.rg_validate.specs.Failing.{Tested}
 use Rattle.rg_validate.specs.Twins.{is_twin, same_place}
 
@@ -22,9 +22,9 @@ abbrev pub is_other : Option PolicyId → Policy → Bool
 is_other None q = true
 is_other (Some id) q = not (has_id id.0 q)
 
--- the other policy has the same service, zone and name
+-- the other policy has the same name, service and zone
 abbrev pub is_namesake : Policy → Policy → Bool
-is_namesake p q = same_place p q && bytes_eq q.name p.name
+is_namesake p q = bytes_eq q.name p.name && same_place p q
 
 -- V2: no other policy of the service and zone has the name
 abbrev pub policy_name_is_new : State → Option PolicyId → Policy → Bool
@@ -54,20 +54,20 @@ zone_fits s p = policy_zone_fits (is_tag_service s p.service) p.service s.zones.
 abbrev pub policy_place_fits : State → Option PolicyId → Policy → Bool
 policy_place_fits s updated p = zone_fits s p && stays_in (old_form s updated) p
 
--- V1 to V14, of a new policy, or of the new form of the policy that is updated
-abbrev pub policy_rules : State → Option PolicyId → Policy → List Tested
-policy_rules s updated p =
+-- V1 to V14 under the definition of the policy's service, of a new policy, or of the new form of the policy that is updated
+abbrev pub policy_rules : State → Option PolicyId → Policy → ServiceDef → List Tested
+policy_rules s updated p def =
     (V1, is_name p.name)
     ∷ (V2, policy_name_is_new s updated p)
-    ∷ (V3, under (def_of s p.service) (λ def. type_fits def p))
+    ∷ (V3, type_fits def p)
     ∷ (V4, priority_fits p)
-    ∷ (V5, under (def_of s p.service) (λ def. policy_levels_fit def p))
-    ∷ (V6, under (def_of s p.service) (λ def. policy_values_fit def p))
+    ∷ (V5, policy_levels_fit def p)
+    ∷ (V6, policy_values_fit def p)
     ∷ (V7, lists_fit p)
-    ∷ (V8, under (def_of s p.service) (λ def. entries_fit def p))
-    ∷ (V9, under (def_of s p.service) (λ def. conditions_compile def p))
+    ∷ (V8, entries_fit def p)
+    ∷ (V9, conditions_compile def p)
     ∷ (V10, policy_subjects_fit s p)
-    ∷ (V11, under (def_of s p.service) (λ def. outcomes_fit def p))
+    ∷ (V11, outcomes_fit def p)
     ∷ (V12, schedules_read s.time_zones.items p)
     ∷ (V13, has_no_twin s updated p)
     ∷ (V14, policy_place_fits s updated p) ∷ []

@@ -2,8 +2,9 @@
 use Rattle.std.specs.Prelude.{ℕ, ℤ, ◌^◌, nat_lt, Bool, true, false, List, [], ◌∷◌, ◌++◌, Option, Some, None, if◌then◌else◌}
 use Rattle.std.specs.List.{list_any}
 use Rattle.rg_base.specs.Texts.{is_name}
+use Rattle.rg_defs.specs.declared.service_def.ServiceDef.{ServiceDef}
 use Rattle.rg_tags.specs.Rules.{tags_fit}
-use Rattle.rg_cmd.specs.Lookups.{has_id, has_row_id, is_def, is_role, is_service, is_user, is_zone}
+use Rattle.rg_cmd.specs.Lookups.{def_of, has_id, has_row_id, is_def, is_role, is_service, is_user, is_zone}
 use Rattle.rg_cmd.specs.declared.ask.AdminCommand.{AdminCommand}
 use Rattle.rg_cmd.specs.declared.ask.AdminCommand.TheVariants.{PutDef, CreateService, UpdateService, DeleteService, CreatePolicy, UpdatePolicy, DeletePolicy, GetPolicy, ListPolicies, PutRole, DeleteRole, PutZone, DeleteZone, PutTags, DeleteTags, PutUser, DeleteUser, Download}
 use Rattle.rg_cmd.specs.declared.ask.Ask.{Ask}
@@ -50,14 +51,19 @@ user_exists s name = (E7, list_any (is_user name) s.users.items)
 
 -- ---- the table
 
+-- what is asked under the definition of a service, which is there where the service is
+abbrev pub rules_under : Option ServiceDef → (ServiceDef → List Tested) → List Tested
+rules_under None rules = []
+rules_under (Some def) rules = rules def
+
 -- what is asked of a command, in order, but for L1 and the rules of authority
 abbrev pub command_rules : State → AdminCommand → List Tested
 command_rules s (PutDef def) = definition_rules def ++ (C1, definition_suits s def) ∷ []
 command_rules s (CreateService row) = definition_exists s row.def ∷ (C2, service_name_is_new s row.name) ∷ (C3, tag_service_fits s row) ∷ []
 command_rules s (UpdateService row) = service_exists s row.name ∷ definition_exists s row.def ∷ (C3, tag_service_fits s row) ∷ (C4, keeps_definition s row) ∷ []
 command_rules s (DeleteService name) = service_exists s name ∷ (C5, service_is_unused s name) ∷ []
-command_rules s (CreatePolicy p) = service_exists s p.service ∷ policy_rules s None p
-command_rules s (UpdatePolicy p) = policy_exists s p.id.0 ∷ service_exists s p.service ∷ policy_rules s (Some p.id) p
+command_rules s (CreatePolicy p) = service_exists s p.service ∷ rules_under (def_of s p.service) (policy_rules s None p)
+command_rules s (UpdatePolicy p) = policy_exists s p.id.0 ∷ service_exists s p.service ∷ rules_under (def_of s p.service) (policy_rules s (Some p.id) p)
 command_rules s (DeletePolicy id) = policy_exists s id.0 ∷ []
 command_rules s (GetPolicy id) = policy_exists s id.0 ∷ []
 command_rules s (ListPolicies service) = service_exists s service ∷ []

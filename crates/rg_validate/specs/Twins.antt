@@ -34,12 +34,16 @@ same_resource r q = bytes_eq q.level r.level
 abbrev pub each_resource_in : List PolicyResource → List PolicyResource → Bool
 each_resource_in resources others = list_all (λ r. list_any (same_resource r) others) resources
 
--- the maps have the same levels with the same flags and values
-abbrev pub same_map : ResourceMap → ResourceMap → Bool
-same_map m n = each_resource_in m.levels.items n.levels.items && each_resource_in n.levels.items m.levels.items
+-- the same levels with the same flags and values
+abbrev pub same_levels : List PolicyResource → List PolicyResource → Bool
+same_levels resources others = each_resource_in resources others && each_resource_in others resources
+
+-- one of the maps has the same levels, flags and values
+abbrev pub has_map : List ResourceMap → List PolicyResource → Bool
+has_map maps resources = list_any (λ (m : ResourceMap). same_levels resources m.levels.items) maps
 
 abbrev pub each_map_in : List ResourceMap → List ResourceMap → Bool
-each_map_in maps others = list_all (λ m. list_any (same_map m) others) maps
+each_map_in maps others = list_all (λ (m : ResourceMap). has_map others m.levels.items) maps
 
 -- each map of the one is the same as some map of the other, both ways
 abbrev pub same_maps : List ResourceMap → List ResourceMap → Bool

@@ -10,7 +10,7 @@ use Rattle.rg_zones.specs.Rules.{entry_levels_fit, entry_values_fit, lists_servi
 use Rattle.rg_zones.specs.declared.row.ZoneRow.{ZoneRow}
 use Rattle.rg_zones.specs.declared.row.ZoneService.{ZoneService}
 use Rattle.rg_cmd.specs.Lists.{put}
-use Rattle.rg_cmd.specs.Lookups.{def_at, def_of, is_tag_service, is_zone}
+use Rattle.rg_cmd.specs.Lookups.{def_of, is_tag_service, is_zone}
 use Rattle.rg_cmd.specs.declared.state.ServiceRow.{ServiceRow}
 use Rattle.rg_cmd.specs.declared.state.State.{State}
 use Rattle.rg_validate.specs.Definitions.{names_with, under}
@@ -40,12 +40,12 @@ abbrev pub zone_subjects_exist : State → ZoneRow → Bool
 zone_subjects_exist s zone = subjects_exist (names_of s.roles.items) zone
 
 -- no two of the zones overlap for the service
-abbrev pub are_apart_for : State → List ZoneRow → ServiceRow → Bool
-are_apart_for s zones row = under (def_at s row.def) (λ def. is_none (first_overlap row.name def zones))
+abbrev pub are_apart_for : State → List ZoneRow → List ℕ → Bool
+are_apart_for s zones service = under (def_of s service) (λ def. is_none (first_overlap service def zones))
 
 -- no two of the zones overlap for any service
 unfoldable pub are_apart : State → List ZoneRow → Bool
-are_apart s zones = list_all (are_apart_for s zones) s.services.items
+are_apart s zones = list_all (λ (row : ServiceRow). are_apart_for s zones row.name) s.services.items
 
 -- the zones with this one in its place
 abbrev pub zones_with : State → ZoneRow → List ZoneRow
