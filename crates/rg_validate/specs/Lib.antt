@@ -3,6 +3,7 @@ pub mod Failing
 pub mod Policies
 pub mod Roles
 pub mod Rules
+pub mod Steps
 pub mod Tags
 pub mod Twins
 pub mod Users
