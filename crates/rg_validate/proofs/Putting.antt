@@ -10,7 +10,7 @@ use Rattle.rg_base.specs.Texts.{all_distinct}
 use Rattle.rg_base.proofs.Lists.{Contains-cases, Contains-first, Contains-map, Contains-mapped, Contains-none, any_holds}
 use Rattle.rg_cmd.specs.Lists.{put}
 
-bool_is : (b : Bool) → (b ≡ true) ⊎ (b ≡ false)
+pub bool_is : (b : Bool) → (b ≡ true) ⊎ (b ≡ false)
 bool_is true = inl refl
 bool_is false = inr refl
 

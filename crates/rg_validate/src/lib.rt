@@ -10,6 +10,7 @@ mod services;
 mod tags;
 mod twins;
 mod users;
+mod zones;
 
 pub use definitions::definition_suits;
 pub use existence::{
@@ -26,3 +27,7 @@ pub use services::{
 };
 pub use tags::{row_id_fits, tagged_resources_fit, tagged_service_fits};
 pub use users::{time_zones_read, user_fits};
+pub use zones::{
+    zone_is_apart, zone_is_unused, zone_keeps_policies, zone_levels_suit, zone_services_fit,
+    zone_subjects_exist, zone_values_suit,
+};
