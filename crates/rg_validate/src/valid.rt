@@ -18,9 +18,7 @@ use crate::policies::{policy_schedules_read, policy_subjects_fit, zone_fits};
 use crate::services::tag_service_fits;
 use crate::tags::{tagged_resources_fit, tagged_service_fits};
 use crate::users::time_zones_read;
-use crate::zones::{
-    zone_levels_suit, zone_services_fit, zone_subjects_exist, zone_values_suit,
-};
+use crate::zones::{zone_levels_suit, zone_services_fit, zone_subjects_exist, zone_values_suit};
 use rg_base::{NoMemory, PolicyId, Text, all_names_distinct};
 use rg_cmd::{ServiceRow, State};
 use rg_defs::{DefFault, Paths, ServiceDef, check_def};
@@ -248,8 +246,10 @@ fn are_distinct(alloc: Global, state: &State) -> Result<bool, NoMemory>
     if !all_names_distinct(alloc, state.users.as_slice())? {
         return Ok(false);
     }
-    Ok(policy_ids_distinct(state.policies.as_slice())
-        && tag_row_ids_distinct(state.tag_rows.as_slice()))
+    Ok(
+        policy_ids_distinct(state.policies.as_slice())
+            && tag_row_ids_distinct(state.tag_rows.as_slice()),
+    )
 }
 
 /// What it says where it is true is what the rules ask of a state. The work is quadratic in the numbers of policies
