@@ -7,10 +7,12 @@ use Rattle.rg_validate.proofs.rules.first_fault.Goals as goal
 pub returns-in-Some : goal.returns-in-Some
 returns-in-Some c =
     let fails : first_failing (limit_rules c.args.state.now c.args.ask.now.command) ≡ Some c.in-Some.rule = search rules in
-    by_first (limit_rules c.args.state.now c.args.ask.now.command) (command_rules c.args.state.now c.args.ask.now.command) c.in-Some.rule fails
+    record { first = by_first (limit_rules c.args.state.now c.args.ask.now.command) (command_rules c.args.state.now c.args.ask.now.command) c.in-Some.rule fails }
 
 pub returns : goal.returns
 returns c =
     let none : first_failing (limit_rules c.args.state.now c.args.ask.now.command) ≡ None = search rules in
-    subst (λ f. IfOk c.command_fault.result (λ fault. fault ≡ f))
-    (by_more (limit_rules c.args.state.now c.args.ask.now.command) (command_rules c.args.state.now c.args.ask.now.command) none) c.command_fault.ensures
+    record {
+      first = subst (λ f. IfOk c.command_fault.result (λ fault. fault ≡ f))
+          (by_more (limit_rules c.args.state.now c.args.ask.now.command) (command_rules c.args.state.now c.args.ask.now.command) none) c.command_fault.ensures;
+    }
