@@ -1,0 +1,11 @@
+pub mod Definitions
+pub mod Failing
+pub mod Policies
+pub mod Roles
+pub mod Rules
+pub mod Steps
+pub mod Tags
+pub mod Twins
+pub mod Users
+pub mod Valid
+pub mod Zones
