@@ -1,0 +1,126 @@
+-- The items that were found grant an access exactly where it is delegated.
+use Rattle.std.proofs.Common.{◌≡◌, ◌&&◌, ◌||◌, ℕ, Bool, true, false, cond, if◌then◌else◌, List, [], ◌∷◌, map, filter, Option, Some, None, option_and_then, Contains, refl, sym, ap, ◌∙◌, subst}
+use Rattle.std.proofs.lemmas.Bool.{and_parts, and_from, and_right, false≢true}
+use Rattle.std.proofs.lemmas.Option.{none-some}
+use Rattle.std.specs.Prelude.{ℤ}
+use Rattle.std.proofs.lemmas.Slice.Eq.{bytes_eq-Decides}
+use Rattle.std.specs.List.{list_all, list_any}
+use Rattle.std.specs.Ordering.{int_eq}
+use Rattle.std.specs.Str.{bytes_eq}
+use Rattle.rg_base.proofs.Lists.{Contains-filter, Contains-filtered, Contains-flat_map, Contains-flat_mapped, Contains-none, any_from, any_holds, find_contained, list_any-map}
+use Rattle.rg_cmd.specs.declared.state.ServiceRow.{ServiceRow}
+use Rattle.rg_cmd.specs.declared.state.State.{State}
+use Rattle.rg_defs.specs.Rules.{def_fault}
+use Rattle.rg_defs.specs.declared.service_def.ServiceDef.{ServiceDef}
+use Rattle.rg_effect.specs.Accesses.{any_grants}
+use Rattle.rg_policy.specs.declared.policy.Item.{Item}
+use Rattle.rg_policy.specs.declared.policy.Policy.{Policy}
+use Rattle.rg_policy.specs.Kinds.{access_policy}
+use Rattle.rg_delegate.specs.Accesses.{accesses}
+use Rattle.rg_delegate.specs.Authority.{Known, delegates, delegates_to, is_delegated, may_delegate, named}
+use Rattle.rg_delegate.specs.Covering.{policy_covers}
+use Rattle.rg_delegate.specs.Found.{Asking, FitsWhere, delegates_some, is_wanted, items_in, items_of}
+use Rattle.rg_delegate.specs.Lookups.{def_at, def_of, policy_at, service_at}
+use Rattle.rg_delegate.specs.Ready.{Fits, IsReady}
+use Rattle.rg_delegate.proofs.Members.{agree_all, both_ways}
+
+-- ---- one access
+
+pub chosen : {X : Type 0} (b : Bool) (xs : List X) (x : X) → Contains (if b then xs else []) x → (b ≡ true) × Contains xs x
+chosen true xs x h = (refl, h)
+chosen false xs x h = absurd (Contains-none x h)
+
+taken : {X : Type 0} (b : Bool) (xs : List X) (x : X) → b ≡ true → Contains xs x → Contains (if b then xs else []) x
+taken b xs x e h = subst (λ b. Contains (if b then xs else []) x) (sym e) h
+
+module _ (a : Asking) (k : Known) (access : List ℕ) where
+  abbrev IsItem : Item → Bool
+  IsItem i = any_grants a.def access i.accesses.items
+
+  abbrev IsPolicy : Policy → Bool
+  IsPolicy q = may_delegate a.policy q && (list_any (delegates_to a.def k access) q.items.items && policy_covers a.def q a.policy)
+
+  from_item : (policies : List Policy) → list_any IsItem (items_in a k policies) ≡ true → list_any IsPolicy policies ≡ true
+  from_item policies h =
+      let i = any_holds IsItem (items_in a k policies) h in
+      let q = Contains-flat_mapped (items_of a k) policies i.0 i.1 in
+      let c = chosen (may_delegate a.policy q.0 && policy_covers a.def q.0 a.policy) (filter (delegates_some a k) q.0.items.items) i.0 q.2 in
+      let may = and_parts (may_delegate a.policy q.0) (policy_covers a.def q.0 a.policy) c.0 in
+      let f = Contains-filtered (delegates_some a k) q.0.items.items i.0 c.1 in
+      let one = and_parts i.0.delegate (is_wanted a i.0.accesses.items && named k (delegates k.name i.0)) f.1 in
+      let two = and_parts (is_wanted a i.0.accesses.items) (named k (delegates k.name i.0)) one.1 in
+      any_from IsPolicy policies q.0 q.1 (and_from _ _ may.0 (and_from _ _
+      (any_from (delegates_to a.def k access) q.0.items.items i.0 f.0 (and_from _ _ one.0 (and_from _ _ i.2 two.1)))
+      may.1))
+
+  from_policy : Contains (accesses a.def a.policy) access → (policies : List Policy) → list_any IsPolicy policies ≡ true → list_any IsItem (items_in a k policies) ≡ true
+  from_policy asked policies h =
+      let q = any_holds IsPolicy policies h in
+      let one = and_parts (may_delegate a.policy q.0) (list_any (delegates_to a.def k access) q.0.items.items && policy_covers a.def q.0 a.policy) q.2 in
+      let two = and_parts (list_any (delegates_to a.def k access) q.0.items.items) (policy_covers a.def q.0 a.policy) one.1 in
+      let i = any_holds (delegates_to a.def k access) q.0.items.items two.0 in
+      let three = and_parts i.0.delegate (any_grants a.def access i.0.accesses.items && named k (delegates k.name i.0)) i.2 in
+      let four = and_parts (any_grants a.def access i.0.accesses.items) (named k (delegates k.name i.0)) three.1 in
+      let wanted = any_from (λ access. any_grants a.def access i.0.accesses.items) (accesses a.def a.policy) access asked four.0 in
+      any_from IsItem (items_in a k policies) i.0
+      (Contains-flat_map (items_of a k) policies q.0 i.0 q.1 (taken (may_delegate a.policy q.0 && policy_covers a.def q.0 a.policy) _ i.0 (and_from _ _ one.0 two.1)
+      (Contains-filter (delegates_some a k) q.0.items.items i.0 i.1 (and_from _ _ three.0 (and_from _ _ wanted four.1)))))
+      four.0
+
+  pub access_found : Contains (accesses a.def a.policy) access → (policies : List Policy) → list_any IsItem (items_in a k policies) ≡ list_any IsPolicy policies
+  access_found asked policies = both_ways _ _ (from_item policies) (from_policy asked policies)
+
+-- ---- a policy that delegates nothing
+
+none_pass : {X : Type 0} (p : X → Bool) (xs : List X) → list_any p xs ≡ false → filter p xs ≡ []
+none_pass p [] h = refl
+none_pass p (x ∷ xs) h = at (p x) h (none_pass p xs) where
+  at : (b : Bool) → (b || list_any p xs) ≡ false → (list_any p xs ≡ false → filter p xs ≡ []) → cond b (x ∷ filter p xs) (filter p xs) ≡ []
+  at true k rest = absurd (false≢true (sym k))
+  at false k rest = rest k
+
+either_nothing : {X : Type 0} (b : Bool) → let none : List X = [] in (if b then none else none) ≡ none
+either_nothing true = refl
+either_nothing false = refl
+
+pub none_delegated : (a : Asking) (k : Known) (q : Policy) → list_any (delegates_some a k) q.items.items ≡ false → items_of a k q ≡ []
+none_delegated a k q h =
+    ap (λ items. if may_delegate a.policy q && policy_covers a.def q a.policy then items else []) (none_pass (delegates_some a k) q.items.items h)
+    ∙ either_nothing (may_delegate a.policy q && policy_covers a.def q a.policy)
+
+pub none_covered : (a : Asking) (k : Known) (q : Policy) → policy_covers a.def q a.policy ≡ false → items_of a k q ≡ []
+none_covered a k q h =
+    ap (λ b. if b then filter (delegates_some a k) q.items.items else []) (and_right (may_delegate a.policy q) (policy_covers a.def q a.policy) h)
+
+pub ruleset nothing_found = (none_delegated, none_covered)
+
+-- ---- all accesses
+
+pub all_found : {R : Type 0} (read : R → Item) (s : State) (a : Asking) (k : Known) (found : List R) → map read found ≡ items_in a k s.policies.items
+    → list_all (λ access. list_any (λ r. any_grants a.def access (read r).accesses.items) found) (accesses a.def a.policy) ≡ list_all (is_delegated s a.def k a.policy) (accesses a.def a.policy)
+all_found read s a k found e =
+    agree_all (λ access. list_any (λ r. any_grants a.def access (read r).accesses.items) found) (is_delegated s a.def k a.policy) (accesses a.def a.policy)
+    (λ access asked. sym (list_any-map (λ (i : Item). any_grants a.def access i.accesses.items) read found)
+    ∙ ap (list_any (λ (i : Item). any_grants a.def access i.accesses.items)) e
+    ∙ access_found a k access asked s.policies.items)
+
+-- ---- what a state that is ready gives
+
+def_is_there : (s : State) (service : List ℕ) (def : ServiceDef) → def_of s service ≡ Some def → Contains s.defs.items def
+def_is_there s service def e = at (service_at s service) e where
+  at : (o : Option ServiceRow) → option_and_then (λ (row : ServiceRow). def_at s row.def) o ≡ Some def → Contains s.defs.items def
+  at None k = absurd (none-some def k)
+  at (Some row) k = (find_contained (λ (d : ServiceDef). bytes_eq d.name row.def) s.defs.items def k).0
+
+pub def_is_lawful : (s : State) (service : List ℕ) (def : ServiceDef) → IsReady s → def_of s service ≡ Some def → def_fault def ≡ None
+def_is_lawful s service def ready e = ready.lawful def (def_is_there s service def e)
+
+pub candidates_fit : (s : State) (p : Policy) (def : ServiceDef) → IsReady s → def_of s p.service ≡ Some def → (q : Policy) → Contains s.policies.items q → FitsWhere (record { def = def; policy = p }) q
+candidates_fit s p def ready e q within may =
+    let one = and_parts q.enabled (int_eq q.policy_type access_policy && (bytes_eq q.service p.service && bytes_eq q.zone p.zone)) may in
+    let two = and_parts (int_eq q.policy_type access_policy) (bytes_eq q.service p.service && bytes_eq q.zone p.zone) one.1 in
+    let three = and_parts (bytes_eq q.service p.service) (bytes_eq q.zone p.zone) two.1 in
+    ready.fitting q within def (ap (def_of s) ((bytes_eq-Decides q.service p.service).0 three.0) ∙ e)
+
+pub held_fits : (s : State) (id : ℤ) (p : Policy) → IsReady s → policy_at s id ≡ Some p → Fits s p
+held_fits s id p ready e = ready.fitting p (find_contained (λ (q : Policy). int_eq q.id.0 id) s.policies.items p e).0

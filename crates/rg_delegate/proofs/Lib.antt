@@ -1,0 +1,13 @@
+pub mod Finding
+pub mod Fitting
+pub mod Forms
+pub mod Keeping
+pub mod Lying
+pub mod Maps
+pub mod Members
+pub mod Ordering
+pub mod Patterns
+pub mod Reaching
+pub mod Resources
+pub mod Walks
+pub mod Words

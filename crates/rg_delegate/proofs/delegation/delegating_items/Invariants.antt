@@ -1,0 +1,10 @@
+use Rattle.std.proofs.Common.{◌≡◌, map, take}
+use Rattle.rg_delegate.specs.Found.{items_in}
+use Rattle.rg_delegate.proofs.delegation.delegating_items.Given as goal
+
+abbrev pub invariant-loop-policy : goal.invariant-loop-policy
+invariant-loop-policy l = record {
+  same_actor : l.actor ≡ l.initial.actor;
+  same_asked : l.asked ≡ l.initial.asked;
+  so_far : map (λ item. item.now) l.found.items ≡ items_in l.initial.asked l.initial.actor (take l.policy-index l.policies);
+}

@@ -1,0 +1,10 @@
+pub mod Accesses
+pub mod Authority
+pub mod Compiled
+pub mod Covering
+pub mod Found
+pub mod Laws
+pub mod Listing
+pub mod Lookups
+pub mod Ready
+pub mod Rules

@@ -1,0 +1,176 @@
+// Who may administer a policy, and who may see it.
+ghost use Rattle.std.specs.Prelude.{◌≡◌, ◌||◌, IfOk, None, Some, true};
+ghost use Rattle.std.specs.List.{list_all};
+ghost use Rattle.std.specs.Str.{chars};
+ghost use Rattle.rg_base.specs.Texts.{is_among};
+ghost use Rattle.rg_roles.specs.Faults.{fault_of};
+ghost use Rattle.rg_delegate.specs.Authority.{admins_of, auditors_of, is_admin, is_delegated, known, may, may_by_delegation, may_see, named_in_zone, subjects_in};
+ghost use Rattle.rg_delegate.specs.Accesses.{accesses};
+ghost use Rattle.rg_delegate.specs.Lookups.{def_of};
+ghost use Rattle.rg_delegate.specs.Ready.{Fits, IsReady};
+
+use crate::accesses::all_granted;
+use crate::actor::Actor;
+use crate::delegation::{Asked, delegating_items};
+use crate::lookups::{def_for, zone_at};
+use rg_base::{NoMemory, is_among, is_empty};
+use rg_cmd::State;
+use rg_defs::ServiceDef;
+use rg_effect::Subjects;
+use rg_policy::Policy;
+use rg_zones::Subjects as ZoneSubjects;
+use std::alloc::Global;
+
+/// Whether the actor is among the administrators.
+pub(crate) fn is_admin(state: &State, actor: &str) -> bool
+    ensures { result ≡ is_admin state.now (chars actor.now) }
+{
+    is_among(actor, state.admins.as_slice())
+}
+
+fn subjects_in<'a>(list: &'a ZoneSubjects) -> Subjects<'a>
+    ensures { result ≡ subjects_in list.now }
+{
+    Subjects {
+        users: list.users.as_slice(),
+        groups: list.groups.as_slice(),
+        roles: list.roles.as_slice(),
+    }
+}
+
+fn administers_zone(
+    alloc: Global,
+    state: &State,
+    actor: &mut Actor,
+    policy: &Policy,
+) -> Result<bool, NoMemory>
+    requires roles { fault_of state.now.roles.items ≡ None }
+    requires actor { actor.old ≡ known state.now actor.old.name }
+    ensures same { actor.new ≡ actor.old }
+    ensures answer { IfOk result (λ b. b ≡ named_in_zone admins_of state.now actor.old.name policy.now) }
+{
+    let zone = policy.zone.as_str();
+    if is_empty(zone) {
+        return Ok(false);
+    }
+    match zone_at(state, zone) {
+        Some(row) => actor.is_named(alloc, &subjects_in(&row.admins)),
+        None => Ok(false),
+    }
+}
+
+fn audits_zone(
+    alloc: Global,
+    state: &State,
+    actor: &mut Actor,
+    policy: &Policy,
+) -> Result<bool, NoMemory>
+    requires roles { fault_of state.now.roles.items ≡ None }
+    requires actor { actor.old ≡ known state.now actor.old.name }
+    ensures same { actor.new ≡ actor.old }
+    ensures answer { IfOk result (λ b. b ≡ named_in_zone auditors_of state.now actor.old.name policy.now) }
+{
+    let zone = policy.zone.as_str();
+    if is_empty(zone) {
+        return Ok(false);
+    }
+    match zone_at(state, zone) {
+        Some(row) => actor.is_named(alloc, &subjects_in(&row.auditors)),
+        None => Ok(false),
+    }
+}
+
+/// Whether each access of the policy, whose service has this definition, is delegated to the actor.
+fn all_delegated(
+    alloc: Global,
+    state: &State,
+    def: &ServiceDef,
+    actor: &mut Actor,
+    policy: &Policy,
+) -> Result<bool, NoMemory>
+    requires ready { IsReady state.now }
+    requires def { def_of state.now policy.now.service ≡ Some def.now }
+    requires fits { Fits state.now policy.now }
+    requires actor { actor.old ≡ known state.now actor.old.name }
+    ensures same { actor.new ≡ actor.old }
+    ensures answer { IfOk result (λ b. b ≡ list_all (is_delegated state.now def.now actor.old policy.now) (accesses def.now policy.now)) }
+{
+    let policies = state.policies.as_slice();
+    let mut asked = Asked::of(def, policy);
+    let items = delegating_items(alloc, policies, actor, &mut asked)?;
+    Ok(all_granted(def, policy, &items))
+}
+
+fn may_by_delegation(
+    alloc: Global,
+    state: &State,
+    actor: &mut Actor,
+    policy: &Policy,
+) -> Result<bool, NoMemory>
+    requires ready { IsReady state.now }
+    requires fits { Fits state.now policy.now }
+    requires actor { actor.old ≡ known state.now actor.old.name }
+    ensures same { actor.new ≡ actor.old }
+    ensures answer { IfOk result (λ b. b ≡ may_by_delegation state.now actor.old.name policy.now) }
+{
+    match def_for(state, policy) {
+        Some(def) => all_delegated(alloc, state, def, actor, policy),
+        None => Ok(false),
+    }
+}
+
+/// Whether the actor, who is no administrator, may administer the policy.
+fn may_in_part(
+    alloc: Global,
+    state: &State,
+    actor: &mut Actor,
+    policy: &Policy,
+) -> Result<bool, NoMemory>
+    requires ready { IsReady state.now }
+    requires fits { Fits state.now policy.now }
+    requires actor { actor.old ≡ known state.now actor.old.name }
+    ensures same { actor.new ≡ actor.old }
+    ensures answer { IfOk result (λ b. b ≡ (named_in_zone admins_of state.now actor.old.name policy.now || may_by_delegation state.now actor.old.name policy.now)) }
+{
+    if administers_zone(alloc, state, actor, policy)? {
+        return Ok(true);
+    }
+    may_by_delegation(alloc, state, actor, policy)
+}
+
+/// Whether the actor may administer the policy: as an administrator, as one of the policy's zone, or since for each
+/// access of the policy an enabled policy of the same service and zone that covers it delegates that access to the
+/// actor (Ranger's delegated admin). The actor's groups are those of the user's row. The state is a valid one, and the
+/// policy passes the rules V5 and V6. The patterns of a policy are read once, and only where it names the actor.
+pub fn may_administer(
+    alloc: Global,
+    state: &State,
+    actor: &str,
+    policy: &Policy,
+) -> Result<bool, NoMemory>
+    requires ready { IsReady state.now }
+    requires fits { Fits state.now policy.now }
+    ensures { IfOk result (λ b. b ≡ may state.now (chars actor.now) policy.now) }
+{
+    if is_admin(state, actor) {
+        return Ok(true);
+    }
+    let mut actor = Actor::of(state, actor);
+    may_in_part(alloc, state, &mut actor, policy)
+}
+
+/// Whether the actor may administer the policy, or is among the auditors of its zone (rule A5). As `may_administer`.
+pub fn may_see(alloc: Global, state: &State, actor: &str, policy: &Policy) -> Result<bool, NoMemory>
+    requires ready { IsReady state.now }
+    requires fits { Fits state.now policy.now }
+    ensures { IfOk result (λ b. b ≡ may_see state.now (chars actor.now) policy.now) }
+{
+    if is_admin(state, actor) {
+        return Ok(true);
+    }
+    let mut actor = Actor::of(state, actor);
+    if audits_zone(alloc, state, &mut actor, policy)? {
+        return Ok(true);
+    }
+    may_in_part(alloc, state, &mut actor, policy)
+}
