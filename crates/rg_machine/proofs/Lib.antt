@@ -1,0 +1,9 @@
+pub mod Books
+pub mod Downloading
+pub mod Histories
+pub mod Ids
+pub mod Lists
+pub mod Moves
+pub mod Orderly
+pub mod Passing
+pub mod Tidy
