@@ -1,5 +1,6 @@
 pub mod Books
 pub mod Downloading
+pub mod Happening
 pub mod Histories
 pub mod Ids
 pub mod Lists
