@@ -29,7 +29,8 @@ use Rattle.rg_delta.specs.Applied.{policies_after, rows_after, tag_policies_afte
 use Rattle.rg_delta.specs.Chains.{IsSince, Leads}
 use Rattle.rg_delta.specs.Logs.Known.{These}
 use Rattle.rg_delta.proofs.Chains.{known_says}
-use Rattle.rg_machine.specs.Downloads.{From, download, download_with, is_of_zones, policy_part, policy_part_by, role_part, role_whole, tag_part, tag_part_by}
+use Rattle.rg_machine.specs.Downloads.{download, download_with, is_of_zones, policy_part, policy_part_by, role_part, role_whole, tag_part, tag_part_by}
+use Rattle.rg_machine.specs.Laws.{from_of}
 use Rattle.rg_machine.specs.Leading.{led, policies_in, tags_in, with_policies, with_roles, with_tags}
 use Rattle.rg_machine.specs.Logs.{Administration, log_at, policy_book, tag_book}
 use Rattle.rg_machine.specs.Sides.{IsNoted, IsRoleNoted, IsRowNoted, PolicySide, policy_side, role_book, side_after}
@@ -237,10 +238,6 @@ module _ (early late : Administration) (service : List ℕ) (l k : Log) (r q : S
       refl
 
 -- ---- the law
-
--- from the versions of these facts
-abbrev pub from_of : Facts → From
-from_of f = record { policies = Some f.policy_version; tags = Some f.tag_version; roles = Some f.role_version }
 
 -- where the books lead from the early state to the late one, the download leads from the early view to the late one
 pub leads_to_view : (early late : Administration) (service : List ℕ) (first last : Facts) (d : Download) → view early service ≡ Some first → view late service ≡ Some last

@@ -3,6 +3,7 @@ pub mod Downloading
 pub mod Happening
 pub mod Histories
 pub mod Ids
+pub mod Lawful
 pub mod Lists
 pub mod Moves
 pub mod Orderly

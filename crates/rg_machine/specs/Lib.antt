@@ -1,5 +1,6 @@
 pub mod Changes
 pub mod Downloads
+pub mod Laws
 pub mod Leading
 pub mod Logs
 pub mod Machine

@@ -1,0 +1,25 @@
+-- What the laws say of an administration's history.
+use Rattle.std.specs.Prelude.{◌≡◌, ℕ, ◌≤◌, ◌<◌, ◌&&◌, Bool, true, false, List, Some, slice_get}
+use Rattle.rg_turn.specs.declared.rule.Entry.{Entry}
+use Rattle.rg_cmd.specs.declared.ask.AdminReply.{AdminReply}
+use Rattle.rg_cmd.specs.declared.ask.AdminReply.TheVariants.{Done}
+use Rattle.rg_cmd.specs.declared.ask.Ask.{Ask}
+use Rattle.rg_facts.specs.declared.facts.Facts.{Facts}
+use Rattle.rg_machine.specs.Downloads.{From}
+use Rattle.rg_machine.specs.Steps.{deletes}
+
+abbrev pub is_done : AdminReply → Bool
+is_done Done = true
+is_done reply = false
+
+-- the entry deleted the service: it was asked, and is done
+abbrev pub is_deletion : List ℕ → Entry Ask AdminReply → Bool
+is_deletion service e = deletes e.ask.command service && is_done e.reply
+
+-- no entry between the j-th state and the k-th deletes the service
+abbrev pub IsNotDeleted : List (Entry Ask AdminReply) → ℕ → ℕ → List ℕ → Type 0
+IsNotDeleted h j k service = (n : ℕ) (e : Entry Ask AdminReply) → j ≤ n → n < k → slice_get h n ≡ Some e → is_deletion service e ≡ false
+
+-- from the versions of these facts
+abbrev pub from_of : Facts → From
+from_of facts = record { policies = Some facts.policy_version; tags = Some facts.tag_version; roles = Some facts.role_version }
