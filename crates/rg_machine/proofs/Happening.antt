@@ -409,3 +409,34 @@ module _ (P : Parts) (IsStart : P.State → Type 0) (laws : Laws P IsStart) wher
 pub run_append : (P : Parts) (es more : List (world.Event P)) (w : world.World P) → world.run P (es ++ more) w ≡ world.run P more (world.run P es w)
 run_append P [] more w = refl
 run_append P (e ∷ es) more w = run_append P es more (world.happens P w e)
+
+-- no event changes where the history began
+module _ (P : Parts) where
+  start_downloaded : (w : world.World P) (o : Option P.Document) (from : P.Versions) (a : P.Ask) → (world.asked P (world.sent_with P w from o) a).start ≡ w.start
+  start_downloaded w None from a = refl
+  start_downloaded w (Some d) from a = refl
+
+  start_published : (w : world.World P) (which : ℕ) (o : Option (world.Sent P)) → (world.published_with P w which o).start ≡ w.start
+  start_published w which None = refl
+  start_published w which (Some d) = case (λ b. (cond b (world.published P w which d) w).start ≡ w.start) (world.fits P w d) (λ _. refl) (λ _. refl)
+
+  start_entered : (w : world.World P) (pass : ℕ) (refused : Bool) → (world.entered P w pass refused).start ≡ w.start
+  start_entered w pass true = refl
+  start_entered w pass false = refl
+
+  start_learnt : (w : world.World P) (pass : ℕ) (o : Option ℕ) → (world.learnt P w pass o).start ≡ w.start
+  start_learnt w pass None = refl
+  start_learnt w pass (Some n) = refl
+
+  start_kept : (w : world.World P) (e : world.Event P) → (world.happens P w e).start ≡ w.start
+  start_kept w (world.Event.Admin a) = refl
+  start_kept w world.Event.Download =
+      let from = P.versions w.newest.facts in start_downloaded w (P.document_of (P.transition (world.present P w) (P.download_ask from)).1) from (P.download_ask from)
+  start_kept w (world.Event.Publish which) = start_published w which (slice_get w.sent which)
+  start_kept w (world.Event.Enter pass q refused) = start_entered w pass refused
+  start_kept w world.Event.Tell = refl
+  start_kept w (world.Event.Learn pass which) = start_learnt w pass (slice_get w.tokens which)
+
+  pub run_start : (es : List (world.Event P)) (w : world.World P) → (world.run P es w).start ≡ w.start
+  run_start [] w = refl
+  run_start (e ∷ es) w = run_start es (world.happens P w e) ∙ start_kept w e

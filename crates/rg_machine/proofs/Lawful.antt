@@ -1,5 +1,5 @@
 -- For proofs alone: the administration has the laws that the world wants of a machine.
-use Rattle.std.proofs.Common.{arith, ◌≡◌, ◌≤◌, ◌<◌, ◌+◌, ◌-◌, ◌^◌, ◌&&◌, min, ℕ, zero, suc, eqb, pos, int_lt, true, false, cond, map, List, [], ◌∷◌, length, take, Option, Some, None, option_map, slice_get, refl, ap, sym, ◌∙◌, subst, inl, inr}
+use Rattle.std.proofs.Common.{Bool, arith, ◌≡◌, ◌≤◌, ◌<◌, ◌+◌, ◌-◌, ◌^◌, ◌&&◌, min, ℕ, zero, suc, eqb, pos, int_lt, true, false, cond, map, List, [], ◌∷◌, length, take, Option, Some, None, option_map, slice_get, refl, ap, sym, ◌∙◌, subst, inl, inr}
 use Rattle.std.specs.List.{list_all, list_any}
 use Rattle.std.proofs.lemmas.Bool.{and_from, and_parts, cases_lt, eq-eqb, eqb-true, false≢true, le-leb}
 use Rattle.std.proofs.lemmas.List.{length-take-le}
@@ -30,7 +30,7 @@ use Rattle.rg_delta.specs.Logs.Known.{Nothing, These, Unknown}
 use Rattle.rg_validate.specs.Definitions.{plugin_fits}
 use Rattle.rg_validate.specs.Rules.{only_reads}
 use Rattle.rg_machine.specs.Downloads.{From, download, download_with, policy_part, policy_part_by, role_part, role_whole, tag_part, tag_part_by}
-use Rattle.rg_machine.specs.Laws.{IsNotDeleted, from_of, is_deletion, is_done}
+use Rattle.rg_machine.specs.Laws.{AreNoLess, IsNotDeleted, from_of, is_deletion, is_done}
 use Rattle.rg_machine.specs.Leading.{led}
 use Rattle.rg_machine.specs.Logs.{Administration, is_log_of, log_at, new_log, policy_book, tag_book, touched_log}
 use Rattle.rg_machine.specs.Machine.{Versions, administration, document_of, download_ask, is_unchanged, same_policies, same_roles, same_tags, versions}
@@ -216,11 +216,6 @@ module _ (a : Administration) (service : List ℕ) (f : Facts) (is : view a serv
   role_version_is = ap (λ (g : Facts). g.role_version) (sym view_log.facts_are)
 
 -- no version falls
-pub record AreNoLess (f g : Facts) : Type 0 where
-  pub policies : f.policy_version.0 ≤ g.policy_version.0
-  pub tags : f.tag_version.0 ≤ g.tag_version.0
-  pub roles : f.role_version.0 ≤ g.role_version.0
-
 pub no_less : (early : Administration) (service : List ℕ) (late : Administration) (f g : Facts) → IsLed early f.policy_version.0 f.tag_version.0 f.role_version.0 service late → view late service ≡ Some g → AreNoLess f g
 no_less early service late f g led is =
     let v = viewed late service g is in
@@ -364,3 +359,31 @@ laws plugin = record {
       let less = no_less (state_at step s h j) plugin (state_at step s h k) f g (led_plugin plugin s h start j k from low f first) last in
       omega (arith, less.policies, less.tags, less.roles);
 }
+
+-- ---- what the contracts say
+
+and_false : (b : Bool) → (b && false) ≡ false
+and_false true = refl
+and_false false = refl
+
+-- the plugin's service isn't deleted
+pub plugin_not_deleted : (start : Administration) (h : List (Entry Ask AdminReply)) → IsStart start → IsLegal step start h → IsNotDeleted h 0 (length h) start.state.plugin
+plugin_not_deleted start h is legal n e from to there = go (fault a.state e.ask) refl (legal n e there)
+  where
+    a : Administration
+    a = state_at step start h n
+
+    plugin : List ℕ
+    plugin = start.state.plugin
+
+    go : (r : Option Rule) → fault a.state e.ask ≡ r → (step_by r a e.ask).1 ≡ e.reply → is_deletion plugin e ≡ false
+    go None none reply = ap (λ b. b && is_done e.reply) (plugin_between start h is 0 (length h) n e from to there none)
+    go (Some rule) is_rule reply = ap (λ r. deletes e.ask.command plugin && is_done r) (sym reply) ∙ and_false (deletes e.ask.command plugin)
+
+pub versions_rise : (start : Administration) (h : List (Entry Ask AdminReply)) → IsStart start → (j k : ℕ) → j ≤ k → k ≤ length h → (service : List ℕ) → StaysBetween start h j k service
+    → (before after : Facts) → view (state_at step start h j) service ≡ Some before → view (state_at step start h k) service ≡ Some after → AreNoLess before after
+versions_rise start h is j k from low service stays before after first last =
+    no_less (state_at step start h j) service (state_at step start h k) before after (led_to start h is j service before first k from low stays) last
+
+pub plugin_has_view : (start : Administration) (h : List (Entry Ask AdminReply)) → IsStart start → (k : ℕ) → (f : Facts) × (view (state_at step start h k) start.state.plugin ≡ Some f)
+plugin_has_view start h is k = plugin_view start.state.plugin start h (is, refl) k

@@ -3,9 +3,17 @@ pub mod Downloading
 pub mod Happening
 pub mod Histories
 pub mod Ids
+pub mod Kept
+pub mod KeptDefs
+pub mod KeptPolicies
+pub mod KeptRoles
+pub mod KeptServices
+pub mod KeptZones
 pub mod Lawful
 pub mod Lists
 pub mod Moves
 pub mod Orderly
+pub mod Parts
 pub mod Passing
+pub mod SoundViews
 pub mod Tidy

@@ -1,5 +1,5 @@
 -- For proofs alone: filters, look-ups and repeats of lists in which one element was put, or from which some were taken.
-use Rattle.std.proofs.Common.{◌≡◌, ◌||◌, Bool, true, false, not, cond, List, [], ◌∷◌, ◌++◌, map, Some, None, option_map, Contains, refl, ap, sym, ◌∙◌, subst, inl, inr}
+use Rattle.std.proofs.Common.{◌≡◌, ◌||◌, Bool, true, false, not, cond, List, [], ◌∷◌, ◌++◌, map, Some, None, option_map, Contains, length, ◌≤◌, arith, refl, ap, sym, ◌∙◌, subst, inl, inr}
 use Rattle.std.specs.List.{filter, find, list_all, list_any}
 use Rattle.std.proofs.lemmas.Bool.{and_from, and_parts, false≢true}
 use Rattle.std.proofs.lemmas.List.{append-nil}
@@ -270,3 +270,29 @@ module _ {X I : Type 0} (mark : X → I) (alike : I → I → Bool) (turn : (i j
       (λ _ _. sym (all_distinct-map alike mark (replaced has x xs)) ∙ ap (all_distinct alike) (marks_replaced xs) ∙ all_distinct-map alike mark xs ∙ h)
       (λ _ none. distinct_snoc (λ a b. alike (mark a) (mark b)) (λ a b. turn (mark a) (mark b)) xs x h (list_any_agree (λ y. alike (mark x) (mark y)) has own xs ∙ none))
       refl
+
+-- ---- how many pass
+
+pub none_left : {X : Type 0} (p : X → Bool) (xs : List X) → ((x : X) → Contains xs x → p x ≡ false) → length (filter p xs) ≡ 0
+none_left p [] fails = refl
+none_left p (x ∷ xs) fails = ap (λ b. length (cond b (x ∷ filter p xs) (filter p xs))) (fails x (Contains-first x xs)) ∙ none_left p xs (λ y there. fails y (Contains-later x xs y there))
+
+-- at most one passes a test whose passers are the same
+pub at_most_one : {X : Type 0} (same : X → X → Bool) (p : X → Bool) → ((x y : X) → p x ≡ true → p y ≡ true → same x y ≡ true) → (xs : List X) → all_distinct same xs ≡ true → length (filter p xs) ≤ 1
+at_most_one same p shared [] h = omega arith
+at_most_one same p shared (x ∷ xs) h =
+    let both = and_parts (not (list_any (same x) xs)) (all_distinct same xs) h in
+    case (λ b. p x ≡ b → length (cond b (x ∷ filter p xs) (filter p xs)) ≤ 1) (p x)
+    (λ _ is.
+        let none = none_left p xs (λ y there. case (λ b. p y ≡ b → b ≡ false) (p y)
+        (λ _ its. absurd (false≢true (sym (none_passes (same x) xs (not_true (list_any (same x) xs) both.0) y there) ∙ shared x y is its))) (λ _ _. refl) refl) in omega (arith, none))
+    (λ _ _. at_most_one same p shared xs both.1) refl
+
+-- the new one is found in the place of the first that is the same
+pub find_own : {X : Type 0} (same : X → Bool) (x : X) → same x ≡ true → (xs : List X) → list_any same xs ≡ true → find same (replaced same x xs) ≡ Some x
+find_own same x its [] h = absurd (false≢true h)
+find_own same x its (y ∷ xs) h =
+    case (λ b. same y ≡ b → (b || list_any same xs) ≡ true → find same (cond b x y ∷ replaced same x xs) ≡ Some x) (same y)
+    (λ _ _ _. ap (λ b. cond b (Some x) (find same (replaced same x xs))) its)
+    (λ _ is rest. ap (λ b. cond b (Some y) (find same (replaced same x xs))) is ∙ find_own same x its xs rest)
+    refl h

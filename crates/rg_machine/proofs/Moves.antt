@@ -89,7 +89,7 @@ or_right true b h = absurd (false≢true (sym h))
 or_right false b h = h
 
 -- what a service's definition is after a definition of another name was put
-def_kept : (s : State) (d : ServiceDef) (o : Option ServiceRow) → has_def d.name o ≡ false
+pub def_kept : (s : State) (d : ServiceDef) (o : Option ServiceRow) → has_def d.name o ≡ false
     → option_and_then (λ (row : ServiceRow). def_at (after_command s (PutDef d)) row.def) o ≡ option_and_then (λ (row : ServiceRow). def_at s row.def) o
 def_kept s d None h = refl
 def_kept s d (Some row) h = find_put (is_def row.def) (is_def d.name) (λ y is. other_name d.name row.def y.name h is) d (other_name d.name row.def d.name h (own_name d.name)) s.defs.items

@@ -33,7 +33,7 @@ use Rattle.rg_delta.specs.Touches.{touched}
 use Rattle.rg_machine.specs.Logs.{Administration, is_log_of, logs_after, new_log, policy_book, tag_book, touched_log}
 use Rattle.rg_machine.specs.Steps.{accepted, counted, deletes, refused}
 use Rattle.rg_machine.specs.Touches.{policy_touch, tag_touch}
-use Rattle.rg_machine.proofs.Lists.{all_put, all_snoc, all_weaker, any_put, case, distinct_filtered, distinct_put, distinct_snoc, filter_all, find_append, find_put, find_some, find_without, none_from, none_passes, not_true, replaced}
+use Rattle.rg_machine.proofs.Lists.{all_put, all_snoc, all_weaker, any_put, case, distinct_filtered, distinct_put, distinct_snoc, filter_all, find_append, find_own, find_put, find_some, find_without, none_from, none_passes, not_true, replaced}
 use Rattle.rg_machine.proofs.Moves.{other_name, own_name}
 use Rattle.rg_machine.proofs.Ids.{lt_differs, lt_grown, lt_more, lt_next, lt_wider, next_by_one, touched_low}
 use Rattle.rg_machine.proofs.Passing.{IsPassed, passed_at}
@@ -41,7 +41,7 @@ use Rattle.rg_machine.proofs.Passing.{IsPassed, passed_at}
 -- ---- what the rules of services say
 
 -- C2: no service has the new one's name
-new_is_new : (s : State) (row : ServiceRow) → first_failing (command_rules s (CreateService row)) ≡ None → list_any (is_service row.name) s.services.items ≡ false
+pub new_is_new : (s : State) (row : ServiceRow) → first_failing (command_rules s (CreateService row)) ≡ None → list_any (is_service row.name) s.services.items ≡ false
 new_is_new s row h = not_true (list_any (is_service row.name) s.services.items)
     (and_parts (is_name row.name) (not (list_any (is_service row.name) s.services.items)) (passed_at (command_rules s (CreateService row)) h 1 (C2, service_name_is_new s row.name) refl)).1
 
@@ -71,7 +71,7 @@ pub record IsUpdate (s : State) (row : ServiceRow) : Type 0 where
   pub there : list_any (is_service row.name) s.services.items ≡ true
   pub same_def : old.def ≡ row.def
 
-is_update : (s : State) (row : ServiceRow) → first_failing (command_rules s (UpdateService row)) ≡ None → IsUpdate s row
+pub is_update : (s : State) (row : ServiceRow) → first_failing (command_rules s (UpdateService row)) ≡ None → IsUpdate s row
 is_update s row h =
     let keeps = passed_at (command_rules s (UpdateService row)) h 3 (C4, keeps_definition s row) refl in
     let old = has_row (service_at s row.name) row.def keeps in
@@ -82,21 +82,17 @@ is_update s row h =
       same_def = (bytes_eq-Decides old.0.def row.def).0 (sym (ap (has_def row.def) old.1) ∙ keeps);
     }
 
-find_own : {X : Type 0} (same : X → Bool) (x : X) → same x ≡ true → (xs : List X) → list_any same xs ≡ true → find same (replaced same x xs) ≡ Some x
-find_own same x its [] h = absurd (false≢true h)
-find_own same x its (y ∷ xs) h =
-    case (λ b. same y ≡ b → (b || list_any same xs) ≡ true → find same (cond b x y ∷ replaced same x xs) ≡ Some x) (same y)
-    (λ _ _ _. ap (λ b. cond b (Some x) (find same (replaced same x xs))) its)
-    (λ _ is rest. ap (λ b. cond b (Some y) (find same (replaced same x xs))) is ∙ find_own same x its xs rest)
-    refl h
+pub updated_found : (s : State) (row : ServiceRow) → IsUpdate s row → service_at (after_command s (UpdateService row)) row.name ≡ Some row
+updated_found s row update =
+    ap (λ b. find (is_service row.name) (cond b (replaced (is_service row.name) row s.services.items) (s.services.items ++ row ∷ []))) update.there
+    ∙ find_own (is_service row.name) row (own_name row.name) s.services.items update.there
 
 -- an update changes no definition of a service
 pub updated_def : (s : State) (row : ServiceRow) → IsUpdate s row → (def name : List ℕ) → has_def def (service_at (after_command s (UpdateService row)) name) ≡ has_def def (service_at s name)
 updated_def s row update def name =
     case (λ b. bytes_eq row.name name ≡ b → has_def def (service_at (after_command s (UpdateService row)) name) ≡ has_def def (service_at s name)) (bytes_eq row.name name)
     (λ _ is. subst (λ n. has_def def (service_at (after_command s (UpdateService row)) n) ≡ has_def def (service_at s n)) ((bytes_eq-Decides row.name name).0 is)
-    (ap (λ b. has_def def (find (is_service row.name) (cond b (replaced (is_service row.name) row s.services.items) (s.services.items ++ row ∷ [])))) update.there
-    ∙ ap (has_def def) (find_own (is_service row.name) row (own_name row.name) s.services.items update.there)
+    (ap (has_def def) (updated_found s row update)
     ∙ ap (λ n. bytes_eq n def) (sym update.same_def) ∙ sym (ap (has_def def) update.found)))
     (λ _ other. ap (has_def def) (find_put (is_service name) (is_service row.name) (λ y is. ap (λ n. bytes_eq n name) ((bytes_eq-Decides y.name row.name).0 is) ∙ other) row other s.services.items))
     refl
@@ -194,14 +190,14 @@ fresh s given p = none_from (same_policy_id (created_form s p)) s.policies.items
 int_turn : (a b : ℤ) → int_eq a b ≡ int_eq b a
 int_turn a b = int_eq_equiv.symm a b
 
-policy_ids : (s : State) → all_distinct same_policy_id s.policies.items ≡ true → list_all (is_given s) s.policies.items ≡ true → (c : AdminCommand) → all_distinct same_policy_id (after_command s c).policies.items ≡ true
+pub policy_ids : (s : State) → all_distinct same_policy_id s.policies.items ≡ true → list_all (is_given s) s.policies.items ≡ true → (c : AdminCommand) → all_distinct same_policy_id (after_command s c).policies.items ≡ true
 policy_ids s distinct given (CreatePolicy p) = distinct_snoc same_policy_id (λ p q. int_turn p.id.0 q.id.0) s.policies.items (created_form s p) distinct (fresh s given p)
 policy_ids s distinct given (UpdatePolicy p) =
     distinct_put (λ (q : Policy). q.id.0) int_eq int_turn (has_id p.id.0) (updated_form s p) (λ y h. sym ((Decides-int_eq y.id.0 p.id.0).0 h)) (λ y. int_turn p.id.0 y.id.0) s.policies.items distinct
 policy_ids s distinct given (DeletePolicy id) = distinct_filtered same_policy_id (λ p. not (has_id id.0 p)) s.policies.items distinct
 policy_ids s distinct given c = distinct
 
-row_ids : (s : State) → all_distinct same_row_id s.tag_rows.items ≡ true → (c : AdminCommand) → all_distinct same_row_id (after_command s c).tag_rows.items ≡ true
+pub row_ids : (s : State) → all_distinct same_row_id s.tag_rows.items ≡ true → (c : AdminCommand) → all_distinct same_row_id (after_command s c).tag_rows.items ≡ true
 row_ids s distinct (PutTags id row) =
     distinct_put (λ (r : TagRow). r.id) int_eq int_turn (has_row_id id) (stored_row id row) (λ y h. sym ((Decides-int_eq y.id id).0 h)) (λ y. int_turn id y.id) s.tag_rows.items distinct
 row_ids s distinct (DeleteTags id) = distinct_filtered same_row_id (λ row. not (has_row_id id row)) s.tag_rows.items distinct

@@ -23,3 +23,9 @@ IsNotDeleted h j k service = (n : ℕ) (e : Entry Ask AdminReply) → j ≤ n �
 -- from the versions of these facts
 abbrev pub from_of : Facts → From
 from_of facts = record { policies = Some facts.policy_version; tags = Some facts.tag_version; roles = Some facts.role_version }
+
+-- no version of the later facts is less
+pub record AreNoLess (before after : Facts) : Type 0 where
+  pub policies : before.policy_version.0 ≤ after.policy_version.0
+  pub tags : before.tag_version.0 ≤ after.tag_version.0
+  pub roles : before.role_version.0 ≤ after.role_version.0

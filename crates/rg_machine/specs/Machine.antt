@@ -1,5 +1,5 @@
 -- The world of the administration.
-use Rattle.std.specs.Prelude.{ℕ, ◌==◌, ◌&&◌, Bool, true, false, List, [], Option, Some, None}
+use Rattle.std.specs.Prelude.{◌≡◌, ℕ, ◌==◌, ◌&&◌, Bool, true, false, List, [], Option, Some, None}
 use Rattle.rg_base.specs.declared.numbers.Version.{Version}
 use Rattle.rg_policy.specs.declared.request.AccessRequest.{AccessRequest}
 use Rattle.rg_facts.specs.Flow.{eval}
@@ -18,9 +18,10 @@ use Rattle.rg_cmd.specs.declared.download.TagPart.{TagPart}
 use Rattle.rg_cmd.specs.declared.download.TagPart.TheVariants.{Unchanged as TagsUnchanged}
 use Rattle.rg_machine.specs.Leading.{led}
 use Rattle.rg_machine.specs.Logs.{Administration}
+use Rattle.rg_machine.specs.Starts.{IsStart}
 use Rattle.rg_machine.specs.Steps.{step}
 use Rattle.rg_machine.specs.Views.{view}
-use Rattle.rg_machine.specs.World.{Parts}
+use Rattle.rg_machine.specs.World.{Event, Parts, World, opening, run}
 
 -- the three versions of facts
 pub record Versions : Type 0 where
@@ -80,3 +81,17 @@ administration plugin = record {
   led = led;
   eval = eval;
 }
+
+-- ---- the world
+
+abbrev pub Events : Administration → Type 0
+Events start = List (Event (administration start.state.plugin))
+
+-- the world of this start's plugin, whose first publication has these facts, after the events
+abbrev pub after_events : (start : Administration) → Facts → Events start → World (administration start.state.plugin)
+after_events start facts events = run (administration start.state.plugin) events (opening (administration start.state.plugin) start facts)
+
+-- an administration as it starts, with the facts that its plugin sees
+pub record IsOpened (start : Administration) (facts : Facts) : Type 0 where
+  pub starts : IsStart start
+  pub viewed : view start start.state.plugin ≡ Some facts
