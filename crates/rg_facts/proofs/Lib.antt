@@ -1,10 +1,8 @@
 pub mod Cells
-pub mod Distinct
 pub mod Idle
 pub mod Least
 pub mod Listing
 pub mod Marks
-pub mod Numbered
 pub mod Passes
 pub mod Reordered
 pub mod Soundness

@@ -82,15 +82,6 @@ policies_of facts h =
     let a = and_parts (is_none (bad_rule facts.time_zones.items)) _ (groups_of facts h).policies in
     (and_parts (list_all (passes (frame_of facts) Resource) facts.policies.items) _ a.1).0
 
--- what is left to ask where the time zones and the policies of resources have passed
-pub policies_sound_by : (facts : Facts) (tag : Result Bool NoMemory) → is_none (bad_rule facts.time_zones.items) ≡ true
-    → list_all (passes (frame_of facts) Resource) facts.policies.items ≡ true
-    → IfOk tag (λ s. s ≡ tag_policies_pass (frame_of facts) facts.tag_def facts.tag_policies.items)
-    → IfOk tag (λ s. s ≡ policies_sound facts)
-unfolding policies_sound
-policies_sound_by facts (Ok s) zones resources is = rw (zones, resources) is
-policies_sound_by facts (Err e) zones resources is = is
-
 no_policy : (policies : List Policy) → is_no_policy policies ≡ true → policies ≡ []
 no_policy [] h = refl
 no_policy (p ∷ policies) h = let bad : false ≡ true = h in cc

@@ -79,36 +79,34 @@ fn ranks_before(next: &Ranked, best: &Ranked) -> bool
     next.cell < best.cell || (next.cell == best.cell && id < best_id)
 }
 
-/// The new one where it goes before the best so far, else the best so far.
-fn better_ranked<'a>(best: Option<Ranked<'a>>, next: Option<Ranked<'a>>) -> Option<Ranked<'a>>
-    ensures { result ≡ better_of ranks_before best.entry next.entry }
+/// Keeps the new one, if there is one, where it goes before the best so far.
+fn keep_ranked<'a>(best: &mut Option<Ranked<'a>>, next: Option<Ranked<'a>>)
+    ensures { best.new ≡ better_of ranks_before best.old next.entry }
 {
     let Some(next) = next else {
-        return best;
+        return;
     };
-    match best {
-        Some(earlier) => if ranks_before(&next, &earlier) {
-            Some(next)
-        } else {
-            Some(earlier)
-        },
-        None => Some(next),
+    let is_better = match &*best {
+        Some(earlier) => ranks_before(&next, earlier),
+        None => true,
+    };
+    if is_better {
+        *best = Some(next);
     }
 }
 
-fn better_choice<'a>(best: Option<Choice<'a>>, next: Option<Choice<'a>>) -> Option<Choice<'a>>
-    ensures { result ≡ better_of goes_before best.entry next.entry }
+fn keep_choice<'a>(best: &mut Option<Choice<'a>>, next: Option<Choice<'a>>)
+    ensures { best.new ≡ better_of goes_before best.old next.entry }
 {
     let Some(next) = next else {
-        return best;
+        return;
     };
-    match best {
-        Some(earlier) => if next.goes_before(&earlier) {
-            Some(next)
-        } else {
-            Some(earlier)
-        },
-        None => Some(next),
+    let is_better = match &*best {
+        Some(earlier) => next.goes_before(earlier),
+        None => true,
+    };
+    if is_better {
+        *best = Some(next);
     }
 }
 
@@ -243,64 +241,47 @@ impl<'a> Best<'a> {
     }
 
     fn ask_access<L: Ledger>(
-        self,
+        &mut self,
         setting: &Setting,
         candidate: &Candidate<'a>,
         steps: &mut Steps<L>,
-    ) -> Best<'a>
-        ensures best { result ≡ access_asked setting.now self.entry candidate.now }
+    )
+        ensures best { self.new ≡ access_asked setting.now self.old candidate.now }
         ensures tries { TriesAtMost 1 steps.old steps.new }
     {
         let next = candidate.ranked(setting, steps);
-        Best {
-            decider: better_ranked(self.decider, next),
-            filter: self.filter,
-            mask: self.mask,
-        }
+        keep_ranked(&mut self.decider, next);
     }
 
     #[tactic(auto, using(crate::proofs::Types::types))]
     fn ask_choices<L: Ledger>(
-        self,
+        &mut self,
         setting: &Setting,
         candidate: &Candidate<'a>,
         steps: &mut Steps<L>,
-    ) -> Best<'a>
-        ensures best { result ≡ choices_asked setting.now self.entry candidate.now }
+    )
+        ensures best { self.new ≡ choices_asked setting.now self.old candidate.now }
         ensures tries { TriesAtMost 1 steps.old steps.new }
     {
-        let Best {
-            decider,
-            filter,
-            mask,
-        } = self;
         if candidate.policy.policy_type == FILTER_POLICY {
             let next = candidate.offered(setting, Kind::Filter, steps);
-            Best {
-                decider,
-                filter: better_choice(filter, next),
-                mask,
-            }
+            keep_choice(&mut self.filter, next);
         } else {
             let next = candidate.offered(setting, Kind::Mask, steps);
-            Best {
-                decider,
-                filter,
-                mask: better_choice(mask, next),
-            }
+            keep_choice(&mut self.mask, next);
         }
     }
 
-    /// What is found after one more candidate was asked. At most one try is counted.
+    /// Asks one more candidate. At most one try is counted.
     #[tactic(auto, using(crate::proofs::Types::types))]
     pub fn ask<L: Ledger>(
-        self,
+        &mut self,
         pass: Pass,
         setting: &Setting,
         candidate: &Candidate<'a>,
         steps: &mut Steps<L>,
-    ) -> Best<'a>
-        ensures best { result ≡ asked pass setting.now self.entry candidate.now }
+    )
+        ensures best { self.new ≡ asked pass setting.now self.old candidate.now }
         ensures tries { TriesAtMost 1 steps.old steps.new }
     {
         match pass {

@@ -68,8 +68,8 @@ pub(crate) fn paths_of(alloc: Global, facts: &Facts) -> Result<Paths, NoMemory>
     Ok(paths)
 }
 
-/// What the policies are read under.
-pub(crate) fn frame_of(alloc: Global, facts: &Facts) -> Result<Frame, NoMemory>
+/// What the policies are read under: the definitions, and the time zones, of which the rules read.
+pub fn frame_of(alloc: Global, facts: &Facts) -> Result<Frame, NoMemory>
     ensures { IfOk result (λ frame. frame ≡ frame_of facts.now) }
 {
     Ok(Frame {

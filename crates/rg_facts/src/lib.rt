@@ -6,17 +6,16 @@ mod building;
 mod choice;
 mod decision;
 mod facts;
-mod ids;
 mod laws;
 mod masks;
 mod outcome;
 mod paths;
 mod plain;
 mod setting;
-mod sound;
 mod texts;
 
 pub use best::{Best, Candidate, Pass};
+pub use building::frame_of;
 pub use choice::Choice;
 pub use decision::{Access, Answer, Decision, ItemPlace, MaskText, Verdict};
 pub use facts::Facts;
@@ -27,7 +26,6 @@ pub use laws::{
 pub use outcome::Outcome;
 pub use plain::Plain;
 pub use setting::Setting;
-pub use sound::is_sound;
 pub use texts::Published;
 
 #[cfg(test)]

@@ -82,7 +82,7 @@ fn ask_policies<'a>(
         evaluators.split_first(),
     ) {
         let candidate = Candidate::new(policy, evaluator, tag);
-        best = best.ask(pass, setting, &candidate, &mut steps);
+        best.ask(pass, setting, &candidate, &mut steps);
         policies = later;
         evaluators = more;
     }
@@ -147,7 +147,7 @@ fn ask_rows<'a>(
 }
 
 impl Plain {
-    /// An engine over these facts. [`is_sound`](crate::is_sound) is the test of the condition.
+    /// An engine over these facts, which are sound.
     pub fn build(alloc: Global, facts: Facts) -> Result<Plain, NoMemory>
         requires { sound facts ≡ true }
         ensures { IfOk result (λ plain. plain ≡ facts) }

@@ -1,8 +1,9 @@
 -- Two pairs of lists side by side, one place more of each.
-use Rattle.std.proofs.Common.{◌≡◌, ◌<◌, ◌≤◌, ◌+◌, ℕ, List, [], ◌∷◌, ◌++◌, length, take, drop, get_or, refl, sym, ap, ◌∙◌, arith, length-drop, length-take}
+use Rattle.std.proofs.Common.{Bool, cond, count_by, map, replicate, ◌≡◌, ◌<◌, ◌≤◌, ◌+◌, ℕ, suc, zero, List, [], ◌∷◌, ◌++◌, length, take, drop, get_or, refl, sym, ap, ◌∙◌, arith, length-drop, length-take}
 use Rattle.std.proofs.Math.ListN.{set}
 use Rattle.std.specs.List.{AllZip, zip}
 use Rattle.std.proofs.lemmas.List.{take_all, take_more, take_more_set, drop_more, drop-set-lt}
+use Rattle.std.proofs.lemmas.List.Sums.{sum_by-cons}
 use Rattle.std.proofs.lemmas.List.Elements.{AllZip-push}
 
 zip_push : {A B : Type 0} (xs : List A) (ys : List B) (x : A) (y : B) → length xs ≡ length ys → zip (xs ++ x ∷ []) (ys ++ y ∷ []) ≡ zip xs ys ++ (x, y) ∷ []
@@ -16,6 +17,21 @@ zip_take : {A B : Type 0} (xs : List A) (ys : List B) → zip xs (take (length x
 zip_take [] ys = refl
 zip_take (x ∷ xs) [] = refl
 zip_take (x ∷ xs) (y ∷ ys) = ap (λ zs. (x, y) ∷ zs) (zip_take xs ys)
+
+-- a list that is long enough and always the same, beside another
+pub zip_same : {A B : Type 0} (xs : List A) (y : B) (n : ℕ) → length xs ≤ n → zip xs (replicate n y) ≡ map (λ x. (x, y)) xs
+zip_same [] y n h = refl
+zip_same (x ∷ xs) y zero h = absurd (omega (arith, h))
+zip_same (x ∷ xs) y (suc n) h = ap (λ zs. (x, y) ∷ zs) (zip_same xs y n (omega (arith, h)))
+
+-- to count among what stands beside a list is to count among the pairs
+pub count_beside : {A B : Type 0} (f : B → Bool) (xs : List A) (ys : List B) → count_by f (take (length xs) ys) ≡ count_by (λ p. f p.1) (zip xs ys)
+count_beside f [] ys = refl
+count_beside f (x ∷ xs) [] = refl
+count_beside f (x ∷ xs) (y ∷ ys) =
+    sum_by-cons (λ b. cond (f b) 1 0) y (take (length xs) ys)
+    ∙ ap (λ n. cond (f y) 1 0 + n) (count_beside f xs ys)
+    ∙ sym (sum_by-cons (λ p. cond (f p.1) 1 0) (x, y) (zip xs ys))
 
 zip_front : {A B : Type 0} (n : ℕ) (xs : List A) (ys : List B) → n ≡ length xs → zip (take n xs) (take n ys) ≡ zip xs ys
 zip_front n xs ys e =

@@ -1,5 +1,5 @@
 -- What enrichers do to a request.
-use Rattle.std.specs.Prelude.{ℕ, ◌≡◌, ◌≤◌, ◌⊎◌, List, [], ◌∷◌, ◌++◌, length, take, drop, Option, Some, None}
+use Rattle.std.specs.Prelude.{ℕ, ◌≡◌, ◌≤◌, List, [], ◌∷◌, ◌++◌, length, take, drop, Option, Some, None}
 use Rattle.rg_base.specs.Listed.{added, listed}
 use Rattle.rg_base.specs.declared.pair.Pair.{Pair}
 use Rattle.rg_policy.specs.declared.request.AccessRequest.{AccessRequest}

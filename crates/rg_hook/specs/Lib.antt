@@ -1,5 +1,6 @@
 pub mod Audits
 pub mod Enriching
+pub mod Shown
 pub mod Sinks
 pub mod Tables
 pub mod Written

@@ -61,10 +61,14 @@ pub struct Enrichers {
 }
 
 impl Enrichers {
+    ghost use Rattle.std.specs.Prelude.{◌≡◌, ◌≤◌, map, vec_len, OnErr, OnOk};
+    ghost use Rattle.rg_hook.specs.Enriching.{HaveRun, enriched, state_by, unreserved};
+    ghost use Rattle.rg_hook.specs.Shown.{states_of};
+
     /// These enrichers, at most 16. It takes no memory.
     pub fn new(list: Vec<Box<dyn Enricher + Send>>) -> Enrichers
         requires { vec_len list ≤ 16 }
-        ensures { result.list ≡ list }
+        ensures { states_of (λ e. meaning e) (λ e. remembered e) result ≡ map (state_by (λ e. meaning e) (λ e. remembered e)) list.items }
     {
         Enrichers { list }
     }
@@ -72,9 +76,9 @@ impl Enrichers {
     /// Adds the enrichers' pairs to the context of the request, in their order. Want of memory leaves the request as before,
     /// but for a reserved place, and the enrichers that ran in their new state.
     pub fn run(&mut self, alloc: Global, request: &mut AccessRequest) -> Result<(), NoMemory>
-        ensures ok { OnOk result (enriched (map (state_by (λ e. meaning e) (λ e. remembered e)) self.old.list.items) request.old
-            ≡ record { enrichers = map (state_by (λ e. meaning e) (λ e. remembered e)) self.new.list.items; request = request.new }) }
-        ensures ran { OnErr result (HaveRun (map (state_by (λ e. meaning e) (λ e. remembered e)) self.old.list.items) request.old (map (state_by (λ e. meaning e) (λ e. remembered e)) self.new.list.items)) }
+        ensures ok { OnOk result (enriched (states_of (λ e. meaning e) (λ e. remembered e) self.old) request.old
+            ≡ record { enrichers = states_of (λ e. meaning e) (λ e. remembered e) self.new; request = request.new }) }
+        ensures ran { OnErr result (HaveRun (states_of (λ e. meaning e) (λ e. remembered e) self.old) request.old (states_of (λ e. meaning e) (λ e. remembered e) self.new)) }
         ensures unchanged { OnErr result (request.new ≡ unreserved request.old) }
     {
         let count = request.context.len();

@@ -1,5 +1,5 @@
 // Several sinks that are given the same lines.
-ghost use Rattle.std.specs.Prelude.{◌≡◌, ◌≤◌, ◌<◌, ◌==◌, ◌+◌, All, length, replicate, take, vec_len, count_by};
+ghost use Rattle.std.specs.Prelude.{◌≡◌, ◌≤◌, ◌==◌, All, count_by, length, vec_len};
 ghost use Rattle.std.specs.List.{AllZip, zip};
 ghost use Rattle.std.specs.Str.{chars};
 ghost use Rattle.rg_hook.specs.Sinks.{AfterLine, drop_at};
@@ -37,6 +37,14 @@ fn write_each(sinks: &mut [Box<dyn AuditSink + Send>], failures: &mut [u32], lin
     }
 }
 
+// How many of these numbers are those of dropped sinks.
+fn count_dropped(failures: &[u32]) -> u32
+    requires { length failures.now ≤ 16 }
+    ensures { result ≡ count_by (λ n. n == drop_at) failures.now }
+{
+    failures.iter().filter(|n| **n == DROP_AT).count() as u32
+}
+
 /// Up to 16 sinks that are given the same lines. One that failed three times is dropped: it stays, and is given no more lines.
 #[derive(Drop)]
 pub struct AuditFan {
@@ -48,11 +56,16 @@ pub struct AuditFan {
 }
 
 impl AuditFan {
+    ghost use Rattle.std.specs.Prelude.{◌≡◌, ◌≤◌, ◌==◌, count_by, map, vec_len};
+    ghost use Rattle.std.specs.List.{AllZip};
+    ghost use Rattle.std.specs.Str.{chars};
+    ghost use Rattle.rg_hook.specs.Shown.{sinks_of};
+    ghost use Rattle.rg_hook.specs.Sinks.{AfterLine, drop_at};
+
     /// These sinks, at most 16, none of which has failed. It takes no memory.
     pub fn new(sinks: Vec<Box<dyn AuditSink + Send>>) -> AuditFan
         requires { vec_len sinks ≤ 16 }
-        ensures sinks { result.sinks ≡ sinks }
-        ensures failures { result.failures ≡ replicate 16 0 }
+        ensures { sinks_of result ≡ map (λ s. (s, 0)) sinks.items }
     {
         AuditFan {
             sinks,
@@ -62,16 +75,16 @@ impl AuditFan {
 
     /// Gives the line, which has no line end, to each sink that isn't dropped. A sink that fails takes nothing from the others.
     pub fn write(&mut self, line: &str)
-        ensures { AllZip (AfterLine (λ s. heard s) (λ s. sink_faults s) (chars line.now)) (zip self.old.sinks.items self.old.failures) (zip self.new.sinks.items self.new.failures) }
+        ensures { AllZip (AfterLine (λ s. heard s) (λ s. sink_faults s) (chars line.now)) (sinks_of self.old) (sinks_of self.new) }
     {
         write_each(self.sinks.as_mut_slice(), &mut self.failures, line);
     }
 
     /// How many sinks are dropped.
+    #[tactic(auto, using(crate::proofs::Zips::count_beside))]
     pub fn dropped(&self) -> u32
-        ensures { result ≡ count_by (λ n. n == drop_at) (take (vec_len self.now.sinks) self.now.failures) }
+        ensures { result ≡ count_by (λ s. s.1 == drop_at) (sinks_of self.now) }
     {
-        let failures = &self.failures[..self.sinks.len()];
-        failures.iter().filter(|n| **n == DROP_AT).count() as u32
+        count_dropped(&self.failures[..self.sinks.len()])
     }
 }

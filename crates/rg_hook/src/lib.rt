@@ -18,3 +18,6 @@ pub use mem_audit::MemAudit;
 pub use sink::AuditSink;
 pub use tables::{FixedPair, PairRow, SubjectPairs};
 pub use writer_sink::WriterSink;
+
+#[cfg(test)]
+mod tests;

@@ -6,9 +6,10 @@ ghost use Rattle.rg_run.specs.Replay.{decide_work, decision_line, facts_work, pu
 
 use crate::follow::Worker;
 use rg_base::{Moment, NoMemory, Serial};
-use rg_facts::{Decision, Facts, Plain, is_sound};
+use rg_facts::{Decision, Facts, Plain};
 use rg_policy::AccessRequest;
 use rg_script::{Line, LineFault, read_line};
+use rg_sound::is_sound;
 use rg_wire::print_decision;
 use std::alloc::Global;
 

@@ -1,7 +1,6 @@
 -- Why a line is bad where it stands.
-use Rattle.std.specs.Prelude.{ℕ, Bool, true, false, List, Option, Some, None, Result, Ok, Err, if◌then◌else◌}
+use Rattle.std.specs.Prelude.{ℕ, Bool, true, false, List, Option, Some, None, option_map, Result, Ok, Err}
 use Rattle.rg_base.specs.declared.numbers.Moment.{Moment}
-use Rattle.rg_facts.specs.Sound.{sound}
 use Rattle.rg_script.specs.declared.cause.Cause.{Cause}
 use Rattle.rg_script.specs.declared.cause.Cause.TheVariants.{NoWord, Json, OutOfPlace, Unsound}
 use Rattle.rg_script.specs.declared.cause.Place.{Place}
@@ -9,11 +8,12 @@ use Rattle.rg_script.specs.declared.cause.Place.TheVariants as place
 use Rattle.rg_script.specs.declared.line.Line.{Line}
 use Rattle.rg_script.specs.declared.line.Line.TheVariants as line
 use Rattle.rg_script.specs.Line.{line_read}
+use Rattle.rg_sound.specs.Causes.{first_cause}
 
 -- facts come once, at the start, and are sound; requests come after them
 abbrev pub place_cause : Place → Line → Option Cause
 place_cause place line.Blank = None
-place_cause place.Start (line.Facts facts) = if sound facts then None else Some Unsound
+place_cause place.Start (line.Facts facts) = option_map Unsound (first_cause facts)
 place_cause place.Facts (line.Facts facts) = Some OutOfPlace
 place_cause place.Start (line.Decide q) = Some OutOfPlace
 place_cause place.Facts (line.Decide q) = None

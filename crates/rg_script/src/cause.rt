@@ -5,7 +5,7 @@ ghost use Rattle.rg_script.specs.Line.{line_of};
 
 use crate::line::{Line, Unread, line_or_cause};
 use rg_base::{Moment, NoMemory, Text};
-use rg_facts::is_sound;
+use rg_sound::{Unsound, unsound_cause};
 use rg_wire::WireKind;
 use std::alloc::Global;
 
@@ -19,8 +19,8 @@ pub enum Cause {
     Json { path: Text, kind: WireKind },
     /// It stands where such a line may not stand.
     OutOfPlace,
-    /// Its facts aren't sound.
-    Unsound,
+    /// Its facts aren't sound: what makes them so first.
+    Unsound(Unsound),
 }
 
 /// Where a line stands.
@@ -38,13 +38,10 @@ fn place_cause(alloc: Global, place: Place, line: &Line) -> Result<Option<Cause>
 {
     match (place, line) {
         (_, Line::Blank) | (Place::Facts, Line::Decide(_)) => Ok(None),
-        (Place::Start, Line::Facts(facts)) => {
-            if is_sound(alloc, facts)? {
-                Ok(None)
-            } else {
-                Ok(Some(Cause::Unsound))
-            }
-        }
+        (Place::Start, Line::Facts(facts)) => match unsound_cause(alloc, facts)? {
+            Some(unsound) => Ok(Some(Cause::Unsound(unsound))),
+            None => Ok(None),
+        },
         (Place::Facts, Line::Facts(_)) | (Place::Start, Line::Decide(_)) => {
             Ok(Some(Cause::OutOfPlace))
         }

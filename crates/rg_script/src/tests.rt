@@ -24,7 +24,7 @@ fn cause_of(alloc: Global, place: Place, line: &str) -> Result<String, Fail> {
                 format!(in alloc; "{path} {kind:?}")?
             }
             Some(Cause::OutOfPlace) => String::from_str(alloc, "out of place")?,
-            Some(Cause::Unsound) => String::from_str(alloc, "unsound")?,
+            Some(Cause::Unsound(unsound)) => format!(in alloc; "{unsound:?}")?,
         },
     )
 }
@@ -55,7 +55,10 @@ fn why_lines_are_bad(rt: HostRuntime) -> Result<(), Fail> {
         cause_of(alloc, Place::Facts, FACTS)?.as_str(),
         "out of place"
     );
-    assert_eq!(rt; cause_of(alloc, Place::Start, UNSOUND)?.as_str(), "unsound");
+    assert_eq!(rt;
+        cause_of(alloc, Place::Start, UNSOUND)?.as_str(),
+        "Policy(PolicyId(1), 5)"
+    );
     assert_eq!(rt;
         cause_of(alloc, Place::Start, DECIDE)?.as_str(),
         "out of place"

@@ -1,13 +1,12 @@
 -- A pair that is filed or taken out where a list of pairs is cut.
-use Rattle.std.proofs.Common.{◌≡◌, Bool, true, false, List, [], ◌∷◌, ◌++◌, filter, cond, not, length, drop, refl, sym, ap, ◌∙◌, subst}
-use Rattle.std.proofs.lemmas.List.{append_assoc, append-nil}
+use Rattle.std.proofs.Common.{◌≡◌, ◌+◌, arith, Bool, true, false, List, [], ◌∷◌, ◌++◌, filter, cond, not, length, drop, refl, sym, ap, ◌∙◌, subst}
+use Rattle.std.proofs.lemmas.List.{append_assoc, append-nil, length-append}
 use Rattle.std.proofs.lemmas.List.Elements.{All-nil, All-cons, All-head, All-tail, All-weaker, filter-append}
 use Rattle.std.specs.List.{All}
 use Rattle.std.specs.Ordering.{is_lt, is_eq, is_gt, ordering_reverse}
 use Rattle.std.specs.declared.cmp.Ordering.{Ordering}
 use Rattle.std.specs.declared.cmp.Ordering.TheVariants.{Less, Equal, Greater}
-use Rattle.std.specs.declared.sync.Arc.{Arc}
-use Rattle.rg_trie.specs.declared.pair.Block.{Block}
+use Rattle.rg_trie.specs.declared.pair.Held.{Held}
 use Rattle.rg_trie.specs.declared.pair.Pair.{Pair}
 use Rattle.rg_trie.specs.Blocks.{IsRising, pairs_of}
 use Rattle.rg_trie.specs.Edited.{with_pair, without_pair}
@@ -147,7 +146,7 @@ first_on : (p : Pair) (bs ps : List Pair) → (length bs ≡ 0 → ps ≡ []) �
 first_on p [] ps h = ap (first_is p) (h refl)
 first_on p (y ∷ ys) ps h = refl
 
-module _ {Z : Type 0} {p : Pair} {all : List Pair} {first : List (Arc Block Z)} {front back : List Pair} {last : List (Arc Block Z)} where
+module _ {p : Pair} {all : List Pair} {first : List Held} {front back : List Pair} {last : List Held} where
   ends : IsCut p all first front back last → length back ≡ 0 → pairs_of last ≡ []
   ends c e = ap pairs_of (c.end e)
 
@@ -164,6 +163,9 @@ module _ {Z : Type 0} {p : Pair} {all : List Pair} {first : List (Arc Block Z)} 
       let right = rising_right Below (pairs_of first ++ front) (back ++ pairs_of last) (rises c) in
       let ordered = rising_between p (pairs_of first ++ front) (back ++ pairs_of last) (rises c) c.passed (all_higher p (back ++ pairs_of last) c.left right (first_on p back (pairs_of last) (ends c) ∙ n)) in
       subst (IsRising Below) (regroup_with p (pairs_of first) front back (pairs_of last)) ordered
+
+  pub inserts_length : IsCut p all first front back last → length ((pairs_of first ++ (front ++ p ∷ back)) ++ pairs_of last) ≡ length all + 1
+  inserts_length c = grind (arith, length-append, c.whole)
 
   pub inserts_none : IsCut p all first front back last → first_is p back ≡ true → with_pair p all ≡ all
   inserts_none c n = by_case back refl where
@@ -194,6 +196,14 @@ module _ {Z : Type 0} {p : Pair} {all : List Pair} {first : List (Arc Block Z)} 
         let whole : all ≡ (pairs_of first ++ front) ++ y ∷ (ys ++ pairs_of last) = c.whole ∙ ap (λ bs. (pairs_of first ++ front) ++ (bs ++ pairs_of last)) e in
         subst (IsRising Below) (regroup (pairs_of first) front ys (pairs_of last) ∙ ap (λ bs. (pairs_of first ++ (front ++ drop 1 bs)) ++ pairs_of last) (sym e))
         (rising_but_one (pairs_of first ++ front) y (ys ++ pairs_of last) (subst (IsRising Below) whole c.rising))
+
+  pub removes_length : IsCut p all first front back last → first_is p back ≡ true → length all ≡ length ((pairs_of first ++ (front ++ drop 1 back)) ++ pairs_of last) + 1
+  removes_length c n = by_case back refl where
+    by_case : (bs : List Pair) → back ≡ bs → length all ≡ length ((pairs_of first ++ (front ++ drop 1 back)) ++ pairs_of last) + 1
+    by_case [] e = let bad : false ≡ true = sym (ap (first_is p) e) ∙ n in cc
+    by_case (y ∷ ys) e = ap length c.whole ∙ ap (λ bs. length ((pairs_of first ++ front) ++ (bs ++ pairs_of last))) e ∙ counts ∙ ap (λ bs. length ((pairs_of first ++ (front ++ drop 1 bs)) ++ pairs_of last) + 1) (sym e) where
+      counts : length ((pairs_of first ++ front) ++ (y ∷ ys ++ pairs_of last)) ≡ length ((pairs_of first ++ (front ++ ys)) ++ pairs_of last) + 1
+      counts = grind (arith, length-append)
 
   pub removes_none : IsCut p all first front back last → first_is p back ≡ false → without_pair p all ≡ all
   removes_none c n = ap (without_pair p) c.whole

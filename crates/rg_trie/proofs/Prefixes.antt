@@ -1,20 +1,21 @@
 -- A key that is a prefix of a text, and the order of keys.
-use Rattle.std.proofs.Common.{◌≡◌, ℕ, ◌+◌, ◌<◌, ◌≤◌, zero, suc, Bool, true, false, List, [], ◌∷◌, ◌++◌, length, get_or, take, map, filter, cond, refl, sym, ap, ◌∙◌, subst, arith, inl, inr, None}
+use Rattle.std.proofs.Common.{◌≡◌, ℕ, ◌+◌, ◌<◌, ◌≤◌, zero, suc, Bool, true, false, List, [], ◌∷◌, ◌++◌, length, get_or, take, map, filter, cond, refl, sym, ap, ◌∙◌, subst, arith, inl, inr}
 use Rattle.std.proofs.lemmas.Bool.{cases_lt, false_from_ne_true, both_ways}
 use Rattle.std.proofs.lemmas.Bool.Decides.{nat_tests}
 use Rattle.std.proofs.lemmas.Cmp.{nat_list_cmp_total, nat_cmp_total, tied_itself, alike_right}
-use Rattle.std.proofs.lemmas.List.{length-take-le, take_all}
+use Rattle.std.proofs.lemmas.List.{take_all}
 use Rattle.std.proofs.lemmas.List.Elements.{All-filter, All-weaker, filter-append, filter_passes}
 use Rattle.std.proofs.lemmas.Slice.Eq.{bytes_eq-Decides}
 use Rattle.std.specs.Cmp.Lexicographic.{slice_cmp}
 use Rattle.std.specs.List.{All, AllPairs}
-use Rattle.std.specs.Ordering.{nat_cmp, ordering_then, ordering_reverse, is_lt, is_gt}
+use Rattle.std.specs.Ordering.{nat_cmp, ordering_then, ordering_reverse, is_gt}
 use Rattle.std.specs.declared.cmp.Ordering.{Ordering}
 use Rattle.std.specs.declared.cmp.Ordering.TheVariants.{Less, Equal, Greater}
+use Rattle.rg_trie.specs.declared.order.Mark.TheVariants.{Start}
 use Rattle.rg_trie.specs.declared.pair.Pair.{Pair}
 use Rattle.rg_trie.specs.Blocks.{IsRising}
 use Rattle.rg_trie.specs.Pairs.{Below, entry_order}
-use Rattle.rg_trie.specs.Sought.{before}
+use Rattle.rg_trie.specs.Sought.{IsBetween, before}
 use Rattle.rg_trie.specs.Walked.{ShorterFirst, entries_under, is_under, pairs_under}
 use Rattle.rg_trie.proofs.Edits.{filter_none}
 use Rattle.rg_trie.proofs.Orders.{less_from_lt, same_key}
@@ -39,16 +40,11 @@ prefix_up (x ∷ xs) (suc m) (suc n) l =
 under_front : (text : List ℕ) (p : Pair) → is_under text p ≡ true → p.key ≡ take (length p.key) text
 under_front text p u = (bytes_eq-Decides p.key (take (length p.key) text)).0 u
 
-under_from : (text : List ℕ) (n : ℕ) (p : Pair) → n ≤ length text → p.key ≡ take n text → is_under text p ≡ true
-under_from text n p l e =
-    let long : length p.key ≡ n = ap length e ∙ length-take-le n text l in
-    (bytes_eq-Decides p.key (take (length p.key) text)).1 (e ∙ ap (λ k. take k text) (sym long))
-
 not_above : (p q : List ℕ) → keys p q ≡ Greater → is_gt (keys p q) ≡ false → ⊥
 not_above p q e f = both_ways _ f (ap is_gt e)
 
 -- one that is above a front of the text, and below the next, is not under it
-between : (text : List ℕ) (n : ℕ) (p : Pair) → keys p.key (take n text) ≡ Greater → before (take (n + 1) text) None p ≡ true → is_under text p ≡ false
+between : (text : List ℕ) (n : ℕ) (p : Pair) → keys p.key (take n text) ≡ Greater → before (take (n + 1) text) Start p ≡ true → is_under text p ≡ false
 between text n p g b = false_from_ne_true _ (λ u. elim (cases_lt n (length p.key)) [
   | inl lt ↦
       let up = prefix_up text (n + 1) (length p.key) (omega arith) in
@@ -82,29 +78,30 @@ all_above : (t : List ℕ) (p : Pair) (ps : List Pair) → IsRising Below (p ∷
 all_above t p ps h g zero d l = g
 all_above t p ps h g (suc k) d l = above_next t p (get_or ps k d) (h.0 k d (omega arith)) g
 
--- a key that doesn't come before and doesn't tie is above
-above_from : (o : Ordering) → is_lt o ≡ false → (o ≡ Equal → ⊥) → o ≡ Greater
-above_from Less l e = cc
-above_from Equal l e = absurd (e refl)
-above_from Greater l e = refl
-
--- a walk goes on from a prefix to the next, and passes over nothing that is under the text
-pub skips : (text : List ℕ) (n : ℕ) (p : Pair) (ps passed rest : List Pair) → IsRising Below (p ∷ ps) → before (take n text) None p ≡ false → (keys p.key (take n text) ≡ Equal → ⊥)
-    → p ∷ ps ≡ passed ++ rest → All (λ q. before (take (n + 1) text) None q ≡ true) passed → entries_under text (p ∷ ps) ≡ entries_under text rest
-skips text n p ps passed rest h b ne e a =
-    let above = all_above (take n text) p ps h (above_from _ b ne) in
+-- a walk goes on to the prefix that the first key isn't above, and passes over nothing that is under the text
+pub skips : (text next : List ℕ) (p : Pair) (ps passed rest : List Pair) → IsRising Below (p ∷ ps) → IsBetween text p.key next → p ∷ ps ≡ passed ++ rest
+    → All (λ q. before next Start q ≡ true) passed → entries_under text (p ∷ ps) ≡ entries_under text rest
+skips text next p ps passed rest h b e a =
+    let n = b.shared in
+    let above = subst (All (λ q. keys q.key (take n text) ≡ Greater)) e (all_above (take n text) p ps h b.after) in
     let gone : All (λ q. is_under text q ≡ false) passed =
-    λ k d l. between text n (get_or passed k d) (all_left Below (λ q. keys q.key (take n text) ≡ Greater) passed rest (subst (All (λ q. keys q.key (take n text) ≡ Greater)) e above) k d l) (a k d l) in
+    λ k d l. between text n (get_or passed k d) (all_left Below (λ q. keys q.key (take n text) ≡ Greater) passed rest above k d l)
+    (subst (λ w. before w Start (get_or passed k d) ≡ true) b.longer (a k d l)) in
     ap (entries_under text) e ∙ ap (map (λ q. q.entry)) (filter-append (is_under text) passed rest ∙ ap (λ xs. xs ++ filter (is_under text) rest) (filter_none (is_under text) passed gone))
 
--- a walk ends where the whole text was looked up
-pub ends : (text : List ℕ) (p : Pair) (ps : List Pair) → IsRising Below (p ∷ ps) → before text None p ≡ false → (keys p.key text ≡ Equal → ⊥) → entries_under text (p ∷ ps) ≡ []
-ends text p ps h b ne = ap (map (λ q. q.entry)) (filter_none (is_under text) (p ∷ ps)
-    (All-weaker (λ q. keys q.key text ≡ Greater) (λ q. is_under text q ≡ false) (λ q g. beyond text q g) (p ∷ ps) (all_above text p ps h (above_from _ b ne))))
+-- a walk ends at a key that is above the whole text
+pub ends : (text : List ℕ) (p : Pair) (ps : List Pair) → IsRising Below (p ∷ ps) → keys p.key text ≡ Greater → entries_under text (p ∷ ps) ≡ []
+ends text p ps h g = ap (map (λ q. q.entry)) (filter_none (is_under text) (p ∷ ps)
+    (All-weaker (λ q. keys q.key text ≡ Greater) (λ q. is_under text q ≡ false) (λ q above. beyond text q above) (p ∷ ps) (all_above text p ps h g)))
 
--- a pair with the prefix as its key is given
-pub gives : (text : List ℕ) (n : ℕ) (p : Pair) (ps : List Pair) → n ≤ length text → keys p.key (take n text) ≡ Equal → entries_under text (p ∷ ps) ≡ p.entry ∷ entries_under text ps
-gives text n p ps l e = ap (λ b. map (λ q. q.entry) (cond b (p ∷ filter (is_under text) ps) (filter (is_under text) ps))) (under_from text n p l (same_key p.key (take n text) e))
+-- a pair with a prefix as its key is given
+pub gives : (text : List ℕ) (p : Pair) (ps : List Pair) → is_under text p ≡ true → entries_under text (p ∷ ps) ≡ p.entry ∷ entries_under text ps
+gives text p ps u = ap (λ b. map (λ q. q.entry) (cond b (p ∷ filter (is_under text) ps) (filter (is_under text) ps))) u
+
+-- of two texts that begin alike, what follows decides
+pub shared_keys : (xs ys zs : List ℕ) → keys (xs ++ ys) (xs ++ zs) ≡ keys ys zs
+shared_keys [] ys zs = refl
+shared_keys (x ∷ xs) ys zs = ap (λ o. ordering_then o (keys (xs ++ ys) (xs ++ zs))) (tied_itself nat_cmp_total x) ∙ shared_keys xs ys zs
 
 -- of two pairs under one text the one that comes first has the shorter key, or the lesser entry under the same key
 shorter : (text : List ℕ) (p q : Pair) → is_under text p ≡ true → is_under text q ≡ true → Below p q → ShorterFirst p q

@@ -10,6 +10,7 @@ use Rattle.std.specs.List.Sorted.{IsPartitionedBy}
 use Rattle.std.specs.Option.{option_map_or}
 use Rattle.rg_trie.specs.Blocks.{IsRising}
 use Rattle.rg_trie.specs.Sought.{ends_passing}
+use Rattle.rg_trie.proofs.Shares.{counted_drop}
 
 module _ {X : Type 0} (R : X → X → Type 0) where
   pub rises_at : (xs : List X) → IsRising R xs → (i j : ℕ) (d : X) → i < j → j < length xs → R (get_or xs i d) (get_or xs j d)
@@ -42,6 +43,9 @@ module _ {X : Type 0} (R : X → X → Type 0) where
   pub rising_right : (xs ys : List X) → IsRising R (xs ++ ys) → IsRising R ys
   rising_right [] ys h = h
   rising_right (x ∷ xs) ys h = rising_right xs ys h.1
+
+  pub rising_rest : (xs ys : List X) (n : ℕ) → IsRising R (xs ++ ys) → IsRising R (drop n xs ++ ys)
+  rising_rest xs ys n h = rising_right (take n xs) (drop n xs ++ ys) (subst (IsRising R) (ap (λ zs. zs ++ ys) (sym (take-append-drop n xs)) ∙ append_assoc (take n xs) (drop n xs) ys) h)
 
   pub rising_across : (xs ys : List X) → IsRising R (xs ++ ys) → Across xs ys
   rising_across [] ys h = All-nil (λ x. All (R x) ys)
@@ -141,6 +145,10 @@ module _ {X : Type 0} (R : X → X → Type 0) where
           absurd (both_ways _ e (ends_last test early (x ∷ xs) x (omega arith) ∙ last))
     ]
 
+    pub stops_within : (xs : List X) (n : ℕ) → ends_passing test xs ≡ false → n ≤ length xs → All (λ x. test x ≡ true) (take n xs) → n < length xs
+    stops_within [] n e b a = cc
+    stops_within (x ∷ xs) n e b a = stops_inside (x ∷ xs) n (omega arith) e b a
+
     pub fails_from : {B : Type 0} (f : B → List X) (bs : List B) (b n : ℕ) (d : B) → b < length bs → IsRising R (flat_map f bs) → n < length (f (get_or bs b d)) → All (λ x. test x ≡ false) (drop n (f (get_or bs b d))) → All (λ x. test x ≡ false) (drop n (flat_map f (drop b bs)))
     fails_from f bs b n d l h m a = all_fail test early (flat_map f (drop b bs)) (rising_dropped f bs b h) n
         (λ e k. ap test (ap (λ xs. get_or xs n e) (first_block f bs b d l) ∙ get_or_append_left (f (get_or bs b d)) (flat_map f (drop (b + 1) bs)) e n m ∙ ap (λ k. get_or (f (get_or bs b d)) k e) (sym (add-zero n)) ∙ sym (get_or-drop n (f (get_or bs b d)) 0 e))
@@ -154,7 +162,7 @@ module _ {X B : Type 0} (f : B → List X) where
       ∙ ap (λ xs. flat_map f (take b bs) ++ xs) (take-append-drop n (flat_map f (drop b bs)))
       ∙ sym (flat_map-append f (take b bs) (drop b bs)) ∙ ap (flat_map f) (take-append-drop b bs)
 
-pub ruleset cuts = (cut_whole, All-take, All-drop)
+pub ruleset cuts = (cut_whole, counted_drop, All-take, All-drop)
 
 module _ {X : Type 0} (R : X → X → Type 0) (test : X → Bool) (early : (p q : X) → R p q → test q ≡ true → test p ≡ true) where
   -- a list that rises fails from where its front begins to fail

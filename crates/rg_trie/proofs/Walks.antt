@@ -1,92 +1,98 @@
 -- One step of a walk.
-use Rattle.std.proofs.Common.{◌≡◌, ℕ, ◌+◌, Bool, true, false, List, [], ◌∷◌, ◌++◌, length, take, refl, sym, ap, ◌∙◌, subst, arith, None}
-use Rattle.std.proofs.lemmas.List.{take-map, take_all, length-map}
-use Rattle.std.proofs.lemmas.List.Elements.{All-head, All-tail}
+use Rattle.std.proofs.Common.{◌≡◌, ◌≤◌, ℕ, nat_eq, take, ◌<◌, List, [], ◌∷◌, ◌++◌, true, false, zero, suc, get_or, refl, ◌∙◌, map, filter, ◌+◌, length, sym, ap, subst, arith}
+use Rattle.std.proofs.lemmas.Bool.{both_ways}
+use Rattle.std.proofs.lemmas.Cmp.{nat_list_cmp_total, tied_itself}
+use Rattle.std.proofs.lemmas.List.{length-append, length-map}
+use Rattle.std.proofs.lemmas.List.Elements.{All-head, All-nil, All-tail, filter-append}
+use Rattle.std.proofs.lemmas.List.Sums.{count_by-le-length, length-filter}
 use Rattle.std.specs.Cmp.Lexicographic.{slice_cmp}
-use Rattle.std.specs.List.{All}
-use Rattle.std.specs.Ordering.{nat_cmp, is_eq, is_lt}
-use Rattle.std.specs.declared.cmp.Ordering.TheVariants.{Equal}
-use Rattle.std.specs.declared.sync.Arc.{Arc}
-use Rattle.rg_trie.specs.declared.pair.Block.{Block}
+use Rattle.std.specs.List.{All, starts_with}
+use Rattle.std.specs.Ordering.{nat_cmp, is_gt, ordering_reverse}
+use Rattle.std.specs.declared.cmp.Ordering.{Ordering}
+use Rattle.std.specs.declared.cmp.Ordering.TheVariants.{Less, Equal, Greater}
+use Rattle.rg_trie.specs.declared.order.Mark.{Mark}
+use Rattle.rg_trie.specs.declared.order.Mark.TheVariants.{End}
+use Rattle.rg_trie.specs.declared.pair.Held.{Held}
 use Rattle.rg_trie.specs.declared.pair.Pair.{Pair}
-use Rattle.rg_trie.specs.Blocks.{IsRising, IsSized, pairs_of}
-use Rattle.rg_trie.specs.Pairs.{Below, fold_character, folded}
-use Rattle.rg_trie.specs.Sought.{IsFront, IsWalking, before}
-use Rattle.rg_trie.specs.Walked.{entries_under}
-use Rattle.rg_trie.proofs.Orders.{equal_from_eq, unequal_from}
-use Rattle.rg_trie.proofs.Prefixes.{ends, gives, skips}
-use Rattle.rg_trie.proofs.Rise.{rising_right}
+use Rattle.rg_trie.specs.Blocks.{IsRising, IsSized, block_pairs, pairs_of}
+use Rattle.rg_trie.specs.Pairs.{Below}
+use Rattle.rg_trie.specs.Sought.{IsRun, IsWalking, before}
+use Rattle.rg_trie.specs.Walked.{entries_under, is_under}
+use Rattle.rg_trie.proofs.Edits.{filter_all}
+use Rattle.rg_trie.proofs.Orders.{from_not, not_from, not_greater, same_key}
+use Rattle.rg_trie.proofs.Rise.{all_left}
 
-front_folded : (fold : Bool) (prefix value : List ℕ) → IsFront prefix value → folded fold prefix ≡ take (length prefix) (folded fold value)
-front_folded fold prefix value f = ap (folded fold) f.front ∙ sym (take-map (fold_character fold) (length prefix) value)
-
-folded_length : (fold : Bool) (value : List ℕ) → length (folded fold value) ≡ length value
-folded_length fold value = length-map value (fold_character fold)
-
--- the first pair that is left of a walk, and the pairs after it
-pub record Looked (fold : Bool) (value prefix : List ℕ) (p : Pair) (ps : List Pair) : Type 0 where
-  pub begun : IsFront prefix value
-  pub rising : IsRising Below (p ∷ ps)
-  pub reached : All (λ q. before (folded fold prefix) None q ≡ false) (p ∷ ps)
-
-pub looked : {Z : Type 0} (fold : Bool) (value prefix : List ℕ) (back : List Pair) (after : List (Arc Block Z)) (p : Pair) (ps : List Pair) → IsWalking fold value prefix back after → back ++ pairs_of after ≡ p ∷ ps → Looked fold value prefix p ps
-looked fold value prefix back after p ps w e = record {
-  begun = w.begun;
-  rising = subst (IsRising Below) e w.rising;
-  reached = subst (All (λ q. before (folded fold prefix) None q ≡ false)) e w.reached;
-}
-
-pub first_left : {Z : Type 0} (back others : List Pair) (after : List (Arc Block Z)) (p : Pair) → back ≡ p ∷ others → back ++ pairs_of after ≡ p ∷ (others ++ pairs_of after)
+pub first_left : (back others : List Pair) (after : List Held) (p : Pair) → back ≡ p ∷ others → back ++ pairs_of after ≡ p ∷ (others ++ pairs_of after)
 first_left back others after p e = ap (λ xs. xs ++ pairs_of after) e
 
-pub walks_on : {Z : Type 0} (fold : Bool) (value prefix : List ℕ) (p : Pair) (others : List Pair) (after : List (Arc Block Z)) → Looked fold value prefix p (others ++ pairs_of after) → All IsSized after → IsWalking fold value prefix others after
-walks_on fold value prefix p others after l s = record {
-  begun = l.begun;
-  rising = l.rising.1;
-  sized = s;
-  reached = All-tail (λ q. before (folded fold prefix) None q ≡ false) p (others ++ pairs_of after) l.reached;
-}
+-- a walk goes on in the next block
+pub opens : (back : List Pair) (after : List Held) (h : Held) (others : List Held) (pairs : List Pair) → length back ≡ 0 → after ≡ h ∷ others → pairs ≡ block_pairs h → IsWalking back after → IsWalking pairs others
+opens (p ∷ back) after h others pairs b a e w = absurd (omega arith)
+opens [] after h others pairs b a e w =
+    let ahead : IsWalking [] (h ∷ others) = subst (IsWalking []) a w in
+    record {
+      rising = subst (λ xs. IsRising Below (xs ++ pairs_of others)) (sym e) ahead.rising;
+      sized = All-tail IsSized h others ahead.sized;
+      counted = ahead.counted.1;
+    }
 
-pub found_here : (fold : Bool) (value prefix : List ℕ) (p : Pair) (ps : List Pair) → Looked fold value prefix p ps → true ≡ is_eq (slice_cmp nat_cmp p.key (folded fold prefix)) → entries_under (folded fold value) (p ∷ ps) ≡ p.entry ∷ entries_under (folded fold value) ps
-found_here fold value prefix p ps l t =
-    let long = folded_length fold value in
-    let within = l.begun.within in
-    gives (folded fold value) (length prefix) p ps (omega arith)
-    (subst (λ w. slice_cmp nat_cmp p.key w ≡ Equal) (front_folded fold prefix value l.begun) (equal_from_eq _ (sym t)))
+-- a walk passes over the first pair that is left, and so it ends
+pub fewer : (text : List ℕ) (mark : Mark) (p : Pair) (ps passed rest : List Pair) → before text mark p ≡ true → p ∷ ps ≡ passed ++ rest → All (λ q. before text mark q ≡ false) rest → length rest < length (p ∷ ps)
+fewer text mark p ps [] rest b e a = absurd (both_ways _ (All-head (λ q. before text mark q ≡ false) p ps (subst (All (λ q. before text mark q ≡ false)) (sym e) a)) b)
+fewer text mark p ps (q ∷ qs) rest b e a = omega (arith, length-append qs rest, ap length e)
 
-pub ends_here : (fold : Bool) (value prefix : List ℕ) (p : Pair) (ps : List Pair) → Looked fold value prefix p ps → false ≡ is_eq (slice_cmp nat_cmp p.key (folded fold prefix)) → length prefix ≡ length value → entries_under (folded fold value) (p ∷ ps) ≡ []
-ends_here fold value prefix p ps l ne e =
-    let all : folded fold prefix ≡ folded fold value = ap (folded fold) (l.begun.front ∙ take_all (length prefix) value (omega arith)) in
-    ends (folded fold value) p ps l.rising
-    (subst (λ w. before w None p ≡ false) all (All-head (λ q. before (folded fold prefix) None q ≡ false) p ps l.reached))
-    (λ s. unequal_from _ ne (ap (slice_cmp nat_cmp p.key) all ∙ s))
+-- of pairs that rise, those that don't come behind the key of the first have its key
+tied : (key other : List ℕ) → is_gt (slice_cmp nat_cmp key other) ≡ false → is_gt (slice_cmp nat_cmp other key) ≡ false → other ≡ key
+tied key other a b = same_key other key (by_case (slice_cmp nat_cmp other key) refl) where
+  by_case : (o : Ordering) → slice_cmp nat_cmp other key ≡ o → slice_cmp nat_cmp other key ≡ Equal
+  by_case Less e = absurd (both_ways _ a (ap is_gt (nat_list_cmp_total.antisymm key other ∙ ap ordering_reverse e)))
+  by_case Equal e = e
+  by_case Greater e = absurd (both_ways _ b (ap is_gt e))
 
-pub skips_on : (fold : Bool) (value prefix next : List ℕ) (p : Pair) (ps passed rest : List Pair) → Looked fold value prefix p ps → false ≡ is_eq (slice_cmp nat_cmp p.key (folded fold prefix))
-    → IsFront next value → length next ≡ length prefix + 1 → p ∷ ps ≡ passed ++ rest → All (λ q. before (folded fold next) None q ≡ true) passed
-    → entries_under (folded fold value) (p ∷ ps) ≡ entries_under (folded fold value) rest
-skips_on fold value prefix next p ps passed rest l ne f long e a =
-    let here = front_folded fold prefix value l.begun in
-    let there : folded fold next ≡ take (length prefix + 1) (folded fold value) = front_folded fold next value f ∙ ap (λ n. take n (folded fold value)) long in
-    skips (folded fold value) (length prefix) p ps passed rest l.rising
-    (subst (λ w. before w None p ≡ false) here (All-head (λ q. before (folded fold prefix) None q ≡ false) p ps l.reached))
-    (λ s. unequal_from _ ne (ap (slice_cmp nat_cmp p.key) here ∙ s)) e
-    (subst (λ w. All (λ q. before w None q ≡ true) passed) there a)
+not_first : (p : Pair) (ps : List Pair) → IsRising Below (p ∷ ps) → All (λ q. is_gt (slice_cmp nat_cmp p.key q.key) ≡ false) (p ∷ ps)
+not_first p ps h zero d l = ap is_gt (tied_itself nat_list_cmp_total p.key)
+not_first p ps h (suc k) d l = not_greater p (get_or ps k d) (h.0 k d (omega arith))
 
-pub walks_next : {Z : Type 0} (fold : Bool) (value prefix next : List ℕ) (p : Pair) (ps passed back : List Pair) (after : List (Arc Block Z)) → Looked fold value prefix p ps → IsFront next value
-    → p ∷ ps ≡ passed ++ (back ++ pairs_of after) → All (λ q. before (folded fold next) None q ≡ false) (back ++ pairs_of after) → All IsSized after → IsWalking fold value next back after
-walks_next fold value prefix next p ps passed back after l f e a s = record {
-  begun = f;
-  rising = rising_right Below passed (back ++ pairs_of after) (subst (IsRising Below) e l.rising);
-  sized = s;
-  reached = a;
-}
+run_alike : (p : Pair) (ps run rest : List Pair) → IsRising Below (p ∷ ps) → p ∷ ps ≡ run ++ rest → All (λ q. before p.key End q ≡ true) run → All (λ q. q.key ≡ p.key) run
+run_alike p ps run rest h e a k d l =
+    let later = all_left Below (λ q. is_gt (slice_cmp nat_cmp p.key q.key) ≡ false) run rest (subst (All (λ q. is_gt (slice_cmp nat_cmp p.key q.key) ≡ false)) e (not_first p ps h)) in
+    tied p.key (get_or run k d).key (later k d l) (from_not _ (a k d l))
 
--- the empty text begins every text, and no key comes before it
-pub empty_front : (prefix value : List ℕ) → prefix ≡ [] → IsFront prefix value
-empty_front prefix value e = subst (λ w. IsFront w value) (sym e) (record { within = omega arith; front = refl })
+-- the pairs that were passed over up to behind a key, where the first pair has it
+pub is_run : (key : List ℕ) (all run rest : List Pair) (count : ℕ) → count + length rest ≡ length all → All (λ p. p.key ≡ key) (take 1 all) → IsRising Below all → all ≡ run ++ rest → All (λ q. before key End q ≡ true) run → All (λ q. before key End q ≡ false) rest
+    → IsRun key all count rest
+is_run key [] run rest count n f h e a b = record {
+  run = run;
+  whole = e;
+  counted = omega (arith, length-append run rest, ap length e);
+  alike = nothing run e;
+  fewer = λ l. absurd (omega arith);
+} where
+  nothing : (run : List Pair) → [] ≡ run ++ rest → All (λ p. p.key ≡ key) run
+  nothing [] e = All-nil (λ p. p.key ≡ key)
+  nothing (q ∷ qs) e = absurd (omega (arith, ap length e))
+is_run key (p ∷ ps) run rest count n f h e a b =
+    let same : p.key ≡ key = All-head (λ q. q.key ≡ key) p [] f in
+    record {
+      run = run;
+      whole = e;
+      counted = omega (arith, length-append run rest, ap length e);
+      alike = subst (λ k. All (λ q. q.key ≡ k) run) same (run_alike p ps run rest h e (subst (λ k. All (λ q. before k End q ≡ true) run) (sym same) a));
+      fewer = λ l. fewer key End p ps run rest (not_from (ap is_gt (ap (slice_cmp nat_cmp p.key) (sym same) ∙ tied_itself nat_list_cmp_total p.key))) e b;
+    }
 
-pub none_before_empty : (fold : Bool) (prefix key : List ℕ) → prefix ≡ [] → is_lt (slice_cmp nat_cmp key (folded fold prefix)) ≡ false
-none_before_empty fold prefix key e = ap (λ w. is_lt (slice_cmp nat_cmp key (folded fold w))) e ∙ by_key key where
-  by_key : (key : List ℕ) → is_lt (slice_cmp nat_cmp key []) ≡ false
-  by_key [] = refl
-  by_key (c ∷ cs) = refl
+-- a run of pairs under a text is counted whole
+run_counts : (text key : List ℕ) (all rest : List Pair) (count : ℕ) → IsRun key all count rest → (p : Pair) → p.key ≡ key → is_under text p ≡ true → length (entries_under text all) ≡ count + length (entries_under text rest)
+run_counts text key all rest count r p e u =
+    let under : All (λ q. is_under text q ≡ true) r.run = λ k d l. ap (λ w. starts_with nat_eq text w) (r.alike k d l ∙ sym e) ∙ u in
+    let split : entries_under text all ≡ map (λ q. q.entry) (r.run ++ filter (is_under text) rest) =
+    ap (entries_under text) r.whole ∙ ap (map (λ q. q.entry)) (filter-append (is_under text) r.run rest ∙ ap (λ xs. xs ++ filter (is_under text) rest) (filter_all (is_under text) r.run under)) in
+    omega (arith, ap length split, length-map (r.run ++ filter (is_under text) rest) (λ (q : Pair). q.entry), length-append r.run (filter (is_under text) rest), length-map (filter (is_under text) rest) (λ (q : Pair). q.entry), r.counted)
+
+pub found_counts : (text key : List ℕ) (back : List Pair) (p : Pair) (ps all rest : List Pair) (count : ℕ) → back ≡ p ∷ ps → All (λ q. is_under text q ≡ true) (take 1 back) → key ≡ p.key → IsRun key all count rest
+    → length (entries_under text all) ≡ count + length (entries_under text rest)
+found_counts text key back p ps all rest count b u k r =
+    run_counts text key all rest count r p (sym k) (All-head (λ q. is_under text q ≡ true) p [] (subst (λ qs. All (λ q. is_under text q ≡ true) (take 1 qs)) b u))
+
+pub entries_fewer : (text : List ℕ) (all : List Pair) → length (entries_under text all) ≤ length all
+entries_fewer text all = omega (arith, length-map (filter (is_under text) all) (λ (p : Pair). p.entry), length-filter (is_under text) all, count_by-le-length (is_under text) all)

@@ -1,20 +1,25 @@
 -- Places among the pairs, for the proofs of the searches.
-use Rattle.std.specs.Prelude.{◌≡◌, ℕ, ◌≤◌, ◌+◌, ◌-◌, Bool, true, false, List, [], ◌∷◌, ◌++◌, length, take, slice_get, Option, Some, None}
+use Rattle.std.specs.Prelude.{◌≡◌, ℕ, ◌<◌, ◌≤◌, ◌+◌, ◌-◌, Bool, true, false, List, [], ◌∷◌, ◌++◌, length, take, nat_eq, not, slice_get}
 use Rattle.std.specs.Cmp.Lexicographic.{slice_cmp}
-use Rattle.std.specs.List.{All}
+use Rattle.std.specs.List.{All, starts_with}
 use Rattle.std.specs.Option.{option_map_or}
-use Rattle.std.specs.Ordering.{nat_cmp, is_lt, is_eq}
-use Rattle.std.specs.declared.sync.Arc.{Arc}
-use Rattle.rg_trie.specs.declared.pair.Block.{Block}
-use Rattle.rg_trie.specs.declared.pair.Filed.{Filed}
+use Rattle.std.specs.Ordering.{nat_cmp, is_lt, is_eq, is_gt}
+use Rattle.std.specs.Str.{chars}
+use Rattle.std.specs.declared.cmp.Ordering.TheVariants.{Less, Greater}
+use Rattle.rg_trie.specs.declared.order.Standing.{Standing}
+use Rattle.rg_trie.specs.declared.order.Standing.TheVariants.{Prefix, Above, Below as StandsBelow}
+use Rattle.rg_trie.specs.declared.order.Mark.{Mark}
+use Rattle.rg_trie.specs.declared.order.Mark.TheVariants.{Start, At, End}
+use Rattle.rg_trie.specs.declared.pair.Held.{Held}
 use Rattle.rg_trie.specs.declared.pair.Pair.{Pair}
 use Rattle.rg_trie.specs.Pairs.{Below, folded, pair_order}
-use Rattle.rg_trie.specs.Blocks.{IsRising, IsSized, block_limit, pairs_of}
+use Rattle.rg_trie.specs.Blocks.{AreCounted, IsRising, IsSized, block_limit, pairs_of}
 
--- the pair comes before each with this key, or before the one with this key and entry
-abbrev pub before : List ℕ → Option Filed → Pair → Bool
-before text None p = is_lt (slice_cmp nat_cmp p.key text)
-before text (Some e) p = is_lt (pair_order p (record { key = text; entry = e }))
+-- the pair comes before a mark: the first place of a key, the place of an entry under it, or the place behind all its pairs
+abbrev pub before : List ℕ → Mark → Pair → Bool
+before text Start p = is_lt (slice_cmp nat_cmp p.key text)
+before text (At e) p = is_lt (pair_order p (record { key = text; entry = e }))
+before text End p = not (is_gt (slice_cmp nat_cmp p.key text))
 
 -- the last element passes, where there is one
 abbrev pub ends_passing : {X : Type 0} → (X → Bool) → List X → Bool
@@ -25,13 +30,29 @@ abbrev pub first_is : Pair → List Pair → Bool
 first_is p [] = false
 first_is p (q ∷ qs) = is_eq (pair_order q p)
 
--- the first characters of the text are these
-pub record IsFront (prefix text : List ℕ) : Type 0 where
-  pub within : length prefix ≤ length text
-  pub front : prefix ≡ take (length prefix) text
+-- a key comes after a prefix of the text and before the next, which is one character longer
+pub record IsBetween (text key next : List ℕ) : Type 0 where
+  pub shared : ℕ
+  pub longer : next ≡ take (shared + 1) text
+  pub after : slice_cmp nat_cmp key (take shared text) ≡ Greater
+  pub earlier : slice_cmp nat_cmp key next ≡ Less
+
+-- how a key stands to the prefixes of a text that may be folded
+abbrev pub StandsTo : Bool → List ℕ → List ℕ → Standing → Type 0
+StandsTo fold key text Prefix = starts_with nat_eq (folded fold text) key ≡ true
+StandsTo fold key text Above = slice_cmp nat_cmp key (folded fold text) ≡ Greater
+StandsTo fold key text (StandsBelow next) = IsBetween (folded fold text) key (folded fold (chars next.now))
+
+-- so many pairs with this key, where the first has it, and the rest
+pub record IsRun (key : List ℕ) (all : List Pair) (count : ℕ) (rest : List Pair) : Type 0 where
+  pub run : List Pair
+  pub whole : all ≡ run ++ rest
+  pub counted : length run ≡ count
+  pub alike : All (λ p. p.key ≡ key) run
+  pub fewer : 0 < length all → length rest < length all
 
 -- all pairs, cut where p stands or would stand: whole blocks, both parts of one block, and whole blocks
-pub record IsCut {Z : Type 0} (p : Pair) (all : List Pair) (first : List (Arc Block Z)) (front back : List Pair) (last : List (Arc Block Z)) : Type 0 where
+pub record IsCut (p : Pair) (all : List Pair) (first : List Held) (front back : List Pair) (last : List Held) : Type 0 where
   pub whole : all ≡ (pairs_of first ++ front) ++ (back ++ pairs_of last)
   pub rising : IsRising Below all
   pub passed : All (λ q. is_lt (pair_order q p) ≡ true) (pairs_of first ++ front)
@@ -40,9 +61,8 @@ pub record IsCut {Z : Type 0} (p : Pair) (all : List Pair) (first : List (Arc Bl
   pub limited : length front + length back ≤ block_limit
   pub end : length back ≡ 0 → last ≡ []
 
--- what is left of a walk: pairs in order, none of which comes before the prefix that is looked up
-pub record IsWalking {Z : Type 0} (fold : Bool) (value prefix : List ℕ) (back : List Pair) (after : List (Arc Block Z)) : Type 0 where
-  pub begun : IsFront prefix value
+-- what is left of a walk: pairs in order, of which the blocks are counted
+pub record IsWalking (back : List Pair) (after : List Held) : Type 0 where
   pub rising : IsRising Below (back ++ pairs_of after)
   pub sized : All IsSized after
-  pub reached : All (λ p. before (folded fold prefix) None p ≡ false) (back ++ pairs_of after)
+  pub counted : AreCounted 0 after

@@ -2,6 +2,7 @@
 #![tactic(auto)]
 
 mod blocks;
+mod counting;
 mod order;
 mod pair;
 mod seek;

@@ -1,13 +1,13 @@
 // The order of pairs.
-ghost use Rattle.std.specs.Prelude.{◌≡◌, false};
+ghost use Rattle.std.specs.Prelude.{◌≡◌, ◌++◌, List, ℕ, false};
 ghost use Rattle.std.specs.Cmp.Lexicographic.{slice_cmp};
 ghost use Rattle.std.specs.Ordering.{nat_cmp, is_eq};
 ghost use Rattle.std.specs.Str.{chars};
 ghost use Rattle.rg_trie.specs.Pairs.{entry_order, folded, pair_order};
-ghost use Rattle.rg_trie.specs.Sought.{before, first_is};
+ghost use Rattle.rg_trie.specs.Sought.{StandsTo, before, first_is};
 
 use crate::pair::{Filed, Pair};
-use rg_base::split_char;
+use rg_base::{folded_char, split_char};
 use std::cmp::Ordering;
 
 /// How a key stands to a text, of which the ASCII letters are folded where `fold` is set.
@@ -22,12 +22,7 @@ fn key_order(key: &str, text: &str, fold: bool) -> Ordering
             (None, Some(_)) => return Ordering::Less,
             (Some(_), None) => return Ordering::Greater,
             (Some((first, more)), Some((character, rest))) => {
-                let character = if fold {
-                    character.to_ascii_lowercase()
-                } else {
-                    character
-                };
-                let by = first.cmp(&character);
+                let by = first.cmp(&folded_char(fold, character));
                 if by != Ordering::Equal {
                     return by;
                 }
@@ -35,6 +30,48 @@ fn key_order(key: &str, text: &str, fold: bool) -> Ordering
                 right = rest;
             }
         }
+    }
+}
+
+/// How a key stands to the prefixes of a text.
+#[derive(Clone, Copy)]
+pub(crate) enum Standing<'a> {
+    /// It is one of them.
+    Prefix,
+    /// It comes after all of them.
+    Above,
+    /// It comes after a prefix and before the prefix that is one character longer, which is this one.
+    Below(&'a str),
+}
+
+/// The text up to where this rest of it begins.
+fn up_to<'a>(text: &'a str, rest: &str) -> &'a str
+    requires { (seen : List ℕ) × (chars text.now ≡ seen ++ chars rest.now) }
+    ensures { (seen : List ℕ) → chars text.now ≡ seen ++ chars rest.now → chars result.now ≡ seen }
+{
+    text.split_at(text.len() - rest.len()).0
+}
+
+/// How a key stands to the prefixes of a text, of which the ASCII letters are folded where `fold` is set.
+pub(crate) fn standing_of<'a>(key: &str, text: &'a str, fold: bool) -> Standing<'a>
+    ensures { StandsTo fold (chars key.now) (chars text.now) result }
+{
+    let mut left = key;
+    let mut right = text;
+    'characters: loop {
+        let Some((first, more)) = split_char(left) else {
+            return Standing::Prefix;
+        };
+        let Some((character, rest)) = split_char(right) else {
+            return Standing::Above;
+        };
+        match first.cmp(&folded_char(fold, character)) {
+            Ordering::Less => return Standing::Below(up_to(text, rest)),
+            Ordering::Greater => return Standing::Above,
+            Ordering::Equal => {}
+        }
+        left = more;
+        right = rest;
     }
 }
 
@@ -48,32 +85,38 @@ fn compare_entries(a: Filed, b: Filed) -> Ordering
     }
 }
 
-/// Whether a pair comes before the text with that entry, or before the text with any entry.
-pub(crate) fn is_before(pair: &Pair, text: &str, fold: bool, entry: Option<Filed>) -> bool
-    ensures { result ≡ before (folded fold (chars text.now)) entry pair.now }
+/// A place among the pairs that have a key.
+#[derive(Clone, Copy)]
+pub(crate) enum Mark {
+    /// Before all of them.
+    Start,
+    /// Where the entry stands or would stand.
+    At(Filed),
+    /// Behind all of them.
+    End,
+}
+
+/// Whether a pair comes before the mark of the text as key.
+pub(crate) fn is_before(pair: &Pair, text: &str, fold: bool, mark: Mark) -> bool
+    ensures { result ≡ before (folded fold (chars text.now)) mark pair.now }
 {
     match key_order(pair.key.as_str(), text, fold) {
         Ordering::Less => true,
         Ordering::Greater => false,
-        Ordering::Equal => match entry {
-            None => false,
-            Some(entry) => compare_entries(pair.entry, entry) == Ordering::Less,
+        Ordering::Equal => match mark {
+            Mark::Start => false,
+            Mark::At(entry) => compare_entries(pair.entry, entry) == Ordering::Less,
+            Mark::End => true,
         },
     }
-}
-
-/// Whether the pair has the text as its key.
-pub(crate) fn has_key(pair: &Pair, text: &str, fold: bool) -> bool
-    ensures { result ≡ is_eq (slice_cmp nat_cmp pair.now.key (folded fold (chars text.now))) }
-{
-    key_order(pair.key.as_str(), text, fold) == Ordering::Equal
 }
 
 /// Whether the pair has that key and entry.
 fn is_pair(pair: &Pair, key: &str, entry: Filed) -> bool
     ensures { result ≡ is_eq (pair_order pair.now (record { key = chars key.now; entry = entry })) }
 {
-    has_key(pair, key, false) && compare_entries(pair.entry, entry) == Ordering::Equal
+    key_order(pair.key.as_str(), key, false) == Ordering::Equal
+        && compare_entries(pair.entry, entry) == Ordering::Equal
 }
 
 /// Whether the first of the pairs has that key and entry.

@@ -4,6 +4,7 @@ ghost use Rattle.std.specs.Str.{chars};
 
 use rg_base::{NoMemory, Text, TryCopy};
 use std::alloc::Global;
+use std::sync::Arc;
 
 /// An entry: the number of what is filed, and the place of the value that it is filed for.
 #[derive(Clone, Copy, Debug, PartialEq, Eq)]
@@ -44,4 +45,11 @@ impl TryCopy for Pair {
 #[derive(Drop)]
 pub(crate) struct Block {
     pub(crate) pairs: Vec<Pair>,
+}
+
+/// A block of a trie, and how many pairs stand in it and in the blocks after it.
+#[derive(Drop)]
+pub(crate) struct Held {
+    pub(crate) block: Arc<Block>,
+    pub(crate) left: usize,
 }

@@ -72,6 +72,7 @@ fn walk_gives_shorter_keys_first(rt: HostRuntime) -> Result<(), Fail> {
         ),
     ] {
         assert_eq!(rt; ids(alloc, held, value, fold)?.as_slice(), want, "{name}");
+        assert_eq!(rt; held.count(value, fold), want.len(), "{name}");
     }
     assert_eq!(rt; steps.ledger().edits, 6);
     assert_eq!(rt; steps.ledger().compiles, 0);
@@ -100,6 +101,8 @@ fn entries_of_one_key_go_by_id_and_place(rt: HostRuntime) -> Result<(), Fail> {
     }
     let want = [(9i64, 0u32), (-2, 5), (7, 0), (7, 1)];
     assert_eq!(rt; found.as_slice(), want.as_slice());
+    assert_eq!(rt; trie.count("abx", false), 4);
+    assert_eq!(rt; trie.count("abc", false), 5);
     Ok(())
 }
 

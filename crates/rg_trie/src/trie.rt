@@ -9,15 +9,15 @@ ghost use Rattle.rg_trie.specs.Pairs.{Below, folded};
 ghost use Rattle.rg_trie.specs.Sought.{IsCut};
 ghost use Rattle.rg_trie.specs.Walked.{ShorterFirst, entries_under, pairs_under};
 
-use crate::blocks::{add_pairs, all_but_first, both, share, with_between};
-use crate::order::is_first;
-use crate::pair::{Block, Filed, Pair};
+use crate::blocks::{Growing, add_pairs, all_but_first, both, share, total_of, with_between};
+use crate::counting::count_under;
+use crate::order::{Mark, is_first};
+use crate::pair::{Filed, Held, Pair};
 use crate::seek::{Cut, find};
 use crate::walk::Walk;
 use rg_base::{Ledger, NoMemory, Steps};
 use std::alloc::Global;
 use std::marker::Model;
-use std::sync::Arc;
 
 /// Entries under keys. Contracts see the pairs of key and entry, in the order of key, id and place, each once.
 ///
@@ -25,7 +25,7 @@ use std::sync::Arc;
 /// for those that the edit changes.
 #[derive(Drop)]
 pub struct Trie {
-    blocks: Vec<Arc<Block>>,
+    blocks: Vec<Held>,
 }
 
 impl Model for Trie {
@@ -93,6 +93,14 @@ impl Trie {
         Walk::over(self.blocks.as_slice(), value, fold)
     }
 
+    /// How many entries the walk gives. It takes no memory, and looks for two places for each key that is a prefix of the
+    /// value, however many pairs have that key.
+    pub fn count(&self, value: &str, fold: bool) -> usize
+        ensures { result ≡ length (entries_under (folded fold (chars value.now)) self.now) }
+    {
+        count_under(self.blocks.as_slice(), value, fold)
+    }
+
     /// The law of the order: the pairs stand in the order of key, id and place, each once. The call does nothing.
     pub fn law_of_order(&self)
         ensures { AllPairs Below self.now }
@@ -107,8 +115,11 @@ impl Trie {
         if is_first(cut.back, key, entry) {
             return self.shared(alloc);
         }
+        let Some(total) = self.total().checked_add(1) else {
+            return Err(NoMemory);
+        };
         let middle = with_between(alloc, cut.front, key, entry, cut.back)?;
-        joined(alloc, cut.before, middle, cut.after)
+        joined(alloc, cut.before, middle, cut.after, total)
     }
 
     fn without(&self, alloc: Global, key: &str, entry: Filed) -> Result<Trie, NoMemory>
@@ -118,43 +129,60 @@ impl Trie {
         if !is_first(cut.back, key, entry) {
             return self.shared(alloc);
         }
+        let total = self.total() - 1;
         let middle = both(alloc, cut.front, all_but_first(cut.back))?;
-        joined(alloc, cut.before, middle, cut.after)
+        joined(alloc, cut.before, middle, cut.after, total)
     }
 
     /// The same pairs, in blocks that both share.
     fn shared(&self, alloc: Global) -> Result<Trie, NoMemory>
         ensures { IfOk result (λ t. t ≡ self.now) }
     {
-        let mut blocks = Vec::new(alloc);
-        share(&mut blocks, self.blocks.as_slice())?;
-        Ok(Trie { blocks })
+        let blocks = self.blocks.as_slice();
+        let mut growing = Growing::with_room(alloc, blocks.len(), self.total())?;
+        share(&mut growing, blocks)?;
+        Ok(Trie {
+            blocks: growing.blocks,
+        })
+    }
+
+    /// How many pairs there are.
+    fn total(&self) -> usize
+        ensures { result ≡ length self.now }
+    {
+        total_of(self.blocks.as_slice())
     }
 
     /// The pairs cut where this one stands or would stand.
     fn cut(&self, key: &str, entry: Filed) -> Cut<'_>
         ensures { IsCut (record { key = chars key.now; entry = entry }) self.now result.before.now result.front.now result.back.now result.after.now }
     {
-        find(self.blocks.as_slice(), key, false, Some(entry))
+        find(self.blocks.as_slice(), key, false, Mark::At(entry))
     }
 }
 
-/// A trie of these pairs: blocks that are shared, the pairs of one block, and blocks that are shared.
+/// A trie of these pairs, of which the number is known: blocks that are shared, the pairs of one block, and blocks that are
+/// shared.
 fn joined(
     alloc: Global,
-    before: &[Arc<Block>],
+    before: &[Held],
     middle: Vec<Pair>,
-    after: &[Arc<Block>],
+    after: &[Held],
+    total: usize,
 ) -> Result<Trie, NoMemory>
     requires rising { IsRising Below (pairs_of before.now ++ middle.items ++ pairs_of after.now) }
+    requires total { total ≡ length (pairs_of before.now ++ middle.items ++ pairs_of after.now) }
     requires limited { length middle.items ≤ block_limit + 1 }
     requires before { All IsSized before.now }
     requires after { All IsSized after.now }
     ensures { IfOk result (λ t. t ≡ pairs_of before.now ++ middle.items ++ pairs_of after.now) }
 {
-    let mut blocks = Vec::new(alloc);
-    share(&mut blocks, before)?;
-    add_pairs(alloc, &mut blocks, middle)?;
-    share(&mut blocks, after)?;
-    Ok(Trie { blocks })
+    let room = before.len().saturating_add(after.len()).saturating_add(2);
+    let mut growing = Growing::with_room(alloc, room, total)?;
+    share(&mut growing, before)?;
+    add_pairs(alloc, &mut growing, middle)?;
+    share(&mut growing, after)?;
+    Ok(Trie {
+        blocks: growing.blocks,
+    })
 }

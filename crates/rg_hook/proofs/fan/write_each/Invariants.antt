@@ -1,4 +1,4 @@
-use Rattle.std.proofs.Common.{◌≡◌, ◌≤◌, drop, take, length, All}
+use Rattle.std.proofs.Common.{◌≡◌, ◌≤◌, drop, take, All}
 use Rattle.std.specs.List.{AllZip, zip}
 use Rattle.std.specs.Str.{chars}
 use Rattle.rg_hook.specs.Sinks.{AfterLine, drop_at}

@@ -1,0 +1,9 @@
+// What makes facts unsound.
+#![tactic(auto)]
+
+mod ids;
+mod sound;
+mod unsound;
+
+pub use sound::{is_sound, sound_without_cause, unsound_cause};
+pub use unsound::Unsound;
