@@ -40,7 +40,7 @@ abbrev pub zone_subjects_exist : State → ZoneRow → Bool
 zone_subjects_exist s zone = subjects_exist (names_of s.roles.items) zone
 
 -- no two of the zones overlap for the service
-abbrev pub are_apart_for : State → List ZoneRow → List ℕ → Bool
+unfoldable pub are_apart_for : State → List ZoneRow → List ℕ → Bool
 are_apart_for s zones service = under (def_of s service) (λ def. is_none (first_overlap service def zones))
 
 -- no two of the zones overlap for any service

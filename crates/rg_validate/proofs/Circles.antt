@@ -1,0 +1,89 @@
+-- Whether a role that is put goes in a circle.
+use Rattle.std.proofs.Common.{◌≡◌, ◌↔◌, ◌⊎◌, ◌++◌, ℕ, Bool, true, false, not, List, [], ◌∷◌, map, Contains, Option, Some, None, IsTrue, refl, sym, ap, ◌∙◌, subst, inl, inr}
+use Rattle.std.specs.List.{list_all, list_any}
+use Rattle.std.specs.Option.{is_none}
+use Rattle.std.specs.Str.{bytes_eq}
+use Rattle.std.proofs.lemmas.Bool.{both_ways, false_from_ne_true, true≢false}
+use Rattle.std.proofs.lemmas.Slice.Eq.{bytes_eq-Decides}
+use Rattle.rg_base.specs.Texts.{all_distinct, is_among}
+use Rattle.rg_base.proofs.Lists.{Contains-map, Contains-mapped, all_distinct-map, all_holds, among_from, among_holds, any_from, any_holds, list_any_agree}
+use Rattle.rg_roles.specs.Chains.{Leads, here, there, leads}
+use Rattle.rg_roles.specs.Faults.{AreSound, IsApart, IsPut, NamesThere, fault_of, have_own_names}
+use Rattle.rg_roles.specs.Members.{names_of, names_role}
+use Rattle.rg_roles.specs.declared.fault.RoleFault.{RoleFault}
+use Rattle.rg_roles.specs.declared.row.RoleRow.{RoleRow}
+use Rattle.rg_cmd.specs.Lists.{put}
+use Rattle.rg_cmd.specs.Lookups.{is_role}
+use Rattle.rg_cmd.specs.declared.state.State.{State}
+use Rattle.rg_validate.specs.Roles.{goes_in_no_circle, holds_itself, member_roles_exist, roles_with}
+use Rattle.rg_validate.proofs.Putting.{distinct_last, put_has, put_last, put_names, put_others, put_there, replaced_names}
+
+named : RoleRow → List ℕ
+named row = row.name
+
+module _ (rows : List RoleRow) (row : RoleRow) where
+  abbrev new : List RoleRow
+  new = put (is_role row.name) row rows
+
+  alike : (y : RoleRow) → is_role row.name y ≡ true → y.name ≡ row.name
+  alike y h = (bytes_eq-Decides y.name row.name).0 h
+
+  own_names : (xs : List RoleRow) → all_distinct (λ (x y : List ℕ). bytes_eq y x) (map (λ (r : RoleRow). r.name) xs) ≡ have_own_names xs
+  own_names xs = all_distinct-map (λ (x y : List ℕ). bytes_eq y x) (λ (r : RoleRow). r.name) xs
+
+  turned : (y : RoleRow) → bytes_eq row.name y.name ≡ is_role row.name y
+  turned y = go (is_role row.name y) refl where
+    go : (b : Bool) → is_role row.name y ≡ b → bytes_eq row.name y.name ≡ is_role row.name y
+    go true e = (bytes_eq-Decides row.name y.name).1 (sym (alike y e)) ∙ sym e
+    go false e = false_from_ne_true (bytes_eq row.name y.name) (λ h. true≢false (sym ((bytes_eq-Decides y.name row.name).1 (sym ((bytes_eq-Decides row.name y.name).0 h))) ∙ e)) ∙ sym e
+
+  put_distinct : have_own_names rows ≡ true → have_own_names new ≡ true
+  put_distinct h = go (list_any (is_role row.name) rows) refl where
+    go : (b : Bool) → list_any (is_role row.name) rows ≡ b → have_own_names new ≡ true
+    go true e = sym (own_names new)
+        ∙ ap (λ (xs : List RoleRow). all_distinct (λ (x y : List ℕ). bytes_eq y x) (map (λ (r : RoleRow). r.name) xs)) (put_there (is_role row.name) row rows e)
+        ∙ ap (all_distinct (λ (x y : List ℕ). bytes_eq y x)) (replaced_names (is_role row.name) row (λ (r : RoleRow). r.name) alike rows) ∙ own_names rows ∙ h
+    go false e = ap have_own_names (put_last (is_role row.name) row rows e)
+        ∙ distinct_last (λ (a b : RoleRow). bytes_eq b.name a.name) rows row h (list_any_agree (λ (y : RoleRow). bytes_eq row.name y.name) (is_role row.name) turned rows ∙ e)
+
+  is_put : have_own_names rows ≡ true → IsPut rows row new
+  is_put h = record {
+    distinct = put_distinct h;
+    others = put_others (is_role row.name) row rows;
+    names = put_names (is_role row.name) row (λ (r : RoleRow). r.name) alike rows;
+  }
+
+none_of : {X : Type 0} (o : Option X) → is_none o ≡ true → o ≡ None
+none_of None h = refl
+none_of (Some x) h = absurd (true≢false (sym h))
+
+module _ (decided : (rows : List RoleRow) (test : RoleRow → Bool) (role : List ℕ) → IsTrue (leads rows test role) ↔ Leads rows test role)
+    (in_lists : (rows : List RoleRow) → (fault_of rows ≡ None) ↔ AreSound rows)
+    (may_be_put : (rows new : List RoleRow) (row : RoleRow) → fault_of rows ≡ None → IsPut rows row new → NamesThere new row → IsApart new row.name → fault_of new ≡ None) where
+  -- where there is no fault, no row holds itself
+  sound_apart : (rows : List RoleRow) → fault_of rows ≡ None → list_any (holds_itself rows) rows ≡ false
+  sound_apart rows none = false_from_ne_true (list_any (holds_itself rows) rows) (λ h.
+      let a = any_holds (holds_itself rows) rows h in
+      ((in_lists rows).0 none).apart a.0.name ((decided rows (names_role a.0.name) a.0.name).0 a.2))
+
+  put_sound : (rows : List RoleRow) (row : RoleRow) → fault_of rows ≡ None → NamesThere (new rows row) row → list_any (holds_itself (new rows row)) (new rows row) ≡ false → fault_of (new rows row) ≡ None
+  put_sound rows row none there_too apart =
+      may_be_put rows (new rows row) row none (is_put rows row ((in_lists rows).0 none).distinct) there_too (λ chain.
+      true≢false (sym (any_from (holds_itself (new rows row)) (new rows row) row (put_has (is_role row.name) row rows) ((decided (new rows row) (names_role row.name) row.name).1 chain)) ∙ apart))
+
+  -- the fault of the rows with the put one decides
+  pub circle_is : (s : State) (row : RoleRow) → is_none (fault_of s.roles.items) ≡ true → member_roles_exist s row ≡ true → is_none (fault_of (roles_with s row)) ≡ goes_in_no_circle s row
+  unfolding goes_in_no_circle
+  circle_is s row valid exist = go (list_any (holds_itself (roles_with s row)) (roles_with s row)) refl where
+    none : fault_of s.roles.items ≡ None
+    none = none_of (fault_of s.roles.items) valid
+
+    there_too : NamesThere (roles_with s row) row
+    there_too role h = among_holds role (names_of (roles_with s row)) (all_holds (λ name. is_among name (names_of (roles_with s row))) row.roles.items exist role h)
+
+    go : (b : Bool) → list_any (holds_itself (roles_with s row)) (roles_with s row) ≡ b → is_none (fault_of (roles_with s row)) ≡ not (list_any (holds_itself (roles_with s row)) (roles_with s row))
+    go false e = ap is_none (put_sound s.roles.items row none there_too e) ∙ ap not (sym e)
+    go true e = some (fault_of (roles_with s row)) refl ∙ ap not (sym e) where
+      some : (o : Option RoleFault) → fault_of (roles_with s row) ≡ o → is_none (fault_of (roles_with s row)) ≡ false
+      some None is = absurd (true≢false (sym e ∙ sound_apart (roles_with s row) is))
+      some (Some f) is = ap is_none is
