@@ -1,9 +1,9 @@
 -- For proofs alone: every step keeps a state valid, so every view of a history is sound.
-use Rattle.std.proofs.Common.{arith, ◌≡◌, ◌↔◌, ◌≤◌, ◌<◌, ◌+◌, ◌^◌, ◌&&◌, min, ℕ, Bool, true, false, not, is_none, leb, Contains, List, [], ◌∷◌, length, take, Option, Some, None, refl, ap, sym, ◌∙◌, subst}
+use Rattle.std.proofs.Common.{arith, ◌≡◌, ◌↔◌, ◌≤◌, ◌<◌, ◌+◌, ◌^◌, ◌&&◌, min, ℕ, pos, int_lt, Bool, true, false, not, is_none, leb, Contains, List, [], ◌∷◌, length, take, Option, Some, None, refl, ap, sym, ◌∙◌, subst}
 use Rattle.std.specs.Bool.{IsTrue}
 use Rattle.std.specs.List.{filter, list_all, list_any}
 use Rattle.std.specs.Str.{bytes_eq}
-use Rattle.std.proofs.lemmas.Bool.{and_parts, false≢true, leb-true}
+use Rattle.std.proofs.lemmas.Bool.{and_from, and_parts, false≢true, leb-true}
 use Rattle.std.proofs.lemmas.List.{length-take-le}
 use Rattle.std.proofs.lemmas.Slice.Eq.{bytes_eq-Decides}
 use Rattle.rg_base.proofs.Lists.{all_holds, find_contained}
@@ -25,7 +25,7 @@ use Rattle.rg_zones.specs.Overlap.{first_overlap, zones_overlap}
 use Rattle.rg_zones.specs.Rules.{policy_zone_fits}
 use Rattle.rg_zones.specs.declared.row.ZoneRow.{ZoneRow}
 use Rattle.rg_cmd.specs.Lists.{put, without}
-use Rattle.rg_cmd.specs.Lookups.{has_id, has_row_id, is_role, is_tag_service, is_user, is_zone}
+use Rattle.rg_cmd.specs.Lookups.{has_id, has_row_id, is_role, is_service, is_tag_service, is_user, is_zone}
 use Rattle.rg_cmd.specs.declared.ask.AdminCommand.{AdminCommand}
 use Rattle.rg_cmd.specs.declared.ask.AdminCommand.TheVariants.{PutDef, CreateService, UpdateService, DeleteService, CreatePolicy, UpdatePolicy, DeletePolicy, GetPolicy, ListPolicies, PutRole, DeleteRole, PutZone, DeleteZone, PutTags, DeleteTags, PutUser, DeleteUser, Download}
 use Rattle.rg_cmd.specs.declared.ask.AdminReply.{AdminReply}
@@ -35,12 +35,13 @@ use Rattle.rg_cmd.specs.declared.rule.Rule.{Rule}
 use Rattle.rg_cmd.specs.declared.rule.Rule.TheVariants.{O4, Z6}
 use Rattle.rg_cmd.specs.declared.state.State.{State}
 use Rattle.rg_cmd.specs.declared.state.UserRow.{UserRow}
+use Rattle.rg_validate.specs.Definitions.{plugin_fits}
 use Rattle.rg_validate.specs.Failing.{first_failing}
 use Rattle.rg_validate.specs.Policies.{zone_fits}
 use Rattle.rg_validate.specs.Roles.{other_names_role, policy_names_role, role_is_unused, zone_names_role}
 use Rattle.rg_validate.specs.Rules.{command_rules}
-use Rattle.rg_validate.specs.Valid.{IsValid, policy_valid, tag_row_valid, zone_valid}
-use Rattle.rg_validate.specs.Zones.{are_apart, zone_is_apart}
+use Rattle.rg_validate.specs.Valid.{IsKept, IsValid, policy_valid, tag_row_valid, zone_valid}
+use Rattle.rg_validate.specs.Zones.{are_apart, are_apart_for, zone_is_apart}
 use Rattle.rg_machine.specs.Changes.{after_command, created_form, stored_row, updated_form}
 use Rattle.rg_machine.specs.Logs.{Administration, is_log_of}
 use Rattle.rg_machine.specs.Starts.{IsStart}
@@ -51,10 +52,11 @@ use Rattle.rg_machine.proofs.KeptDefs.{put_def_kept}
 use Rattle.rg_machine.proofs.KeptPolicies.{created_passes, row_passes, updated_passes}
 use Rattle.rg_machine.proofs.KeptRoles.{among_left, among_put, named_other, roles_after_delete, roles_after_put, subjects_exist_on, subjects_fit_on, text_turn}
 use Rattle.rg_machine.proofs.KeptServices.{create_service_kept, delete_service_kept, update_service_kept}
+use Rattle.rg_machine.proofs.KeptSingle.{plugin_fits_after, rows_given_after, single_after, single_counted}
 use Rattle.rg_machine.proofs.KeptZones.{apart_left, zone_fits_left, zone_fits_put, zone_passes}
 use Rattle.rg_machine.proofs.Lawful.{at_orderly, count_after, start_orderly}
 use Rattle.rg_machine.proofs.Lists.{all_put, all_snoc, all_weaker, distinct_filtered, distinct_put, filter_all, none_passes, not_true}
-use Rattle.rg_machine.proofs.Orderly.{IsOrderly, IsOrderlyState, is_counted, policy_ids, row_ids}
+use Rattle.rg_machine.proofs.Orderly.{IsOrderly, IsOrderlyState, is_counted, orderly_after, orderly_refused, policy_ids, row_ids}
 use Rattle.rg_machine.proofs.Parts.{policy_parts, policy_whole, zone_parts, zone_whole}
 use Rattle.rg_machine.proofs.Passing.{IsPassed, passed, passed_at}
 use Rattle.rg_machine.proofs.SoundViews.{view_sound}
@@ -62,6 +64,7 @@ use Rattle.rg_machine.proofs.SoundViews.{view_sound}
 -- ---- the start of a count
 
 counted_valid : (s : State) → IsValid s → IsValid (counted s)
+unfolding are_apart are_apart_for
 counted_valid s valid = record {
   definitions = valid.definitions;
   services = valid.services;
@@ -89,6 +92,7 @@ module _ (s : State) (valid : IsValid s) (roles : Listed RoleRow) (version : Ver
       → ((p : Policy) → Contains s.policies.items p → (name : List ℕ) → policy_names_role name p ≡ true → is_among name (names_of s.roles.items) ≡ true → is_among name (names_of roles.items) ≡ true)
       → ((z : ZoneRow) → Contains s.zones.items z → (name : List ℕ) → zone_names_role name z ≡ true → is_among name (names_of s.roles.items) ≡ true → is_among name (names_of roles.items) ≡ true)
       → IsValid with_roles
+  unfolding are_apart are_apart_for
   roles_kept sound policies zones = record {
     definitions = valid.definitions;
     services = valid.services;
@@ -131,7 +135,7 @@ module _ (s : State) (valid : IsValid s) (zones : Listed ZoneRow) where
 
   zones_kept : list_all (zone_valid s) zones.items ≡ true → are_apart s zones.items ≡ true → all_distinct (λ (a b : ZoneRow). bytes_eq b.name a.name) zones.items ≡ true
       → ((p : Policy) → Contains s.policies.items p → zone_fits s p ≡ true → policy_zone_fits (is_tag_service s p.service) p.service zones.items p ≡ true) → IsValid with_zones
-  unfolding are_apart
+  unfolding are_apart are_apart_for
   zones_kept rows apart names policies = record {
     definitions = valid.definitions;
     services = valid.services;
@@ -174,6 +178,7 @@ no_fault (Some f) h = absurd (false≢true h)
 
 module _ (below : Below) where
   pub valid_after : (s : State) → IsValid s → IsOrderlyState s → (c : AdminCommand) → first_failing (command_rules s c) ≡ None → IsValid (after_command s c)
+  unfolding are_apart are_apart_for
   valid_after s valid o (PutDef def) h = put_def_kept s def valid h
   valid_after s valid o (CreateService row) h = create_service_kept below.by_pairs s row valid h
   valid_after s valid o (UpdateService row) h = update_service_kept s row valid h
@@ -343,7 +348,44 @@ module _ (below : Below) where
       let count = count_after start (take k h) (omega (arith, none)) in
       view_sound a service f (always_valid start (take k h) (start_orderly start is) is.valid.valid) o.state.given
       (λ log found.
-        let both = and_parts (leb log.policy_version.0 (a.state.count + 1)) (leb log.tag_version.0 (a.state.count + 1)) (all_holds (is_counted a.state.count) a.logs o.counted log (find_contained (is_log_of service) a.logs log found).0) in
-        let policies = leb-true log.policy_version.0 (a.state.count + 1) both.0 in let tags = leb-true log.tag_version.0 (a.state.count + 1) both.1 in
-        (omega (arith, policies, count, none, many, few), omega (arith, tags, count, none, many, few)))
+      let both = and_parts (leb log.policy_version.0 (a.state.count + 1)) (leb log.tag_version.0 (a.state.count + 1)) (all_holds (is_counted a.state.count) a.logs o.counted log (find_contained (is_log_of service) a.logs log found).0) in
+      let policies = leb-true log.policy_version.0 (a.state.count + 1) both.0 in let tags = leb-true log.tag_version.0 (a.state.count + 1) both.1 in
+      (omega (arith, policies, count, none, many, few), omega (arith, tags, count, none, many, few)))
       (let roles = o.state.roles in omega (arith, roles, count, none, many, few)) viewed
+
+  -- ---- everything that an administration keeps
+
+  pub step_kept : (a : Administration) (ask : Ask) → IsOrderly a → IsKept a.state → IsKept (step a ask).0.state
+  step_kept a ask o kept = go (fault a.state ask) refl
+    where
+      both : (list_any (is_service a.state.plugin) a.state.services.items ≡ true) × (plugin_fits a.state ≡ true)
+      both = and_parts (list_any (is_service a.state.plugin) a.state.services.items) (plugin_fits a.state) kept.plugin
+
+      go : (r : Option Rule) → fault a.state ask ≡ r → IsKept (step_by r a ask).0.state
+      go None none =
+          let c = ask.command in
+          let later = after_command a.state c in
+          let rules = passed a.state ask none in
+          let next = orderly_after a.state o.state c rules in record {
+            valid = counted_valid later (valid_after a.state kept.valid o.state c rules.rules);
+            single = single_counted later (single_after a.state kept.valid.services kept.single c rules.rules);
+            given = next.given;
+            tag_rows_given = rows_given_after a.state kept.tag_rows_given c rules.rules;
+            next_id = and_from (int_lt (pos 0) later.next_id) _ next.positive next.next;
+            plugin = and_from (list_any (is_service later.plugin) later.services.items) (plugin_fits later) next.plugin (plugin_fits_after a.state both.0 both.1 c rules.rules);
+          }
+      go (Some rule) is = let next = orderly_refused a.state o.state in record {
+        valid = counted_valid a.state kept.valid;
+        single = single_counted a.state kept.single;
+        given = kept.given;
+        tag_rows_given = kept.tag_rows_given;
+        next_id = and_from (int_lt (pos 0) a.state.next_id) _ next.positive next.next;
+        plugin = kept.plugin;
+      }
+
+  pub always_kept : (a : Administration) (h : List (Entry Ask AdminReply)) → IsOrderly a → IsKept a.state → IsKept (state_after step a h).state
+  always_kept a [] o kept = kept
+  always_kept a (e ∷ h) o kept = always_kept (step a e.ask).0 h (step_orderly a e.ask o) (step_kept a e.ask o kept)
+
+  pub states_kept : (start : Administration) (h : List (Entry Ask AdminReply)) → IsStart start → (k : ℕ) → IsKept (state_at step start h k).state
+  states_kept start h is k = always_kept start (take k h) (start_orderly start is) is.valid

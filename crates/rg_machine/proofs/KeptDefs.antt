@@ -78,11 +78,13 @@ module _ (s : State) (def : ServiceDef) (valid : IsValid s) (h : first_failing (
       go None none = inr (ap (option_and_then (λ (row : ServiceRow). def_at later row.def)) none ∙ sym (ap (option_and_then (λ (row : ServiceRow). def_at s row.def)) none))
       go (Some row) found = case (λ b. bytes_eq row.def def.name ≡ b → ((def_of later x ≡ Some def) × (is_among x names ≡ true)) ⊎ (def_of later x ≡ def_of s x)) (bytes_eq row.def def.name)
           (λ _ is.
-            let there = find_contained (is_service x) s.services.items row found in
-            inl (ap (option_and_then (λ (r : ServiceRow). def_at later r.def)) found ∙ ap (def_at later) ((bytes_eq-Decides row.def def.name).0 is) ∙ find_put_own (is_def def.name) def (own_name def.name) s.defs.items,
+          let there = find_contained (is_service x) s.services.items row found in
+          inl (
+            ap (option_and_then (λ (r : ServiceRow). def_at later r.def)) found ∙ ap (def_at later) ((bytes_eq-Decides row.def def.name).0 is) ∙ find_put_own (is_def def.name) def (own_name def.name) s.defs.items,
             among_mapped (λ (r : ServiceRow). r.name) x (filter (λ (r : ServiceRow). bytes_eq r.def def.name) s.services.items)
-            ∙ any_from (λ (r : ServiceRow). bytes_eq r.name x) (filter (λ (r : ServiceRow). bytes_eq r.def def.name) s.services.items) row
-              (Contains-filter (λ (r : ServiceRow). bytes_eq r.def def.name) s.services.items row there.0 is) there.1))
+                ∙ any_from (λ (r : ServiceRow). bytes_eq r.name x) (filter (λ (r : ServiceRow). bytes_eq r.def def.name) s.services.items) row
+                (Contains-filter (λ (r : ServiceRow). bytes_eq r.def def.name) s.services.items row there.0 is) there.1,
+          ))
           (λ _ other. inr (def_kept s def (service_at s x) (ap (has_def def.name) found ∙ other)))
           refl
 
@@ -115,7 +117,7 @@ module _ (s : State) (def : ServiceDef) (valid : IsValid s) (h : first_failing (
       policy_whole later p (record {
         suits = elim (def_cases p.service) [
           | inl new ↦ subst (λ (o : Option ServiceDef). under o (λ d. policy_suits d p) ≡ true) (sym new.0)
-            (asked (is_among p.service names) (policy_suits def p) (all_holds (λ (q : Policy). not (is_among q.service names) || policy_suits def q) s.policies.items suits.policies p there) new.1)
+              (asked (is_among p.service names) (policy_suits def p) (all_holds (λ (q : Policy). not (is_among q.service names) || policy_suits def q) s.policies.items suits.policies p there) new.1)
           | inr same ↦ subst (λ (o : Option ServiceDef). under o (λ d. policy_suits d p) ≡ true) (sym same) parts.suits
         ];
         priority = parts.priority;
@@ -131,7 +133,7 @@ module _ (s : State) (def : ServiceDef) (valid : IsValid s) (h : first_failing (
         service = parts.service;
         resources = elim (def_cases r.service) [
           | inl new ↦ subst (λ (o : Option ServiceDef). under o (λ d. tagged_fit d r.resources.items) ≡ true) (sym new.0)
-            (asked (is_among r.service names) (tagged_fit def r.resources.items) (all_holds (λ (q : TagRow). not (is_among q.service names) || tagged_fit def q.resources.items) s.tag_rows.items suits.rows r there) new.1)
+              (asked (is_among r.service names) (tagged_fit def r.resources.items) (all_holds (λ (q : TagRow). not (is_among q.service names) || tagged_fit def q.resources.items) s.tag_rows.items suits.rows r there) new.1)
           | inr same ↦ subst (λ (o : Option ServiceDef). under o (λ d. tagged_fit d r.resources.items) ≡ true) (sym same) parts.resources
         ];
         tags = parts.tags;
@@ -163,7 +165,7 @@ module _ (s : State) (def : ServiceDef) (valid : IsValid s) (h : first_failing (
       ]
 
   apart_on : are_apart later s.zones.items ≡ true
-  unfolding are_apart
+  unfolding are_apart are_apart_for
   apart_on = all_weaker (λ (r : ServiceRow). are_apart_for s s.zones.items r.name) (λ (r : ServiceRow). are_apart_for later s.zones.items r.name) s.services.items
       (λ r _ its. elim (def_cases r.name) [
         | inl new ↦ subst (λ (o : Option ServiceDef). under o (λ d. is_none (first_overlap r.name d s.zones.items)) ≡ true) (sym new.0) (zones_for r.name new.1).1

@@ -34,11 +34,11 @@ policy_passes s updated p def is h =
     let at = passed_at (policy_rules s updated p def) h in
     let place = and_parts (zone_fits s p) (stays_in (old_form s updated) p) (at 13 (V14, policy_place_fits s updated p) refl) in
     let suits : policy_suits def p ≡ true = and_from (type_fits def p) _ (at 2 (V3, type_fits def p) refl)
-        (and_from (policy_levels_fit def p) _ (at 4 (V5, policy_levels_fit def p) refl)
-        (and_from (policy_values_fit def p) _ (at 5 (V6, policy_values_fit def p) refl)
-        (and_from (lists_fit p) _ (at 6 (V7, lists_fit p) refl)
-        (and_from (entries_fit def p) _ (at 7 (V8, entries_fit def p) refl)
-        (and_from (conditions_compile def p) (outcomes_fit def p) (at 8 (V9, conditions_compile def p) refl) (at 10 (V11, outcomes_fit def p) refl)))))) in
+    (and_from (policy_levels_fit def p) _ (at 4 (V5, policy_levels_fit def p) refl)
+    (and_from (policy_values_fit def p) _ (at 5 (V6, policy_values_fit def p) refl)
+    (and_from (lists_fit p) _ (at 6 (V7, lists_fit p) refl)
+    (and_from (entries_fit def p) _ (at 7 (V8, entries_fit def p) refl)
+    (and_from (conditions_compile def p) (outcomes_fit def p) (at 8 (V9, conditions_compile def p) refl) (at 10 (V11, outcomes_fit def p) refl)))))) in
     and_from (under (def_of s p.service) (λ d. policy_suits d p)) _ (subst (λ (o : Option ServiceDef). under o (λ d. policy_suits d p) ≡ true) (sym is) suits)
     (and_from (priority_fits p) _ (at 3 (V4, priority_fits p) refl)
     (and_from (policy_subjects_fit s p) _ (at 9 (V10, policy_subjects_fit s p) refl)

@@ -95,8 +95,7 @@ module _ (decided : (rows : List RoleRow) (test : RoleRow → Bool) (role : List
     (in_lists : (rows : List RoleRow) → (fault_of rows ≡ None) ↔ AreSound rows)
     (may_be_put : (rows new : List RoleRow) (row : RoleRow) → fault_of rows ≡ None → IsPut rows row new → NamesThere new row → IsApart new row.name → fault_of new ≡ None)
     (may_go : (rows : List RoleRow) (role : List ℕ) → fault_of rows ≡ None → ((row : RoleRow) → Contains rows row → Contains row.roles.items role → row.name ≡ role)
-      → fault_of (filter (λ (row : RoleRow). not (bytes_eq row.name role)) rows) ≡ None) where
-
+    → fault_of (filter (λ (row : RoleRow). not (bytes_eq row.name role)) rows) ≡ None) where
   pub roles_after_put : (s : State) (row : RoleRow) → fault_of s.roles.items ≡ None → first_failing (command_rules s (PutRole row)) ≡ None → fault_of (put (is_role row.name) row s.roles.items) ≡ None
   unfolding goes_in_no_circle
   roles_after_put s row sound h =
@@ -108,7 +107,7 @@ module _ (decided : (rows : List RoleRow) (test : RoleRow → Bool) (role : List
       })
       (λ role there. among_holds role (names_of new) (all_holds (λ name. is_among name (names_of new)) row.roles.items (passed_at (command_rules s (PutRole row)) h 1 (O2, member_roles_exist s row) refl) role there))
       (λ chain. let leads_there = (decided new (names_role row.name) row.name).1 chain in
-        false≢true (sym (none_passes (holds_itself new) new (not_true (list_any (holds_itself new) new) (passed_at (command_rules s (PutRole row)) h 2 (O3, goes_in_no_circle s row) refl)) row (put_there (is_role row.name) row s.roles.items)) ∙ leads_there))
+      false≢true (sym (none_passes (holds_itself new) new (not_true (list_any (holds_itself new) new) (passed_at (command_rules s (PutRole row)) h 2 (O3, goes_in_no_circle s row) refl)) row (put_there (is_role row.name) row s.roles.items)) ∙ leads_there))
     where
       new : List RoleRow
       new = put (is_role row.name) row s.roles.items
@@ -118,10 +117,10 @@ module _ (decided : (rows : List RoleRow) (test : RoleRow → Bool) (role : List
       let unused = passed_at (command_rules s (DeleteRole name)) h 1 (O4, role_is_unused s name) refl in
       let none = not_true (list_any (other_names_role name) s.roles.items) (and_parts (not (list_any (other_names_role name) s.roles.items)) _ unused).0 in
       may_go s.roles.items name sound (λ row there names.
-        case (λ b. is_role name row ≡ b → row.name ≡ name) (is_role name row)
-        (λ _ is. (bytes_eq-Decides row.name name).0 is)
-        (λ _ other. absurd (false≢true (sym (none_passes (other_names_role name) s.roles.items none row there) ∙ and_from (not (is_role name row)) (names_role name row) (ap not other) (among_from name row.roles.items names))))
-        refl)
+      case (λ b. is_role name row ≡ b → row.name ≡ name) (is_role name row)
+      (λ _ is. (bytes_eq-Decides row.name name).0 is)
+      (λ _ other. absurd (false≢true (sym (none_passes (other_names_role name) s.roles.items none row there) ∙ and_from (not (is_role name row)) (names_role name row) (ap not other) (among_from name row.roles.items names))))
+      refl)
 
 -- ---- policies and zones
 
@@ -136,6 +135,6 @@ among_left rows gone name other is =
     (Contains-map (λ (q : RoleRow). q.name) (without (is_role gone) rows) r.0 (Contains-filter (λ q. not (is_role gone q)) rows r.0 r.1 (ap not (ap (λ n. bytes_eq n gone) r.2 ∙ other)))))
 
 -- what is named isn't what nobody names
-pub named_other : (name gone : List ℕ) (b : Bool) → (t : List ℕ → Bool) → t name ≡ true → t gone ≡ false → bytes_eq name gone ≡ false
-named_other name gone b t is none = case (λ c. bytes_eq name gone ≡ c → c ≡ false) (bytes_eq name gone)
+pub named_other : (name gone : List ℕ) (t : List ℕ → Bool) → t name ≡ true → t gone ≡ false → bytes_eq name gone ≡ false
+named_other name gone t is none = case (λ c. bytes_eq name gone ≡ c → c ≡ false) (bytes_eq name gone)
     (λ _ same. absurd (false≢true (sym none ∙ ap t (sym ((bytes_eq-Decides name gone).0 same)) ∙ is))) (λ _ _. refl) refl

@@ -186,7 +186,7 @@ module _ (by_pairs : (service : List ℕ) (def : ServiceDef) (zones : List ZoneR
       (λ _ is. absurd (false≢true (sym new ∙ subst (λ n. list_any (is_service n) s.services.items ≡ true) ((bytes_eq-Decides e.service service).0 is) (zone_there s valid a there e e_there)))) (λ _ _. refl) refl)))
 
   pub create_service_kept : (s : State) (row : ServiceRow) → IsValid s → first_failing (command_rules s (CreateService row)) ≡ None → IsValid (after_command s (CreateService row))
-  unfolding are_apart
+  unfolding are_apart are_apart_for
   create_service_kept s row valid h =
       let later = after_command s (CreateService row) in
       let new = new_is_new s row h in
@@ -236,8 +236,12 @@ module _ (s : State) (row : ServiceRow) (valid : IsValid s) (h : first_failing (
       → is_among x (map (λ (r : ServiceRow). r.name) (filter (λ (r : ServiceRow). f r.def) (put (is_service row.name) row s.services.items))) ≡ true
   updated_on f x = among_on (λ (r : ServiceRow). f r.def) s.services.items (put (is_service row.name) row s.services.items) x (λ r there named its.
       case (λ b. is_service row.name r ≡ b → (q : ServiceRow) × Contains (put (is_service row.name) row s.services.items) q × (bytes_eq q.name x ≡ true) × (f q.def ≡ true)) (is_service row.name r)
-      (λ _ is. (row, put_there (is_service row.name) row s.services.items, ap (λ n. bytes_eq n x) (sym ((bytes_eq-Decides r.name row.name).0 is)) ∙ named,
-        ap f (sym (ap (λ (q : ServiceRow). q.def) (old_row r there is) ∙ update.same_def)) ∙ its))
+      (λ _ is. (
+        row,
+        put_there (is_service row.name) row s.services.items,
+        ap (λ n. bytes_eq n x) (sym ((bytes_eq-Decides r.name row.name).0 is)) ∙ named,
+        ap f (sym (ap (λ (q : ServiceRow). q.def) (old_row r there is) ∙ update.same_def)) ∙ its,
+      ))
       (λ _ other. (r, put_others (is_service row.name) row s.services.items r there other, named, its)) refl)
 
   updated_agrees : (x : List ℕ) → Agrees s updated x
@@ -256,12 +260,12 @@ module _ (s : State) (row : ServiceRow) (valid : IsValid s) (h : first_failing (
           refl
 
   pub update_service_kept : IsValid updated
-  unfolding are_apart
+  unfolding are_apart are_apart_for
   update_service_kept =
       valid_on s (listed (put (is_service row.name) row s.services.items)) valid (services_stay s valid.services (UpdateService row) h)
       (distinct_put (λ (r : ServiceRow). r.name) (λ a b. bytes_eq b a) (λ a b. text_turn a b) (is_service row.name) row (λ y is. sym ((bytes_eq-Decides y.name row.name).0 is)) (λ y. refl) s.services.items valid.service_names)
       (all_from (λ (r : ServiceRow). are_apart_for updated s.zones.items r.name) (put (is_service row.name) row s.services.items) (λ r there.
-        subst (λ (o : Option ServiceDef). under o (λ d. is_none (first_overlap r.name d s.zones.items)) ≡ true) (sym (updated_agrees r.name).def) (apart_of r (put_cases (is_service row.name) row s.services.items r there))))
+      subst (λ (o : Option ServiceDef). under o (λ d. is_none (first_overlap r.name d s.zones.items)) ≡ true) (sym (updated_agrees r.name).def) (apart_of r (put_cases (is_service row.name) row s.services.items r there))))
       (λ p there. updated_agrees p.service) (λ r there. updated_agrees r.service)
       (λ z there. record { services = λ e e_there. updated_agrees e.service; tags = λ t t_there. updated_agrees t })
     where
@@ -282,7 +286,7 @@ module _ (s : State) (name : List ℕ) (valid : IsValid s) (h : first_failing (c
   deleted_agrees x other =
       let same = find_without (is_service x) (is_service name) (λ y is. other_name name x y.name other is) s.services.items in
       let on = λ (t : ServiceRow → Bool). among_on t s.services.items (without (is_service name) s.services.items) x (λ r there named its.
-        (r, Contains-filter (λ y. not (is_service name y)) s.services.items r there (ap not (ap (λ n. bytes_eq n name) ((bytes_eq-Decides r.name x).0 named) ∙ other)), named, its)) in record {
+      (r, Contains-filter (λ y. not (is_service name y)) s.services.items r there (ap not (ap (λ n. bytes_eq n name) ((bytes_eq-Decides r.name x).0 named) ∙ other)), named, its)) in record {
         def = ap (option_and_then (λ (r : ServiceRow). def_at s r.def)) same;
         tag = ap (has_def tag_name) same;
         plain = on (λ (r : ServiceRow). not (bytes_eq r.def tag_name));
@@ -298,7 +302,7 @@ module _ (s : State) (name : List ℕ) (valid : IsValid s) (h : first_failing (c
   unused =
       let last = not (list_any (λ (r : ServiceRow). bytes_eq r.tag_service name) s.services.items) in
       let a = and_parts (not (bytes_eq s.plugin name)) (not (list_any (is_of name) s.policies.items) && (not (list_any (is_row_of name) s.tag_rows.items) && (not (list_any (names_service name) s.zones.items) && last)))
-        (passed_at (command_rules s (DeleteService name)) h 1 (C5, service_is_unused s name) refl) in
+      (passed_at (command_rules s (DeleteService name)) h 1 (C5, service_is_unused s name) refl) in
       let b = and_parts (not (list_any (is_of name) s.policies.items)) (not (list_any (is_row_of name) s.tag_rows.items) && (not (list_any (names_service name) s.zones.items) && last)) a.1 in
       let c = and_parts (not (list_any (is_row_of name) s.tag_rows.items)) (not (list_any (names_service name) s.zones.items) && last) b.1 in
       let d = and_parts (not (list_any (names_service name) s.zones.items)) last c.1 in
@@ -308,14 +312,14 @@ module _ (s : State) (name : List ℕ) (valid : IsValid s) (h : first_failing (c
   zone_other z there = or_false (lists_service false name z) (lists_service true name z) (none_passes (names_service name) s.zones.items unused.zones z there)
 
   pub delete_service_kept : IsValid deleted
-  unfolding are_apart
+  unfolding are_apart are_apart_for
   delete_service_kept =
       valid_on s (listed (without (is_service name) s.services.items)) valid (services_stay s valid.services (DeleteService name) h)
       (distinct_filtered (λ (a b : ServiceRow). bytes_eq b.name a.name) (λ r. not (is_service name r)) s.services.items valid.service_names)
       (all_from (λ (r : ServiceRow). are_apart_for deleted s.zones.items r.name) (without (is_service name) s.services.items) (λ r there.
-        let f = Contains-filtered (λ y. not (is_service name y)) s.services.items r there in
-        subst (λ (o : Option ServiceDef). under o (λ d. is_none (first_overlap r.name d s.zones.items)) ≡ true) (sym (deleted_agrees r.name (not_true (is_service name r) f.1)).def)
-        (all_holds (λ (q : ServiceRow). are_apart_for s s.zones.items q.name) s.services.items valid.apart r f.0)))
+      let f = Contains-filtered (λ y. not (is_service name y)) s.services.items r there in
+      subst (λ (o : Option ServiceDef). under o (λ d. is_none (first_overlap r.name d s.zones.items)) ≡ true) (sym (deleted_agrees r.name (not_true (is_service name r) f.1)).def)
+      (all_holds (λ (q : ServiceRow). are_apart_for s s.zones.items q.name) s.services.items valid.apart r f.0)))
       (λ p there. deleted_agrees p.service (none_passes (is_of name) s.policies.items unused.policies p there))
       (λ r there. deleted_agrees r.service (none_passes (is_row_of name) s.tag_rows.items unused.rows r there))
       (λ z there. record {

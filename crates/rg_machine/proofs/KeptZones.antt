@@ -45,11 +45,11 @@ zone_fits_put s z h p there fits =
     case (λ b. (b || list_any (is_zone_of tag p.service p.zone) s.zones.items) ≡ true → (b || list_any (is_zone_of tag p.service p.zone) (put (is_zone z.name) z s.zones.items)) ≡ true) (is_empty p.zone)
     (λ _ _. refl)
     (λ _ some. any_put (is_zone_of tag p.service p.zone) (is_zone z.name) z (λ y same its.
-      let y_is = (bytes_eq-Decides y.name z.name).0 same in
-      let zone_is = (bytes_eq-Decides y.name p.zone).0 (and_parts (bytes_eq y.name p.zone) _ its).0 in
-      let own : bytes_eq z.name p.zone ≡ true = (bytes_eq-Decides z.name p.zone).1 (sym y_is ∙ zone_is) in
-      let named : bytes_eq p.zone z.name ≡ true = (bytes_eq-Decides p.zone z.name).1 (sym zone_is ∙ y_is) in
-      and_from (bytes_eq z.name p.zone) (lists_service tag p.service z) own (sym (ap (λ b. not b || lists_service tag p.service z) named) ∙ keeps)) s.zones.items some)
+    let y_is = (bytes_eq-Decides y.name z.name).0 same in
+    let zone_is = (bytes_eq-Decides y.name p.zone).0 (and_parts (bytes_eq y.name p.zone) _ its).0 in
+    let own : bytes_eq z.name p.zone ≡ true = (bytes_eq-Decides z.name p.zone).1 (sym y_is ∙ zone_is) in
+    let named : bytes_eq p.zone z.name ≡ true = (bytes_eq-Decides p.zone z.name).1 (sym zone_is ∙ y_is) in
+    and_from (bytes_eq z.name p.zone) (lists_service tag p.service z) own (sym (ap (λ b. not b || lists_service tag p.service z) named) ∙ keeps)) s.zones.items some)
     fits
 
 -- and after one was taken away
@@ -62,16 +62,16 @@ zone_fits_left s name h p there fits =
     case (λ b. (b || list_any (is_zone_of tag p.service p.zone) s.zones.items) ≡ true → (b || list_any (is_zone_of tag p.service p.zone) (without (is_zone name) s.zones.items)) ≡ true) (is_empty p.zone)
     (λ _ _. refl)
     (λ _ some.
-      let y = any_holds (is_zone_of tag p.service p.zone) s.zones.items some in
-      let same = (bytes_eq-Decides y.0.name p.zone).0 (and_parts (bytes_eq y.0.name p.zone) _ y.2).0 in
-      any_from (is_zone_of tag p.service p.zone) (without (is_zone name) s.zones.items) y.0
-      (Contains-filter (λ z. not (is_zone name z)) s.zones.items y.0 y.1 (ap not (ap (λ n. bytes_eq n name) same ∙ other))) y.2)
+    let y = any_holds (is_zone_of tag p.service p.zone) s.zones.items some in
+    let same = (bytes_eq-Decides y.0.name p.zone).0 (and_parts (bytes_eq y.0.name p.zone) _ y.2).0 in
+    any_from (is_zone_of tag p.service p.zone) (without (is_zone name) s.zones.items) y.0
+    (Contains-filter (λ z. not (is_zone name z)) s.zones.items y.0 y.1 (ap not (ap (λ n. bytes_eq n name) same ∙ other))) y.2)
     fits
 
 -- fewer zones are apart
 pub apart_left : ((service : List ℕ) (def : ServiceDef) (zones : List ZoneRow) → is_none (first_overlap service def zones) ≡ all_distinct (zones_overlap service def) zones)
     → (s : State) (p : ZoneRow → Bool) → are_apart s s.zones.items ≡ true → are_apart s (filter p s.zones.items) ≡ true
-unfolding are_apart
+unfolding are_apart are_apart_for
 apart_left by_pairs s p h = all_weaker (λ (row : ServiceRow). are_apart_for s s.zones.items row.name) (λ (row : ServiceRow). are_apart_for s (filter p s.zones.items) row.name) s.services.items
     (λ row _ its. under_on (def_of s row.name) (λ d. is_none (first_overlap row.name d s.zones.items)) (λ d. is_none (first_overlap row.name d (filter p s.zones.items)))
     (λ d _ none. by_pairs row.name d (filter p s.zones.items) ∙ distinct_filtered (zones_overlap row.name d) p s.zones.items (sym (by_pairs row.name d s.zones.items) ∙ none)) its) h

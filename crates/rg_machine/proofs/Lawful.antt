@@ -176,9 +176,9 @@ stays_where : (a : Administration) (service : List ℕ) (e : Entry Ask AdminRepl
 stays_where a service e legal none accepts =
     case (λ b. deletes e.ask.command service ≡ b → b ≡ false) (deletes e.ask.command service)
     (λ _ is.
-        let reply : reply_to a e.ask.actor e.ask.command ≡ e.reply = sym (ap (λ (r : Option Rule). (step_by r a e.ask).1) accepts) ∙ legal in
-        let done : is_done e.reply ≡ true = ap is_done (sym reply) ∙ reply_done a e.ask.actor service e.ask.command is in
-        sym (and_from (deletes e.ask.command service) (is_done e.reply) is done) ∙ none)
+    let reply : reply_to a e.ask.actor e.ask.command ≡ e.reply = sym (ap (λ (r : Option Rule). (step_by r a e.ask).1) accepts) ∙ legal in
+    let done : is_done e.reply ≡ true = ap is_done (sym reply) ∙ reply_done a e.ask.actor service e.ask.command is in
+    sym (and_from (deletes e.ask.command service) (is_done e.reply) is done) ∙ none)
     (λ _ _. refl) refl
 
 pub stays_of : (start : Administration) (h : List (Entry Ask AdminReply)) → IsLegal step start h → (j k : ℕ) (service : List ℕ) → IsNotDeleted h j k service → StaysBetween start h j k service
@@ -279,14 +279,14 @@ seq_is a service from d h = go (log_at a.logs service) (view a service) h
     go (Some l) None is = absurd (none-some d is)
     go (Some l) (Some f) is = ap (λ (x : Download). x.seq) (sym (same_Some _ d is))
 
--- the plugin always has a view
-pub plugin_viewed : (a : Administration) → IsOrderly a → (f : Facts) × (view a a.state.plugin ≡ Some f)
-plugin_viewed a o =
-    let row = find_some (is_service a.state.plugin) a.state.services.items o.state.plugin in
-    let found = find_contained (is_service a.state.plugin) a.state.services.items row.0 row.1 in
-    let def = def_there a.state o.state.services a.state.plugin o.state.plugin in
-    let log = find_some (is_log_of a.state.plugin) a.logs (subst (λ n. list_any (is_log_of n) a.logs ≡ true) ((bytes_eq-Decides row.0.name a.state.plugin).0 found.1) (all_holds (has_log a.logs) a.state.services.items o.logged row.0 found.0)) in
-    (facts_of a.state.plugin a.state log.0 row.0 def.0, λ i. facts_with a.state.plugin a.state (log.1 i) (row.1 i) (def.1 i))
+-- a service has a view
+pub service_viewed : (a : Administration) → IsOrderly a → (service : List ℕ) → list_any (is_service service) a.state.services.items ≡ true → (f : Facts) × (view a service ≡ Some f)
+service_viewed a o service there =
+    let row = find_some (is_service service) a.state.services.items there in
+    let found = find_contained (is_service service) a.state.services.items row.0 row.1 in
+    let def = def_there a.state o.state.services service there in
+    let log = find_some (is_log_of service) a.logs (subst (λ n. list_any (is_log_of n) a.logs ≡ true) ((bytes_eq-Decides row.0.name service).0 found.1) (all_holds (has_log a.logs) a.state.services.items o.logged row.0 found.0)) in
+    (facts_of service a.state log.0 row.0 def.0, λ i. facts_with service a.state (log.1 i) (row.1 i) (def.1 i))
 
 same_version : (v w : Version) → eqb v.0 w.0 ≡ true → v ≡ w
 same_version v w h = λ i. record { 0 = eqb-true v.0 w.0 h i }
@@ -302,7 +302,7 @@ module _ (plugin : List ℕ) (s : Administration) (h : List (Entry Ask AdminRepl
   plugin_view : (k : ℕ) → (f : Facts) × (view (state_at step s h k) plugin ≡ Some f)
   plugin_view k =
       let o = at_orderly s h start.0 k in
-      let v = plugin_viewed (state_at step s h k) o in
+      let v = service_viewed (state_at step s h k) o (state_at step s h k).state.plugin o.state.plugin in
       (v.0, subst (λ p. view (state_at step s h k) p ≡ Some v.0) (plugin_after s (take k h) ∙ start.1) v.1)
 
   count_at : (k : ℕ) → k ≤ length h → (state_at step s h k).state.count ≡ min k (2 ^ 62)
@@ -353,7 +353,7 @@ laws plugin = record {
       elim (cases_lt (weight (versions f)) (weight (versions g))) [
         | inl lt ↦ lt
         | inr le ↦ absurd (false≢true (sym changed ∙ nothing_changed (state_at step s h k) plugin f g d last (document_of_step (state_at step s h k) plugin (versions f) d is)
-          (omega (arith, le, less.policies, less.tags, less.roles)) (omega (arith, le, less.policies, less.tags, less.roles)) (omega (arith, le, less.policies, less.tags, less.roles))))
+            (omega (arith, le, less.policies, less.tags, less.roles)) (omega (arith, le, less.policies, less.tags, less.roles)) (omega (arith, le, less.policies, less.tags, less.roles))))
       ];
   rises = λ s h start legal j k from low f g first last.
       let less = no_less (state_at step s h j) plugin (state_at step s h k) f g (led_plugin plugin s h start j k from low f first) last in

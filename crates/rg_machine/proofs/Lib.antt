@@ -1,5 +1,6 @@
 pub mod Books
 pub mod Downloading
+pub mod Further
 pub mod Happening
 pub mod Histories
 pub mod Ids
@@ -8,6 +9,7 @@ pub mod KeptDefs
 pub mod KeptPolicies
 pub mod KeptRoles
 pub mod KeptServices
+pub mod KeptSingle
 pub mod KeptZones
 pub mod Lawful
 pub mod Lists

@@ -284,8 +284,8 @@ at_most_one same p shared (x ∷ xs) h =
     let both = and_parts (not (list_any (same x) xs)) (all_distinct same xs) h in
     case (λ b. p x ≡ b → length (cond b (x ∷ filter p xs) (filter p xs)) ≤ 1) (p x)
     (λ _ is.
-        let none = none_left p xs (λ y there. case (λ b. p y ≡ b → b ≡ false) (p y)
-        (λ _ its. absurd (false≢true (sym (none_passes (same x) xs (not_true (list_any (same x) xs) both.0) y there) ∙ shared x y is its))) (λ _ _. refl) refl) in omega (arith, none))
+    let none = none_left p xs (λ y there. case (λ b. p y ≡ b → b ≡ false) (p y)
+    (λ _ its. absurd (false≢true (sym (none_passes (same x) xs (not_true (list_any (same x) xs) both.0) y there) ∙ shared x y is its))) (λ _ _. refl) refl) in omega (arith, none))
     (λ _ _. at_most_one same p shared xs both.1) refl
 
 -- the new one is found in the place of the first that is the same

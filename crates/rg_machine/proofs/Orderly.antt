@@ -149,10 +149,10 @@ services_stay s valid (DeleteService name) h =
     let later = after_command s (DeleteService name) in
     let none = not_tag_service s name h in
     all_from (service_valid later) (without (is_service name) s.services.items) (λ r there.
-        let f = Contains-filtered (λ y. not (is_service name y)) s.services.items r there in
-        let apart = none_passes (λ (q : ServiceRow). bytes_eq q.tag_service name) s.services.items none r f.0 in
-        service_on s later r (λ d. d) (λ tag. ap (has_def tag_name) (find_without (is_service r.tag_service) (is_service name) (λ y is. other_name name r.tag_service y.name apart is) s.services.items) ∙ tag)
-        (all_holds (service_valid s) s.services.items valid r f.0))
+    let f = Contains-filtered (λ y. not (is_service name y)) s.services.items r there in
+    let apart = none_passes (λ (q : ServiceRow). bytes_eq q.tag_service name) s.services.items none r f.0 in
+    service_on s later r (λ d. d) (λ tag. ap (has_def tag_name) (find_without (is_service r.tag_service) (is_service name) (λ y is. other_name name r.tag_service y.name apart is) s.services.items) ∙ tag)
+    (all_holds (service_valid s) s.services.items valid r f.0))
 services_stay s valid c h = valid
 
 -- a service that is there has a definition
@@ -353,9 +353,9 @@ logged_more s (UpdateService row) logs h rules =
     (subst (λ n. list_any (is_log_of n) (map (touched_log s (UpdateService row)) logs) ≡ true) ((bytes_eq-Decides old.0.name row.name).0 old.2) (all_holds new s.services.items kept old.0 old.1))
 logged_more s (DeleteService name) logs h rules =
     filter_all (λ row. not (is_service name row)) (has_log logs) (has_log (without (is_log_of name) logs)) (λ row stays its.
-        let l = any_holds (is_log_of row.name) logs its in
-        any_from (is_log_of row.name) (without (is_log_of name) logs) l.0
-        (Contains-filter (λ log. not (is_log_of name log)) logs l.0 l.1 (ap (λ n. not (bytes_eq n name)) ((bytes_eq-Decides l.0.service row.name).0 l.2) ∙ stays)) l.2) s.services.items h
+    let l = any_holds (is_log_of row.name) logs its in
+    any_from (is_log_of row.name) (without (is_log_of name) logs) l.0
+    (Contains-filter (λ log. not (is_log_of name log)) logs l.0 l.1 (ap (λ n. not (bytes_eq n name)) ((bytes_eq-Decides l.0.service row.name).0 l.2) ∙ stays)) l.2) s.services.items h
 logged_more s c logs h rules = same_logged s c logs s.services.items h
 
 -- ---- the administration

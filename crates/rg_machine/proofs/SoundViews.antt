@@ -116,12 +116,12 @@ only_row s valid service row other found there is =
 listed_plain : (s : State) → IsValid s → (service : List ℕ) → is_among service (plain_services s) ≡ true → is_tag_service s service ≡ false
 listed_plain s valid service h = case (λ b. is_tag_service s service ≡ b → b ≡ false) (is_tag_service s service)
     (λ _ is.
-        let rows = filter (λ (row : ServiceRow). not (bytes_eq row.def tag_name)) s.services.items in
-        let r = any_holds (λ (row : ServiceRow). bytes_eq row.name service) rows (sym (among_mapped (λ (row : ServiceRow). row.name) service rows) ∙ h) in
-        let f = Contains-filtered (λ (row : ServiceRow). not (bytes_eq row.def tag_name)) s.services.items r.0 r.1 in
-        let q = has_row (service_at s service) tag_name is in
-        let same = only_row s valid service q.0 r.0 q.1 f.0 r.2 in
-        absurd (false≢true (sym (not_true (bytes_eq r.0.def tag_name) f.1) ∙ ap (λ (row : ServiceRow). bytes_eq row.def tag_name) same ∙ sym (ap (has_def tag_name) q.1) ∙ is)))
+    let rows = filter (λ (row : ServiceRow). not (bytes_eq row.def tag_name)) s.services.items in
+    let r = any_holds (λ (row : ServiceRow). bytes_eq row.name service) rows (sym (among_mapped (λ (row : ServiceRow). row.name) service rows) ∙ h) in
+    let f = Contains-filtered (λ (row : ServiceRow). not (bytes_eq row.def tag_name)) s.services.items r.0 r.1 in
+    let q = has_row (service_at s service) tag_name is in
+    let same = only_row s valid service q.0 r.0 q.1 f.0 r.2 in
+    absurd (false≢true (sym (not_true (bytes_eq r.0.def tag_name) f.1) ∙ ap (λ (row : ServiceRow). bytes_eq row.def tag_name) same ∙ sym (ap (has_def tag_name) q.1) ∙ is)))
     (λ _ _. refl) refl
 
 listed_tag : (s : State) → IsValid s → (service : List ℕ) → is_among service (tag_services s) ≡ true → is_tag_service s service ≡ true
@@ -295,7 +295,7 @@ module _ (s : State) (valid : IsValid s) (given : list_all (is_given s) s.polici
           (λ _ same. subst (λ (o : Option ServiceDef). under o (λ d. entry_levels_fit d e) ≡ true) (ap (def_of s) ((bytes_eq-Decides e.service service).0 same) ∙ def_is) h) (λ _ _. refl) refl
 
   overlaps : is_none (first_overlap service def s.zones.items) ≡ true
-  unfolding are_apart
+  unfolding are_apart are_apart_for
   overlaps =
       let found = find_contained (is_service service) s.services.items row row_is in
       let own = all_holds (λ (r : ServiceRow). are_apart_for s s.zones.items r.name) s.services.items valid.apart row found.0 in

@@ -1,8 +1,11 @@
 -- What the laws say of an administration's history.
-use Rattle.std.specs.Prelude.{◌≡◌, ℕ, ◌≤◌, ◌<◌, ◌&&◌, Bool, true, false, List, Some, slice_get}
+use Rattle.std.specs.Prelude.{◌≡◌, ℕ, ◌≤◌, ◌<◌, ◌&&◌, Bool, true, false, List, Option, Some, None, slice_get}
+use Rattle.rg_base.specs.declared.numbers.PolicyId.{PolicyId}
 use Rattle.rg_turn.specs.declared.rule.Entry.{Entry}
+use Rattle.rg_cmd.specs.declared.ask.AdminCommand.{AdminCommand}
+use Rattle.rg_cmd.specs.declared.ask.AdminCommand.TheVariants.{CreatePolicy}
 use Rattle.rg_cmd.specs.declared.ask.AdminReply.{AdminReply}
-use Rattle.rg_cmd.specs.declared.ask.AdminReply.TheVariants.{Done}
+use Rattle.rg_cmd.specs.declared.ask.AdminReply.TheVariants.{Done, Kept, Refused}
 use Rattle.rg_cmd.specs.declared.ask.Ask.{Ask}
 use Rattle.rg_facts.specs.declared.facts.Facts.{Facts}
 use Rattle.rg_machine.specs.Downloads.{From}
@@ -29,3 +32,14 @@ pub record AreNoLess (before after : Facts) : Type 0 where
   pub policies : before.policy_version.0 ≤ after.policy_version.0
   pub tags : before.tag_version.0 ≤ after.tag_version.0
   pub roles : before.role_version.0 ≤ after.role_version.0
+
+-- the reply refuses the ask
+abbrev pub is_refused : AdminReply → Bool
+is_refused (Refused rule) = true
+is_refused reply = false
+
+-- the id that a created policy was given
+abbrev pub gave_id : AdminCommand → AdminReply → Option PolicyId
+gave_id (CreatePolicy p) (Kept id version) = Some id
+gave_id (CreatePolicy p) reply = None
+gave_id command reply = None

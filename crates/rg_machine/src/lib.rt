@@ -3,4 +3,8 @@
 
 mod laws;
 
-pub use laws::{downloads_lead, plugin_is_always_viewed, versions_never_fall, world};
+pub use laws::{
+    created_policy_may_go, downloads_lead, ids_are_given_once, plugin_is_always_viewed,
+    refusals_are_exact, states_are_kept, unchanged_from_present_versions, versions_never_fall,
+    views_are_sound, world,
+};
