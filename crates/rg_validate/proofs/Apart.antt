@@ -122,21 +122,20 @@ module _ (s : State) (name : List ℕ) (def : ServiceDef) (there : def_of s name
       ]))
       (all_from (λ (e : ZoneService). not (is_for name e) || entry_values_fit e) zone.services.items (λ e c. or_right (not (is_for name e)) (entry_values_fit e) (all_holds entry_values_fit zone.services.items values e c)))
 
-  module _ (valid : IsValid s) where
-    pub all_maps_fit_at : all_maps_fit name def s.zones.items ≡ true
-    all_maps_fit_at = all_from (maps_fit name def) s.zones.items (λ z c.
-        let a = and_parts (zone_services_fit s z) (zone_levels_suit s z && (zone_values_suit z && zone_subjects_exist s z)) (all_holds (zone_valid s) s.zones.items valid.zones z c) in
-        let b = and_parts (zone_levels_suit s z) (zone_values_suit z && zone_subjects_exist s z) a.1 in
-        maps_fit_at z b.0 (and_parts (zone_values_suit z) (zone_subjects_exist s z) b.1).0)
+  pub all_maps_fit_at : list_all (zone_valid s) s.zones.items ≡ true → all_maps_fit name def s.zones.items ≡ true
+  all_maps_fit_at zones = all_from (maps_fit name def) s.zones.items (λ z c.
+      let a = and_parts (zone_services_fit s z) (zone_levels_suit s z && (zone_values_suit z && zone_subjects_exist s z)) (all_holds (zone_valid s) s.zones.items zones z c) in
+      let b = and_parts (zone_levels_suit s z) (zone_values_suit z && zone_subjects_exist s z) a.1 in
+      maps_fit_at z b.0 (and_parts (zone_values_suit z) (zone_subjects_exist s z) b.1).0)
 
-    pub apart_at : is_none (first_overlap name def s.zones.items) ≡ true
-    unfolding are_apart are_apart_for
-    apart_at =
-        let r = row_of s name def there in
-        let found = find_contained (is_service name) s.services.items r.0 r.1 in
-        let same : r.0.name ≡ name = (bytes_eq-Decides r.0.name name).0 found.1 in
-        let at = all_holds (λ (row : ServiceRow). are_apart_for s s.zones.items row.name) s.services.items valid.apart r.0 found.0 in
-        ap (λ o. under o (λ d. is_none (first_overlap name d s.zones.items))) (sym there) ∙ subst (λ n. are_apart_for s s.zones.items n ≡ true) same at
+  pub apart_at : IsValid s → is_none (first_overlap name def s.zones.items) ≡ true
+  unfolding are_apart are_apart_for
+  apart_at valid =
+      let r = row_of s name def there in
+      let found = find_contained (is_service name) s.services.items r.0 r.1 in
+      let same : r.0.name ≡ name = (bytes_eq-Decides r.0.name name).0 found.1 in
+      let at = all_holds (λ (row : ServiceRow). are_apart_for s s.zones.items row.name) s.services.items valid.apart r.0 found.0 in
+      ap (λ o. under o (λ d. is_none (first_overlap name d s.zones.items))) (sym there) ∙ subst (λ n. are_apart_for s s.zones.items n ≡ true) same at
 
 -- what is asked of the service under its definition
 pub apart_under : (s : State) (zones : List ZoneRow) (name : List ℕ) (def : ServiceDef) → def_of s name ≡ Some def → are_apart_for s zones name ≡ is_none (first_overlap name def zones)

@@ -77,6 +77,15 @@ pub record IsValid (s : State) : Type 0 where
   pub policy_ids : all_distinct (λ (p q : Policy). int_eq p.id.0 q.id.0) s.policies.items ≡ true
   pub tag_row_ids : all_distinct (λ (a b : TagRow). int_eq a.id b.id) s.tag_rows.items ≡ true
 
+-- the last six of these clauses
+abbrev pub are_distinct : State → Bool
+are_distinct s = all_distinct (λ (a b : ServiceDef). bytes_eq b.name a.name) s.defs.items
+    && (all_distinct (λ (a b : ServiceRow). bytes_eq b.name a.name) s.services.items
+    && (all_distinct (λ (a b : ZoneRow). bytes_eq b.name a.name) s.zones.items
+    && (all_distinct (λ (a b : UserRow). bytes_eq b.name a.name) s.users.items
+    && (all_distinct (λ (p q : Policy). int_eq p.id.0 q.id.0) s.policies.items
+    && all_distinct (λ (a b : TagRow). int_eq a.id b.id) s.tag_rows.items))))
+
 -- V13 of the policy as it stands
 abbrev pub policy_is_single : State → Policy → Bool
 policy_is_single s p = has_no_twin s (Some p.id) p

@@ -34,7 +34,7 @@ pub(crate) fn names_with(alloc: Global, state: &State, def: &str) -> Result<Vec<
 }
 
 /// Whether the policy passes V3, V5 to V9 and V11 under the definition.
-fn policy_suits(def: &ServiceDef, paths: &Paths, policy: &Policy) -> bool
+pub(crate) fn policy_suits(def: &ServiceDef, paths: &Paths, policy: &Policy) -> bool
     requires { paths.now ≡ def.now.levels.items }
     ensures { result ≡ policy_suits def.now policy.now }
 {

@@ -1,17 +1,21 @@
 // The rules by which a command of the administration is accepted or refused.
 #![tactic(auto)]
 
+mod commands;
 mod definitions;
 mod existence;
 mod lookups;
 mod policies;
 mod roles;
+mod rules;
 mod services;
 mod tags;
 mod twins;
 mod users;
+mod valid;
 mod zones;
 
+pub use commands::command_fault;
 pub use definitions::definition_suits;
 pub use existence::{
     definition_exists, policy_exists, role_exists, service_exists, tag_row_exists, user_exists,
@@ -22,12 +26,17 @@ pub use policies::{
     policy_subjects_fit,
 };
 pub use roles::role_is_unused;
+pub use rules::first_fault;
 pub use services::{
     keeps_definition, plugin_fits, service_is_unused, service_name_is_new, tag_service_fits,
 };
 pub use tags::{row_id_fits, tagged_resources_fit, tagged_service_fits};
 pub use users::{time_zones_read, user_fits};
+pub use valid::is_valid;
 pub use zones::{
     zone_is_apart, zone_is_unused, zone_keeps_policies, zone_levels_suit, zone_services_fit,
     zone_subjects_exist, zone_values_suit,
 };
+
+#[cfg(test)]
+mod tests;

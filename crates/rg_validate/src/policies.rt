@@ -1,5 +1,5 @@
 // The rules of policies that look at the state.
-ghost use Rattle.std.specs.Prelude.{◌≡◌, ◌&&◌, IfOk, None, option_map};
+ghost use Rattle.std.specs.Prelude.{◌≡◌, ◌&&◌, IfOk, None, option_map, true};
 ghost use Rattle.std.specs.List.{list_any};
 ghost use Rattle.rg_cond.specs.PolicyRules.{schedules_read};
 ghost use Rattle.rg_defs.specs.Rules.{def_fault};
@@ -9,6 +9,7 @@ ghost use Rattle.rg_validate.specs.Failing.{first_failing};
 ghost use Rattle.rg_validate.specs.Policies.{has_no_twin, is_namesake, is_other, old_form, policy_name_is_new, policy_place_fits, policy_rules, policy_subjects_fit, stays_in, zone_fits};
 ghost use Rattle.rg_validate.specs.Steps.{form_rules, name_rules, setting_rules};
 ghost use Rattle.rg_validate.specs.Twins.{is_twin};
+ghost use Rattle.rg_validate.specs.Users.{time_zones_read};
 ghost use Rattle.rg_validate.specs.Valid.{IsValid};
 
 use crate::existence::has_id;
@@ -74,7 +75,7 @@ pub fn policy_schedules_read(
     state: &State,
     policy: &Policy,
 ) -> Result<bool, NoMemory>
-    requires valid { IsValid state.now }
+    requires zones { time_zones_read state.now ≡ true }
     ensures { IfOk result (λ read. read ≡ schedules_read state.now.time_zones.items policy.now) }
 {
     if policy.schedules.is_empty() {
@@ -148,7 +149,8 @@ fn stays_in(old: Option<&Policy>, policy: &Policy) -> bool
     }
 }
 
-fn zone_fits(state: &State, policy: &Policy) -> bool
+/// V14 but for what an update keeps.
+pub(crate) fn zone_fits(state: &State, policy: &Policy) -> bool
     ensures { result ≡ zone_fits state.now policy.now }
 {
     policy_zone_fits(

@@ -1,8 +1,9 @@
 // The rules of tag rows.
-ghost use Rattle.std.specs.Prelude.{◌≡◌, IfOk, option_map};
+ghost use Rattle.std.specs.Prelude.{◌≡◌, IfOk, option_map, true};
+ghost use Rattle.std.specs.List.{list_all};
 ghost use Rattle.rg_cmd.specs.Lookups.{tag_row_at};
 ghost use Rattle.rg_validate.specs.Tags.{row_id_fits, row_stays_in, tagged_resources_fit, tagged_service_fits};
-ghost use Rattle.rg_validate.specs.Valid.{IsValid};
+ghost use Rattle.rg_validate.specs.Valid.{definition_valid};
 
 use crate::existence::has_row_id;
 use crate::lookups::{def_of, is_tag_service};
@@ -23,7 +24,7 @@ pub fn tagged_service_fits(state: &State, row: &TagRow) -> bool
 /// Whether the resources have distinct levels on one path, values that are patterns, and no `{USER}` (rule G2).
 #[tactic(auto, using(crate::proofs::ValidParts::lawful_at))]
 pub fn tagged_resources_fit(alloc: Global, state: &State, row: &TagRow) -> Result<bool, NoMemory>
-    requires valid { IsValid state.now }
+    requires lawful { list_all definition_valid state.now.defs.items ≡ true }
     ensures { IfOk result (λ fit. fit ≡ tagged_resources_fit state.now row.now) }
 {
     let Some(def) = def_of(state, &row.service) else {

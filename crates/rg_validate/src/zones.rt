@@ -11,7 +11,7 @@ ghost use Rattle.rg_zones.specs.declared.row.ZoneRow.{ZoneRow};
 ghost use Rattle.rg_cmd.specs.Lists.{put};
 ghost use Rattle.rg_cmd.specs.Lookups.{def_of, is_zone};
 ghost use Rattle.rg_validate.specs.Definitions.{under};
-ghost use Rattle.rg_validate.specs.Valid.{IsValid};
+ghost use Rattle.rg_validate.specs.Valid.{IsValid, definition_valid};
 ghost use Rattle.rg_validate.specs.Zones.{are_apart_for, plain_services, tag_services, zone_is_apart, zone_is_unused, zone_keeps, zone_keeps_policies, zone_levels_suit, zone_services_fit, zone_subjects_exist, zone_values_suit, zones_with};
 
 use crate::definitions::names_with;
@@ -68,7 +68,7 @@ pub fn zone_services_fit(alloc: Global, state: &State, zone: &ZoneRow) -> Result
 
 #[tactic(auto, using(crate::proofs::ValidParts::lawful_at))]
 fn entry_levels_suit(alloc: Global, state: &State, entry: &ZoneService) -> Result<bool, NoMemory>
-    requires valid { IsValid state.now }
+    requires lawful { list_all definition_valid state.now.defs.items ≡ true }
     ensures { IfOk result (λ suit. suit ≡ under (def_of state.now entry.now.service) (λ def. entry_levels_fit def entry.now)) }
 {
     let Some(def) = def_of(state, &entry.service) else {
@@ -81,7 +81,7 @@ fn entry_levels_suit(alloc: Global, state: &State, entry: &ZoneService) -> Resul
 /// Whether each service has a resource map, and the levels of each map are distinct ones of its definition on one path
 /// (rule Z3).
 pub fn zone_levels_suit(alloc: Global, state: &State, zone: &ZoneRow) -> Result<bool, NoMemory>
-    requires valid { IsValid state.now }
+    requires lawful { list_all definition_valid state.now.defs.items ≡ true }
     ensures { IfOk result (λ suit. suit ≡ zone_levels_suit state.now zone.now) }
 {
     for entry in zone.services.as_slice() {

@@ -23,7 +23,7 @@ returns-then-not-lists_service c =
 pub stays_apart-requires-clause-lawful : goal.stays_apart-requires-clause-lawful
 stays_apart-requires-clause-lawful c =
     let there : def_of c.args.state.now c.args.service.now ≡ Some c.in-Some.def.now = search rules in
-    lawful_at c.args.state.now c.args.service.now c.requires.valid c.in-Some.def.now there
+    lawful_at c.args.state.now c.args.service.now c.requires.valid.definitions c.in-Some.def.now there
 
 pub stays_apart-requires-clause-fit : goal.stays_apart-requires-clause-fit
 stays_apart-requires-clause-fit c =
@@ -33,7 +33,7 @@ stays_apart-requires-clause-fit c =
 pub stays_apart-requires-clause-all_fit : goal.stays_apart-requires-clause-all_fit
 stays_apart-requires-clause-all_fit c =
     let there : def_of c.args.state.now c.args.service.now ≡ Some c.in-Some.def.now = search rules in
-    ap (all_maps_fit c.args.service.now c.in-Some.def.now) c.as_slice.ensures ∙ all_maps_fit_at c.args.state.now c.args.service.now c.in-Some.def.now there c.requires.valid
+    ap (all_maps_fit c.args.service.now c.in-Some.def.now) c.as_slice.ensures ∙ all_maps_fit_at c.args.state.now c.args.service.now c.in-Some.def.now there c.requires.valid.zones
 
 pub stays_apart-requires-clause-apart : goal.stays_apart-requires-clause-apart
 stays_apart-requires-clause-apart c =
