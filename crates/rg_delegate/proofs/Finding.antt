@@ -1,12 +1,13 @@
 -- The items that were found grant an access exactly where it is delegated.
-use Rattle.std.proofs.Common.{◌≡◌, ◌&&◌, ◌||◌, ℕ, Bool, true, false, cond, if◌then◌else◌, List, [], ◌∷◌, map, filter, Option, Some, None, option_and_then, Contains, refl, sym, ap, ◌∙◌, subst}
-use Rattle.std.proofs.lemmas.Bool.{and_parts, and_from, and_right, false≢true}
+use Rattle.std.proofs.Common.{◌<◌, ◌+◌, append-nil, get_or, length, take, ◌≡◌, ◌&&◌, ◌||◌, ℕ, Bool, true, false, cond, if◌then◌else◌, List, [], ◌∷◌, ◌++◌, map, filter, Option, Some, None, option_and_then, Contains, refl, sym, ap, ◌∙◌, subst}
+use Rattle.std.proofs.lemmas.Bool.{and_parts, and_from, and_right, false_from_ne_true, false≢true}
 use Rattle.std.proofs.lemmas.Option.{none-some}
 use Rattle.std.specs.Prelude.{ℤ}
 use Rattle.std.proofs.lemmas.Slice.Eq.{bytes_eq-Decides}
 use Rattle.std.specs.List.{list_all, list_any}
 use Rattle.std.specs.Ordering.{int_eq}
 use Rattle.std.specs.Str.{bytes_eq}
+use Rattle.std.proofs.lemmas.Grind.{flat_map-append}
 use Rattle.rg_base.proofs.Lists.{Contains-filter, Contains-filtered, Contains-flat_map, Contains-flat_mapped, Contains-none, any_from, any_holds, find_contained, list_any-map}
 use Rattle.rg_cmd.specs.declared.state.ServiceRow.{ServiceRow}
 use Rattle.rg_cmd.specs.declared.state.State.{State}
@@ -19,9 +20,10 @@ use Rattle.rg_policy.specs.Kinds.{access_policy}
 use Rattle.rg_delegate.specs.Accesses.{accesses}
 use Rattle.rg_delegate.specs.Authority.{Known, delegates, delegates_to, is_delegated, may_delegate, named}
 use Rattle.rg_delegate.specs.Covering.{policy_covers}
-use Rattle.rg_delegate.specs.Found.{Asking, FitsWhere, delegates_some, is_wanted, items_in, items_of}
-use Rattle.rg_delegate.specs.Lookups.{def_at, def_of, policy_at, service_at}
+use Rattle.rg_delegate.specs.Found.{Asking, FitsWhere, candidates, delegates_anything, delegates_some, is_candidate, is_wanted, items_in, items_of}
+use Rattle.rg_cmd.specs.Lookups.{def_at, def_of, policy_at, service_at}
 use Rattle.rg_delegate.specs.Ready.{Fits, IsReady}
+use Rattle.rg_delegate.proofs.Fitting.{map_next}
 use Rattle.rg_delegate.proofs.Members.{agree_all, both_ways}
 
 -- ---- one access
@@ -92,6 +94,31 @@ pub none_covered : (a : Asking) (k : Known) (q : Policy) → policy_covers a.def
 none_covered a k q h =
     ap (λ b. if b then filter (delegates_some a k) q.items.items else []) (and_right (may_delegate a.policy q) (policy_covers a.def q a.policy) h)
 
+-- a policy that is no candidate gives no item
+none_of_others : (a : Asking) (k : Known) (q : Policy) → is_candidate a.policy.service k q ≡ false → items_of a k q ≡ []
+none_of_others a k q h = at (may_delegate a.policy q && policy_covers a.def q a.policy) refl where
+  at : (b : Bool) → (may_delegate a.policy q && policy_covers a.def q a.policy) ≡ b → (if b then filter (delegates_some a k) q.items.items else []) ≡ []
+  at false e = refl
+  at true e = none_pass (delegates_some a k) q.items.items (false_from_ne_true (list_any (delegates_some a k) q.items.items) (λ some.
+      let may = (and_parts (may_delegate a.policy q) (policy_covers a.def q a.policy) e).0 in
+      let one = and_parts q.enabled (int_eq q.policy_type access_policy && (bytes_eq q.service a.policy.service && bytes_eq q.zone a.policy.zone)) may in
+      let two = and_parts (int_eq q.policy_type access_policy) (bytes_eq q.service a.policy.service && bytes_eq q.zone a.policy.zone) one.1 in
+      let three = and_parts (bytes_eq q.service a.policy.service) (bytes_eq q.zone a.policy.zone) two.1 in
+      let i = any_holds (delegates_some a k) q.items.items some in
+      let four = and_parts i.0.delegate (is_wanted a i.0.accesses.items && named k (delegates k.name i.0)) i.2 in
+      let five = and_parts (is_wanted a i.0.accesses.items) (named k (delegates k.name i.0)) four.1 in
+      false≢true (sym h ∙ and_from _ _ one.0 (and_from _ _ two.0 (and_from _ _ three.0
+      (any_from (delegates_anything k) q.items.items i.0 i.1 (and_from _ _ four.0 five.1)))))))
+
+-- so the candidates suffice
+pub candidates_suffice : (a : Asking) (k : Known) (policies : List Policy) → items_in a k (candidates a.policy.service k policies) ≡ items_in a k policies
+candidates_suffice a k [] = refl
+candidates_suffice a k (q ∷ policies) = at (is_candidate a.policy.service k q) refl (candidates_suffice a k policies) where
+  at : (b : Bool) → is_candidate a.policy.service k q ≡ b → items_in a k (candidates a.policy.service k policies) ≡ items_in a k policies
+      → items_in a k (cond b (q ∷ candidates a.policy.service k policies) (candidates a.policy.service k policies)) ≡ items_of a k q ++ items_in a k policies
+  at true e rest = ap (λ items. items_of a k q ++ items) rest
+  at false e rest = rest ∙ ap (λ items. items ++ items_in a k policies) (sym (none_of_others a k q e))
+
 pub ruleset nothing_found = (none_delegated, none_covered)
 
 -- ---- all accesses
@@ -104,9 +131,17 @@ all_found read s a k found e =
     ∙ ap (list_any (λ (i : Item). any_grants a.def access i.accesses.items)) e
     ∙ access_found a k access asked s.policies.items)
 
+-- one more policy
+pub items_next : {R : Type 0} (read : R → Policy) (a : Asking) (k : Known) (policies : List R) (n : ℕ) (q : R) → n < length policies → q ≡ get_or policies n q
+    → items_in a k (map read (take (n + 1) policies)) ≡ items_in a k (map read (take n policies)) ++ items_of a k (read q)
+items_next read a k policies n q there is =
+    ap (items_in a k) (map_next read policies n q there is)
+    ∙ flat_map-append (items_of a k) (map read (take n policies)) (read q ∷ [])
+    ∙ ap (λ items. items_in a k (map read (take n policies)) ++ items) (append-nil (items_of a k (read q)))
+
 -- ---- what a state that is ready gives
 
-def_is_there : (s : State) (service : List ℕ) (def : ServiceDef) → def_of s service ≡ Some def → Contains s.defs.items def
+pub def_is_there : (s : State) (service : List ℕ) (def : ServiceDef) → def_of s service ≡ Some def → Contains s.defs.items def
 def_is_there s service def e = at (service_at s service) e where
   at : (o : Option ServiceRow) → option_and_then (λ (row : ServiceRow). def_at s row.def) o ≡ Some def → Contains s.defs.items def
   at None k = absurd (none-some def k)

@@ -17,7 +17,7 @@ use Rattle.rg_delegate.specs.Accesses.{accesses}
 use Rattle.rg_delegate.specs.Authority.{Known, admins_of, delegates_to, is_admin, is_delegated, known, may, may_by_delegation, may_delegate, may_see, named_in_zone}
 use Rattle.rg_delegate.specs.Covering.{policy_covers}
 use Rattle.rg_delegate.specs.Laws.{with_item}
-use Rattle.rg_delegate.specs.Lookups.{def_of, policy_at}
+use Rattle.rg_cmd.specs.Lookups.{def_of, policy_at}
 use Rattle.rg_delegate.specs.Rules.{Tested, authority_fault, authority_rules, first_failing}
 
 -- ---- administrators

@@ -15,7 +15,7 @@ use Rattle.rg_delegate.specs.Accesses.{accesses}
 use Rattle.rg_delegate.specs.Authority.{admins_of, delegates_to, is_admin, is_delegated, known, may, may_by_delegation, may_delegate, named, named_in_zone}
 use Rattle.rg_delegate.specs.Covering.{policy_covers}
 use Rattle.rg_delegate.specs.Laws.{every_resource, writes_star}
-use Rattle.rg_delegate.specs.Lookups.{def_of, zone_at}
+use Rattle.rg_cmd.specs.Lookups.{def_of, zone_at}
 use Rattle.rg_delegate.specs.Ready.{IsReady}
 use Rattle.rg_delegate.proofs.Finding.{candidates_fit}
 use Rattle.rg_delegate.proofs.Keeping.{delegation_reaches, one_of_three}

@@ -17,7 +17,7 @@ use Rattle.rg_zones.specs.declared.row.Subjects.{Subjects as ZoneSubjects}
 use Rattle.rg_zones.specs.declared.row.ZoneRow.{ZoneRow}
 use Rattle.rg_delegate.specs.Accesses.{accesses}
 use Rattle.rg_delegate.specs.Covering.{policy_covers}
-use Rattle.rg_delegate.specs.Lookups.{def_of, groups_of, zone_at}
+use Rattle.rg_cmd.specs.Lookups.{def_of, groups_of, zone_at}
 
 -- ---- the actor
 

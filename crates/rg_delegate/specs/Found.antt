@@ -1,11 +1,14 @@
 -- How delegations are looked for: for the proofs of this crate alone.
 use Rattle.std.specs.Prelude.{◌≡◌, ℕ, ◌&&◌, Bool, true, List, [], if◌then◌else◌}
 use Rattle.std.specs.List.{filter, flat_map, list_any}
+use Rattle.std.specs.Ordering.{int_eq}
+use Rattle.rg_cmd.specs.Lookups.{is_of}
 use Rattle.rg_defs.specs.declared.service_def.ServiceDef.{ServiceDef}
 use Rattle.rg_effect.specs.Accesses.{any_grants}
 use Rattle.rg_policy.specs.declared.policy.AccessEntry.{AccessEntry}
 use Rattle.rg_policy.specs.declared.policy.Item.{Item}
 use Rattle.rg_policy.specs.declared.policy.Policy.{Policy}
+use Rattle.rg_policy.specs.Kinds.{access_policy}
 use Rattle.rg_resmatch.specs.Rules.{policy_levels_fit, policy_values_fit}
 use Rattle.rg_delegate.specs.Accesses.{accesses}
 use Rattle.rg_delegate.specs.Authority.{Known, delegates, may_delegate, named}
@@ -23,6 +26,17 @@ is_wanted a entries = list_any (λ access. any_grants a.def access entries) (acc
 -- the item delegates an access of the policy to the actor
 abbrev pub delegates_some : Asking → Known → Item → Bool
 delegates_some a k i = i.delegate && (is_wanted a i.accesses.items && named k (delegates k.name i))
+
+-- the item delegates to the actor, whatever it grants
+abbrev pub delegates_anything : Known → Item → Bool
+delegates_anything k i = i.delegate && named k (delegates k.name i)
+
+-- the policy is one of the service that is enabled, gives access, and has an allow item that delegates to the actor
+abbrev pub is_candidate : List ℕ → Known → Policy → Bool
+is_candidate service k q = q.enabled && (int_eq q.policy_type access_policy && (is_of service q && list_any (delegates_anything k) q.items.items))
+
+abbrev pub candidates : List ℕ → Known → List Policy → List Policy
+candidates service k policies = filter (is_candidate service k) policies
 
 -- the items of a policy that covers it, by which it delegates an access of it
 abbrev pub items_of : Asking → Known → Policy → List Item

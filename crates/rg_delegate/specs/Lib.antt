@@ -5,6 +5,5 @@ pub mod Covering
 pub mod Found
 pub mod Laws
 pub mod Listing
-pub mod Lookups
 pub mod Ready
 pub mod Rules

@@ -8,7 +8,7 @@ use Rattle.rg_defs.specs.declared.service_def.ServiceDef.{ServiceDef}
 use Rattle.rg_policy.specs.declared.policy.Policy.{Policy}
 use Rattle.rg_resmatch.specs.Rules.{policy_levels_fit, policy_values_fit}
 use Rattle.rg_roles.specs.Faults.{fault_of}
-use Rattle.rg_delegate.specs.Lookups.{def_of}
+use Rattle.rg_cmd.specs.Lookups.{def_of}
 
 -- the policy passes V5 and V6 under the definition of its service
 abbrev pub Fits : State → Policy → Type 0

@@ -9,7 +9,7 @@ use Rattle.rg_cmd.specs.declared.rule.Rule.{Rule}
 use Rattle.rg_cmd.specs.declared.rule.Rule.TheVariants.{A1, A2, A3, A4, A5}
 use Rattle.rg_cmd.specs.declared.state.State.{State}
 use Rattle.rg_delegate.specs.Authority.{is_admin, may, may_see}
-use Rattle.rg_delegate.specs.Lookups.{policy_at}
+use Rattle.rg_cmd.specs.Lookups.{policy_at}
 
 -- a rule, and whether it holds
 abbrev pub Tested : Type 0

@@ -1,16 +1,18 @@
 // Who may administer a policy, and who may see it.
-ghost use Rattle.std.specs.Prelude.{◌≡◌, ◌||◌, IfOk, None, Some, true};
+ghost use Rattle.std.specs.Prelude.{◌≡◌, ◌||◌, IfOk, None, Some, map, true};
 ghost use Rattle.std.specs.List.{list_all};
 ghost use Rattle.std.specs.Str.{chars};
 ghost use Rattle.rg_base.specs.Texts.{is_among};
 ghost use Rattle.rg_roles.specs.Faults.{fault_of};
 ghost use Rattle.rg_delegate.specs.Authority.{admins_of, auditors_of, is_admin, is_delegated, known, may, may_by_delegation, may_see, named_in_zone, subjects_in};
 ghost use Rattle.rg_delegate.specs.Accesses.{accesses};
-ghost use Rattle.rg_delegate.specs.Lookups.{def_of};
+ghost use Rattle.rg_cmd.specs.Lookups.{def_of};
+ghost use Rattle.rg_delegate.specs.Found.{candidates};
 ghost use Rattle.rg_delegate.specs.Ready.{Fits, IsReady};
 
 use crate::accesses::all_granted;
 use crate::actor::Actor;
+use crate::candidates::candidates;
 use crate::delegation::{Asked, delegating_items};
 use crate::lookups::{def_for, zone_at};
 use rg_base::{NoMemory, is_among, is_empty};
@@ -38,7 +40,7 @@ fn subjects_in<'a>(list: &'a ZoneSubjects) -> Subjects<'a>
     }
 }
 
-fn administers_zone(
+pub(crate) fn administers_zone(
     alloc: Global,
     state: &State,
     actor: &mut Actor,
@@ -59,7 +61,7 @@ fn administers_zone(
     }
 }
 
-fn audits_zone(
+pub(crate) fn audits_zone(
     alloc: Global,
     state: &State,
     actor: &mut Actor,
@@ -80,41 +82,46 @@ fn audits_zone(
     }
 }
 
-/// Whether each access of the policy, whose service has this definition, is delegated to the actor.
+/// Whether each access of the policy, whose service has this definition, is delegated to the actor by these policies of
+/// the service, which are all that delegate to the actor.
 fn all_delegated(
     alloc: Global,
     state: &State,
     def: &ServiceDef,
+    delegating: &[&Policy],
     actor: &mut Actor,
     policy: &Policy,
 ) -> Result<bool, NoMemory>
     requires ready { IsReady state.now }
     requires def { def_of state.now policy.now.service ≡ Some def.now }
+    requires delegating { map (λ q. q.now) delegating.now ≡ candidates policy.now.service actor.old state.now.policies.items }
     requires fits { Fits state.now policy.now }
     requires actor { actor.old ≡ known state.now actor.old.name }
     ensures same { actor.new ≡ actor.old }
     ensures answer { IfOk result (λ b. b ≡ list_all (is_delegated state.now def.now actor.old policy.now) (accesses def.now policy.now)) }
 {
-    let policies = state.policies.as_slice();
     let mut asked = Asked::of(def, policy);
-    let items = delegating_items(alloc, policies, actor, &mut asked)?;
+    let items = delegating_items(alloc, delegating, actor, &mut asked)?;
     Ok(all_granted(def, policy, &items))
 }
 
-fn may_by_delegation(
+/// Whether the actor may administer the policy by these policies of its service, which are all that delegate to the actor.
+pub(crate) fn may_by_delegation(
     alloc: Global,
     state: &State,
+    delegating: &[&Policy],
     actor: &mut Actor,
     policy: &Policy,
 ) -> Result<bool, NoMemory>
     requires ready { IsReady state.now }
+    requires delegating { map (λ q. q.now) delegating.now ≡ candidates policy.now.service actor.old state.now.policies.items }
     requires fits { Fits state.now policy.now }
     requires actor { actor.old ≡ known state.now actor.old.name }
     ensures same { actor.new ≡ actor.old }
     ensures answer { IfOk result (λ b. b ≡ may_by_delegation state.now actor.old.name policy.now) }
 {
     match def_for(state, policy) {
-        Some(def) => all_delegated(alloc, state, def, actor, policy),
+        Some(def) => all_delegated(alloc, state, def, delegating, actor, policy),
         None => Ok(false),
     }
 }
@@ -135,7 +142,9 @@ fn may_in_part(
     if administers_zone(alloc, state, actor, policy)? {
         return Ok(true);
     }
-    may_by_delegation(alloc, state, actor, policy)
+    let service = policy.service.as_str();
+    let delegating = candidates(alloc, actor, service, state.policies.as_slice())?;
+    may_by_delegation(alloc, state, &delegating, actor, policy)
 }
 
 /// Whether the actor may administer the policy: as an administrator, as one of the policy's zone, or since for each

@@ -1,5 +1,5 @@
 // The items by which policies that cover a policy delegate its accesses to an actor.
-ghost use Rattle.std.specs.Prelude.{◌≡◌, ◌++◌, ℕ, List, Contains, IfOk, None, map, option_map, true};
+ghost use Rattle.std.specs.Prelude.{◌≡◌, ◌++◌, Contains, IfOk, None, map, true};
 ghost use Rattle.std.specs.List.{filter, list_all, list_any};
 ghost use Rattle.std.specs.Str.{chars};
 ghost use Rattle.rg_base.specs.Texts.{is_among};
@@ -102,7 +102,7 @@ fn is_word(name: &str) -> bool
 }
 
 /// Whom the item delegates to.
-fn delegates<'a>(actor: &str, item: &'a Item) -> Subjects<'a>
+pub(crate) fn delegates<'a>(actor: &str, item: &'a Item) -> Subjects<'a>
     ensures { result ≡ delegates (chars actor.now) item.now }
 {
     let users = if is_word(actor) {
@@ -218,23 +218,23 @@ fn with_policy<'a>(
     with_items(alloc, found, actor, asked, items)
 }
 
-/// The items by which policies that cover the policy delegate accesses of it to the actor.
+/// The items by which those of these policies that cover the policy delegate accesses of it to the actor.
 pub(crate) fn delegating_items<'a>(
     alloc: Global,
-    policies: &'a [Policy],
+    policies: &[&'a Policy],
     actor: &mut Actor,
     asked: &mut Asked,
 ) -> Result<Vec<&'a Item>, NoMemory>
     requires lawful { def_fault asked.old.def ≡ None }
     requires values { policy_values_fit asked.old.def asked.old.policy ≡ true }
-    requires fits { (q : Written) → Contains policies.now q → FitsWhere asked.old q }
+    requires fits { (q : Written) → Contains (map (λ q. q.now) policies.now) q → FitsWhere asked.old q }
     requires roles { fault_of actor.old.rows ≡ None }
     ensures same_actor { actor.new ≡ actor.old }
-    ensures answer { IfOk result (λ v. map (λ item. item.now) v.items ≡ items_in asked.old actor.old policies.now) }
+    ensures answer { IfOk result (λ v. map (λ item. item.now) v.items ≡ items_in asked.old actor.old (map (λ q. q.now) policies.now)) }
 {
     let mut found = Vec::new(alloc);
     for policy in policies {
-        found = with_policy(alloc, found, actor, asked, policy)?;
+        found = with_policy(alloc, found, actor, asked, *policy)?;
     }
     Ok(found)
 }

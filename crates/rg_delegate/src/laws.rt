@@ -1,5 +1,5 @@
 // Laws of authority, each the contract of a function that does nothing.
-ghost use Rattle.std.specs.Prelude.{◌≡◌, ◌++◌, ◌∷◌, ℕ, List, Contains, None, Some, true};
+ghost use Rattle.std.specs.Prelude.{◌≡◌, ◌++◌, ◌∷◌, ℕ, Bool, List, Contains, None, Some, filter, true};
 ghost use Rattle.rg_base.specs.Listed.{listed};
 ghost use Rattle.rg_cmd.specs.declared.ask.Ask.{Ask as Asks};
 ghost use Rattle.rg_cmd.specs.declared.state.State.{State as Held};
@@ -15,8 +15,8 @@ ghost use Rattle.rg_delegate.specs.Accesses.{accesses};
 ghost use Rattle.rg_delegate.specs.Authority.{is_admin, may, may_delegate, may_see};
 ghost use Rattle.rg_delegate.specs.Covering.{policy_covers};
 ghost use Rattle.rg_delegate.specs.Laws.{every_resource, excludes_by_wildcards, with_item, writes_star};
-ghost use Rattle.rg_delegate.specs.Listing.{by_id, ids_rise, policies_for};
-ghost use Rattle.rg_delegate.specs.Lookups.{def_of};
+ghost use Rattle.rg_delegate.specs.Listing.{by_id, ids_rise, policies_for, seen_by};
+ghost use Rattle.rg_cmd.specs.Lookups.{def_of};
 ghost use Rattle.rg_delegate.specs.Ready.{IsReady};
 ghost use Rattle.rg_delegate.specs.Rules.{authority_fault};
 
@@ -62,7 +62,8 @@ pub fn covering_policy_lies_on_all()
     hit_is_decided();
 }
 
-/// Policies whose ids rise stand in the order of their ids.
+/// Where the ids of a state's policies rise, the policies that an actor sees stand in the order of their ids as they are.
 pub fn rising_ids_are_in_order()
-    ensures { (policies : List Written) → ids_rise policies ≡ true → by_id policies ≡ policies }
+    ensures any { (keep : Written → Bool) (policies : List Written) → ids_rise policies ≡ true → by_id (filter keep policies) ≡ filter keep policies }
+    ensures seen { (s : Held) (actor service : List ℕ) → ids_rise s.policies.items ≡ true → policies_for s actor service ≡ seen_by s actor service }
 {}

@@ -4,9 +4,11 @@
 mod accesses;
 mod actor;
 mod authority;
+mod candidates;
 mod covering;
 mod delegation;
 mod laws;
+mod listing;
 mod lookups;
 mod reading;
 mod rules;
@@ -16,4 +18,8 @@ pub use laws::{
     administrators_may_everything, covered_policy_may_be_administered, covering_policy_lies_on_all,
     more_delegation_keeps_authority, rising_ids_are_in_order,
 };
+pub use listing::policies_seen;
 pub use rules::authority_fault;
+
+#[cfg(test)]
+mod tests;

@@ -1,7 +1,7 @@
 // What a state holds under a name or an id.
 ghost use Rattle.std.specs.Prelude.{◌≡◌, option_map};
 ghost use Rattle.std.specs.Str.{chars};
-ghost use Rattle.rg_delegate.specs.Lookups.{def_of, groups_of, policy_at, zone_at};
+ghost use Rattle.rg_cmd.specs.Lookups.{def_of, groups_of, policy_at, zone_at};
 
 use rg_base::{PolicyId, Text, find_named};
 use rg_cmd::State;

@@ -1,5 +1,5 @@
-use Rattle.rg_delegate.proofs.Ordering.{rising_in_order}
+use Rattle.rg_delegate.proofs.Ordering.{kept_in_order, seen_in_order}
 use Rattle.rg_delegate.proofs.laws.rising_ids_are_in_order.Goals as goal
 
 pub returns : goal.returns
-returns c = rising_in_order
+returns c = record { any = kept_in_order; seen = seen_in_order }
