@@ -1,0 +1,12 @@
+pub mod Changes
+pub mod Downloads
+pub mod Laws
+pub mod Leading
+pub mod Logs
+pub mod Machine
+pub mod Sides
+pub mod Starts
+pub mod Steps
+pub mod Touches
+pub mod Views
+pub mod World
