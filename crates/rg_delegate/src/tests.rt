@@ -167,12 +167,15 @@ fn texts(alloc: Global, written: &str) -> Result<Seq<Text>, NoMemory> {
     Ok(list)
 }
 
+fn parent_of(written: &str) -> &str {
+    if written == "-" { "" } else { written }
+}
+
 fn level(alloc: Global, line: &str) -> Result<Level, NoMemory> {
     let mut words = line.split(' ');
     let name = text(alloc, words.next().unwrap_or(""))?;
     let number = number(words.next().unwrap_or(""));
-    let parent = words.next().unwrap_or("-");
-    let parent = text(alloc, if parent == "-" { "" } else { parent })?;
+    let parent = text(alloc, parent_of(words.next().unwrap_or("")))?;
     let flags = words.next().unwrap_or("");
     Ok(Level {
         name,
@@ -295,11 +298,23 @@ fn schedules(alloc: Global, wanted: bool) -> Result<Seq<ScheduleText>, NoMemory>
         list.add(ScheduleText {
             start_time: text(alloc, "2020/01/01 00:00:00")?,
             end_time: text(alloc, "2020/01/02 00:00:00")?,
-            time_zone: text(alloc, "")?,
+            time_zone: Text::empty(alloc),
             recurring: false,
         })?;
     }
     Ok(list)
+}
+
+fn type_of(flag: &str) -> i64 {
+    if flag == "mask" { 1 } else { 0 }
+}
+
+fn zone_of(flag: &str) -> &str {
+    if flag == "fin" { "fin" } else { "" }
+}
+
+fn first_map(maps: &str) -> &str {
+    maps.split('>').next().unwrap_or("")
 }
 
 /// A policy with this id, what it is besides, its maps, its allow items and its deny items.
@@ -311,16 +326,15 @@ fn policy(
     allow: &str,
     deny: &str,
 ) -> Result<Policy, NoMemory> {
-    let first = maps.split('>').next().unwrap_or("");
     Ok(Policy {
         id: PolicyId(id),
-        guid: text(alloc, "")?,
+        guid: Text::empty(alloc),
         version: Version(1),
         service: text(alloc, "hive1")?,
-        name: text(alloc, "p")?,
-        policy_type: if flag == "mask" { 1 } else { 0 },
+        name: Text::empty(alloc),
+        policy_type: type_of(flag),
         priority: 0,
-        resources: resources(alloc, first)?,
+        resources: resources(alloc, first_map(maps))?,
         additional: additional(alloc, maps)?,
         conditions: Seq::new(alloc),
         items: items(alloc, allow)?,
@@ -330,7 +344,7 @@ fn policy(
         mask_items: Seq::new(alloc),
         filter_items: Seq::new(alloc),
         schedules: schedules(alloc, flag == "scheduled")?,
-        zone: text(alloc, if flag == "fin" { "fin" } else { "" })?,
+        zone: text(alloc, zone_of(flag))?,
         deny_all_else: flag == "else",
         enabled: flag != "off",
         audited: true,
@@ -390,30 +404,42 @@ fn roles(alloc: Global) -> Result<Seq<RoleRow>, NoMemory> {
     Ok(list)
 }
 
-/// A state with these policies, of which root is the administrator, and where dan is of the group staff.
-fn state(alloc: Global, policies: Seq<Policy>) -> Result<State, NoMemory> {
-    let mut defs = Seq::new(alloc);
-    defs.add(definition(alloc)?)?;
-    let mut services = Seq::new(alloc);
-    services.add(ServiceRow {
+fn definitions(alloc: Global) -> Result<Seq<ServiceDef>, NoMemory> {
+    let mut list = Seq::new(alloc);
+    list.add(definition(alloc)?)?;
+    Ok(list)
+}
+
+fn services(alloc: Global) -> Result<Seq<ServiceRow>, NoMemory> {
+    let mut list = Seq::new(alloc);
+    list.add(ServiceRow {
         name: text(alloc, "hive1")?,
         def: text(alloc, "hive")?,
-        tag_service: text(alloc, "")?,
+        tag_service: Text::empty(alloc),
         fallback: false,
     })?;
-    let mut users = Seq::new(alloc);
-    users.add(user(alloc, "dan", "staff")?)?;
+    Ok(list)
+}
+
+fn users(alloc: Global) -> Result<Seq<UserRow>, NoMemory> {
+    let mut list = Seq::new(alloc);
+    list.add(user(alloc, "dan", "staff")?)?;
+    Ok(list)
+}
+
+/// A state with these policies, of which root is the administrator, and where dan is of the group staff.
+fn state(alloc: Global, policies: Seq<Policy>) -> Result<State, NoMemory> {
     Ok(State {
         admins: texts(alloc, "root")?,
-        users,
+        users: users(alloc)?,
         time_zones: Seq::new(alloc),
-        defs,
-        services,
+        defs: definitions(alloc)?,
+        services: services(alloc)?,
         policies,
         zones: zones(alloc)?,
         roles: roles(alloc)?,
         tag_rows: Seq::new(alloc),
-        plugin: text(alloc, "hive1")?,
+        plugin: Text::empty(alloc),
         next_id: 9,
         count: 0,
         role_version: Version(1),
@@ -624,19 +650,11 @@ fn some_policies(alloc: Global) -> Result<State, NoMemory> {
     state(alloc, policies)
 }
 
-fn command(alloc: Global, written: &str) -> Result<AdminCommand, NoMemory> {
-    let mut words = written.split(' ');
-    let kind = words.next().unwrap_or("");
-    let id = number(words.next().unwrap_or(""));
-    let maps = words.next().unwrap_or("");
-    if kind == "create" {
-        let policy = policy(alloc, id, "", maps, "bob:::select:", "")?;
-        return Ok(AdminCommand::CreatePolicy { policy });
-    }
-    if kind == "update" {
-        let policy = policy(alloc, id, "", maps, "bob:::select:", "")?;
-        return Ok(AdminCommand::UpdatePolicy { policy });
-    }
+fn form(alloc: Global, id: i64, maps: &str) -> Result<Policy, NoMemory> {
+    policy(alloc, id, "", maps, "bob:::select:", "")
+}
+
+fn other_command(alloc: Global, kind: &str, id: i64) -> Result<AdminCommand, NoMemory> {
     if kind == "delete" {
         return Ok(AdminCommand::DeletePolicy { id: PolicyId(id) });
     }
@@ -649,6 +667,22 @@ fn command(alloc: Global, written: &str) -> Result<AdminCommand, NoMemory> {
     }
     let user = user(alloc, "bob", "staff")?;
     Ok(AdminCommand::PutUser { user })
+}
+
+fn command(alloc: Global, written: &str) -> Result<AdminCommand, NoMemory> {
+    let mut words = written.split(' ');
+    let kind = words.next().unwrap_or("");
+    let id = number(words.next().unwrap_or(""));
+    let maps = words.next().unwrap_or("");
+    if kind == "create" {
+        let policy = form(alloc, id, maps)?;
+        return Ok(AdminCommand::CreatePolicy { policy });
+    }
+    if kind == "update" {
+        let policy = form(alloc, id, maps)?;
+        return Ok(AdminCommand::UpdatePolicy { policy });
+    }
+    other_command(alloc, kind, id)
 }
 
 #[test]
