@@ -17,3 +17,6 @@ pub use download::{
 };
 pub use rule::Rule;
 pub use state::{ServiceRow, State, UserRow};
+
+#[cfg(test)]
+mod tests;

@@ -1,14 +1,13 @@
 -- What edits make of a list: what they make of each of its items, and then the items that they add.
-use Rattle.std.proofs.Common.{◌≡◌, ◌&&◌, ◌||◌, ◌==◌, ◌++◌, ◌+◌, ◌<◌, get_or, take, ℕ, ℤ, zero, suc, Bool, true, false, not, cond, List, [], ◌∷◌, length, map, filter, fold, Option, Some, None, option_and_then, refl, sym, ap, ◌∙◌, append-nil, append_assoc}
+use Rattle.std.proofs.Common.{◌≡◌, ◌||◌, ◌==◌, ◌++◌, ◌+◌, ◌<◌, get_or, take, ℕ, ℤ, suc, Bool, true, false, not, cond, List, [], ◌∷◌, length, map, filter, fold, Option, Some, None, option_and_then, refl, sym, ap, ◌∙◌, append-nil, append_assoc}
 use Rattle.std.proofs.lemmas.List.Elements.{filter_map-append}
 use Rattle.std.proofs.lemmas.List.Sums.{fold-append}
 use Rattle.std.specs.List.{cons_option, filter_map, list_any}
-use Rattle.std.specs.Ordering.{int_eq}
 use Rattle.rg_base.proofs.Lists.{take_next}
 use Rattle.rg_cmd.specs.Kinds.{created, deleted, updated}
 use Rattle.rg_cmd.specs.Lists.{put, without}
-use Rattle.rg_delta.specs.Edits.{Edit, changed}
-use Rattle.rg_delta.specs.Editing.{became, births, born, edited, grown, has_id_of, is_birth, turned}
+use Rattle.rg_delta.specs.Edits.{Edit}
+use Rattle.rg_delta.specs.Editing.{became, births, born, edited, grown, has_id_of, is_birth}
 
 module _ {X Y : Type 0} (h : X → Option Y) where
   of_mapped : (f : X → X) (xs : List X) → filter_map h (map f xs) ≡ filter_map (λ y. h (f y)) xs

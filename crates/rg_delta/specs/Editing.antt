@@ -1,5 +1,5 @@
 -- For proofs alone: what edits make of each item of a list, and which of them add one.
-use Rattle.std.specs.Prelude.{ℕ, ℤ, ◌≡◌, ◌==◌, ◌<◌, ◌+◌, not, Bool, true, false, List, [], ◌∷◌, drop, length, reverse, Option, Some, None, option_map, option_and_then, if◌then◌else◌}
+use Rattle.std.specs.Prelude.{ℕ, ℤ, ◌≡◌, ◌==◌, not, Bool, true, false, List, [], ◌∷◌, Option, Some, None, option_map, option_and_then, if◌then◌else◌}
 use Rattle.std.specs.BTreeMap.{BTreeMap, get}
 use Rattle.std.specs.List.{cons_option, list_any, slice_get}
 use Rattle.std.specs.Ordering.{int_cmp, int_eq}

@@ -77,7 +77,7 @@ fn add_born<X: Identified + TryCopy + Drop>(
     }
     match fate_of(alloc, fates, edits, item.id())? {
         Fate::Stays => last_first.push(item.try_copy(alloc)?)?,
-        Fate::Goes => {}
+        Fate::Goes => return Ok(()),
         Fate::Becomes(new) => last_first.push(new)?,
     }
     Ok(())

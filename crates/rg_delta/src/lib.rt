@@ -16,4 +16,6 @@ pub use plain::apply_plain;
 pub use touch::Touch;
 
 #[cfg(test)]
+mod plain_tests;
+#[cfg(test)]
 mod tests;

@@ -48,6 +48,7 @@ fn trim<C: Drop>(kept: &mut VecDeque<C>)
 }
 
 /// What a log knows of the changes after a version.
+#[derive(Drop)]
 pub enum Since<'a, C> {
     /// There is none: it is the present version.
     Unchanged,

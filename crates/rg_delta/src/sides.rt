@@ -2,6 +2,7 @@
 ghost use Rattle.std.specs.Prelude.{◌≡◌, IfOk, OnOk, fold, map, false, true};
 ghost use Rattle.rg_base.specs.Listed.{listed};
 ghost use Rattle.rg_delta.specs.Applied.{policies_after, rows_after, tag_policies_after, unless_new};
+ghost use Rattle.rg_delta.specs.Editing.{edited};
 ghost use Rattle.rg_delta.specs.Sides.{edits_with, row_edit};
 
 use crate::apply::apply_edits;
@@ -14,6 +15,7 @@ use std::alloc::Global;
 use std::mem;
 
 /// The changes of the service's own policies, or of its tag service's.
+#[tactic(auto, using(crate::proofs::Sided::edits_next))]
 fn policy_edits<'a>(
     alloc: Global,
     changes: &'a [PolicyChange],
@@ -33,6 +35,7 @@ fn policy_edits<'a>(
     Ok(edits)
 }
 
+#[tactic(auto, using(crate::proofs::Sided::row_edits_next))]
 fn row_edits<'a>(alloc: Global, changes: &'a [TagChange]) -> Result<Vec<Edit<'a, TagRow>>, NoMemory>
     ensures { IfOk result (λ edits. edits.items ≡ map row_edit changes.now) }
 {
@@ -61,6 +64,7 @@ fn edit_list<X: Identified + TryCopy + Drop>(
 }
 
 /// The service's own policies after the changes.
+#[tactic(auto, using(crate::proofs::Sided::own_edits))]
 pub(crate) fn change_policies(
     alloc: Global,
     policies: &mut Seq<Policy>,
@@ -73,6 +77,7 @@ pub(crate) fn change_policies(
 }
 
 /// The tag service's policies after the changes.
+#[tactic(auto, using(crate::proofs::Sided::tag_edits))]
 pub(crate) fn change_tag_policies(
     alloc: Global,
     policies: &mut Seq<Policy>,
@@ -85,6 +90,7 @@ pub(crate) fn change_tag_policies(
 }
 
 /// The tag rows after the changes.
+#[tactic(auto, using(crate::proofs::Sided::all_edits))]
 pub(crate) fn change_rows(
     alloc: Global,
     rows: &mut Seq<TagRow>,

@@ -180,8 +180,8 @@ created_and_deleted s given p =
     ∙ ap (λ b. without (has_id s.next_id) s.policies.items ++ cond (not b) (created_form s p ∷ []) []) own
     ∙ append-nil (without (has_id s.next_id) s.policies.items)
     ∙ none_gone s.next_id s.policies.items (λ q there.
-      let low = (and_parts (int_lt (pos 0) q.id.0) (int_lt q.id.0 s.next_id) (all_holds (is_given s) s.policies.items given q there)).1 in
-      turned q.id.0 s.next_id (lt_differs q.id.0 s.next_id low))
+    let low = (and_parts (int_lt (pos 0) q.id.0) (int_lt q.id.0 s.next_id) (all_holds (is_given s) s.policies.items given q there)).1 in
+    turned q.id.0 s.next_id (lt_differs q.id.0 s.next_id low))
   where
     turned : (x y : ℤ) → int_eq y x ≡ false → int_eq x y ≡ false
     turned x y other = case (λ b. int_eq x y ≡ b → b ≡ false) (int_eq x y) (λ _ same. absurd (false≢true (sym other ∙ (Decides-int_eq y x).1 (sym ((Decides-int_eq x y).0 same))))) (λ _ _. refl) refl

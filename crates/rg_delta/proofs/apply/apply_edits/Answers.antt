@@ -1,5 +1,5 @@
-use Rattle.std.proofs.Common.{◌∙◌, ◌++◌, length, fold, sym, ap}
-use Rattle.rg_delta.specs.Editing.{births, born, edited}
+use Rattle.std.proofs.Common.{◌∙◌, ◌++◌, length, sym, ap}
+use Rattle.rg_delta.specs.Editing.{births, born}
 use Rattle.rg_delta.proofs.Edited.{after_edits, length-births}
 use Rattle.rg_delta.proofs.apply.apply_edits.Goals as goal
 

@@ -1,4 +1,4 @@
-use Rattle.std.proofs.Common.{arith, false, None, get_or, cond, ◌≡◌, ◌<◌, ◌≤◌, ◌+◌, ◌-◌, ◌∙◌, length, drop, reverse, sym, ap, subst}
+use Rattle.std.proofs.Common.{arith, false, None, get_or, cond, ◌≡◌, ◌+◌, ◌-◌, ◌∙◌, drop, reverse, sym, ap, subst}
 use Rattle.std.proofs.lemmas.List.{get_or_default}
 use Rattle.std.specs.BTreeMap.{get}
 use Rattle.std.specs.List.{cons_option}
