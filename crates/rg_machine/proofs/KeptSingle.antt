@@ -90,7 +90,7 @@ single_from policies p clear = case (λ b. p.enabled ≡ b → (not b || not (li
     case (λ b. has_id p.id.0 q ≡ b → (not b && is_twin p q) ≡ false) (has_id p.id.0 q) (λ _ _. refl) (λ _ other. ap (λ b. b && is_twin p q) (sym is) ∙ clear q there other) refl)))
     (λ _ _. refl) refl
 
-AllClear : List Policy → Type 0
+abbrev AllClear : List Policy → Type 0
 AllClear policies = (p : Policy) → Contains policies p → Clear policies p.id.0 p
 
 all_clear : (s : State) → list_all (policy_is_single s) s.policies.items ≡ true → AllClear s.policies.items

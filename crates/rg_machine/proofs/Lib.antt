@@ -15,6 +15,7 @@ pub mod Lawful
 pub mod Lists
 pub mod Moves
 pub mod Orderly
+pub mod OwnViews
 pub mod Parts
 pub mod Passing
 pub mod SoundViews

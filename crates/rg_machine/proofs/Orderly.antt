@@ -56,7 +56,7 @@ not_tag_service s name h =
     (not (list_any (λ (row : ServiceRow). bytes_eq row.tag_service name) s.services.items)) (passed_at (command_rules s (DeleteService name)) h 1 (C5, service_is_unused s name) refl))
 
 -- C5: nor is it the plugin's service
-not_plugin : (s : State) (name : List ℕ) → first_failing (command_rules s (DeleteService name)) ≡ None → bytes_eq s.plugin name ≡ false
+pub not_plugin : (s : State) (name : List ℕ) → first_failing (command_rules s (DeleteService name)) ≡ None → bytes_eq s.plugin name ≡ false
 not_plugin s name h = not_true (bytes_eq s.plugin name) (and_parts _ _ (passed_at (command_rules s (DeleteService name)) h 1 (C5, service_is_unused s name) refl)).0
 
 -- a service that has a definition is there

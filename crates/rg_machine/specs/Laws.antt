@@ -1,6 +1,9 @@
 -- What the laws say of an administration's history.
 use Rattle.std.specs.Prelude.{◌≡◌, ℕ, ◌≤◌, ◌<◌, ◌&&◌, Bool, true, false, List, Option, Some, None, slice_get}
+use Rattle.rg_base.specs.Listed.{listed}
 use Rattle.rg_base.specs.declared.numbers.PolicyId.{PolicyId}
+use Rattle.rg_policy.specs.declared.policy.Policy.{Policy}
+use Rattle.rg_tags.specs.declared.row.TagRow.{TagRow}
 use Rattle.rg_turn.specs.declared.rule.Entry.{Entry}
 use Rattle.rg_cmd.specs.declared.ask.AdminCommand.{AdminCommand}
 use Rattle.rg_cmd.specs.declared.ask.AdminCommand.TheVariants.{CreatePolicy}
@@ -9,6 +12,7 @@ use Rattle.rg_cmd.specs.declared.ask.AdminReply.TheVariants.{Done, Kept, Refused
 use Rattle.rg_cmd.specs.declared.ask.Ask.{Ask}
 use Rattle.rg_facts.specs.declared.facts.Facts.{Facts}
 use Rattle.rg_machine.specs.Downloads.{From}
+use Rattle.rg_machine.specs.Logs.{Administration}
 use Rattle.rg_machine.specs.Steps.{deletes}
 
 abbrev pub is_done : AdminReply → Bool
@@ -43,3 +47,10 @@ abbrev pub gave_id : AdminCommand → AdminReply → Option PolicyId
 gave_id (CreatePolicy p) (Kept id version) = Some id
 gave_id (CreatePolicy p) reply = None
 gave_id command reply = None
+
+-- the administration with these policies, and with these tag rows
+abbrev pub with_policies : Administration → List Policy → Administration
+with_policies a policies = record a { state = record a.state { policies = listed policies } }
+
+abbrev pub with_tag_rows : Administration → List TagRow → Administration
+with_tag_rows a rows = record a { state = record a.state { tag_rows = listed rows } }

@@ -8,16 +8,18 @@ ghost use Rattle.rg_cmd.specs.declared.ask.AdminReply.{AdminReply};
 ghost use Rattle.rg_cmd.specs.declared.ask.AdminReply.TheVariants.{Refused};
 ghost use Rattle.rg_cmd.specs.declared.ask.Ask.{Ask};
 ghost use Rattle.rg_cmd.specs.declared.download.Download.{Download};
+ghost use Rattle.rg_cmd.specs.Lookups.{is_of, is_of_tag, is_row_of, tag_service_of};
 ghost use Rattle.rg_cmd.specs.declared.rule.Rule.{Rule};
 ghost use Rattle.rg_cmd.specs.declared.state.State.{State};
 ghost use Rattle.rg_base.specs.declared.numbers.PolicyId.{PolicyId};
 ghost use Rattle.rg_policy.specs.declared.policy.Policy.{Policy};
+ghost use Rattle.rg_tags.specs.declared.row.TagRow.{TagRow};
 ghost use Rattle.rg_facts.specs.Sound.{sound};
 ghost use Rattle.rg_facts.specs.declared.facts.Facts.{Facts};
 ghost use Rattle.rg_validate.specs.Valid.{IsKept};
 ghost use Rattle.rg_machine.specs.Changes.{after_command, created_form};
 ghost use Rattle.rg_machine.specs.Downloads.{download};
-ghost use Rattle.rg_machine.specs.Laws.{AreNoLess, IsNotDeleted, from_of, gave_id, is_refused};
+ghost use Rattle.rg_machine.specs.Laws.{AreNoLess, IsNotDeleted, from_of, gave_id, is_refused, with_policies, with_tag_rows};
 ghost use Rattle.rg_machine.specs.Leading.{led};
 ghost use Rattle.rg_machine.specs.Logs.{Administration};
 ghost use Rattle.rg_machine.specs.Machine.{Events, IsOpened, administration, after_events, is_unchanged, same_versions, versions};
@@ -72,6 +74,15 @@ pub fn unchanged_from_present_versions()
 pub fn created_policy_may_go()
     ensures { (s : State) (p : Policy) → IsKept s
         → (after_command (after_command s (CreatePolicy p)) (DeletePolicy (created_form s p).id)).policies.items ≡ s.policies.items }
+{}
+
+/// A view rests on no policy of another service that isn't its tag service, and on no tag row of another service.
+pub fn views_rest_on_their_own()
+    ensures policies { (a : Administration) (service : List ℕ) (before after : List Policy) (p : Policy)
+        → is_of service p ≡ false → is_of_tag (tag_service_of a.state service) p ≡ false
+        → view (with_policies a (before ++ p ∷ after)) service ≡ view (with_policies a (before ++ after)) service }
+    ensures tag_rows { (a : Administration) (service : List ℕ) (before after : List TagRow) (row : TagRow) → is_row_of service row ≡ false
+        → view (with_tag_rows a (before ++ row ∷ after)) service ≡ view (with_tag_rows a (before ++ after)) service }
 {}
 
 /// The plugin's service is never deleted, and every state of a history has its view.
