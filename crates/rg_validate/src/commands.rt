@@ -14,9 +14,7 @@ use crate::existence::{
 use crate::lookups::def_of;
 use crate::policies::policy_fault;
 use crate::roles::{goes_in_no_circle, member_roles_exist, role_is_unused, roles_with};
-use crate::services::{
-    keeps_definition, service_is_unused, service_name_is_new, tag_service_fits,
-};
+use crate::services::{keeps_definition, service_is_unused, service_name_is_new, tag_service_fits};
 use crate::tags::{row_id_fits, tagged_resources_fit, tagged_service_fits};
 use crate::users::user_fits;
 use crate::zones::{

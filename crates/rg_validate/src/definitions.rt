@@ -46,12 +46,7 @@ pub(crate) fn policy_suits(def: &ServiceDef, paths: &Paths, policy: &Policy) -> 
                         && (conditions_compile(def, policy) && outcomes_fit(def, policy))))))
 }
 
-fn policies_suit(
-    def: &ServiceDef,
-    paths: &Paths,
-    services: &NameIndex,
-    policies: &[Policy],
-) -> bool
+fn policies_suit(def: &ServiceDef, paths: &Paths, services: &NameIndex, policies: &[Policy]) -> bool
     requires { paths.now ≡ def.now.levels.items }
     ensures { result ≡ list_all (λ (p : Policy). not (is_among p.service services.now) || policy_suits def.now p) policies.now }
 {

@@ -43,9 +43,7 @@ fn is_namesake(policy: &Policy, other: &Policy) -> bool
 fn some_namesake(policies: &[Policy], updated: Option<PolicyId>, policy: &Policy) -> bool
     ensures { result ≡ list_any (λ (q : Policy). is_other updated q && is_namesake policy.now q) policies.now }
 {
-    policies
-        .iter()
-        .any(|other| is_other(updated, other) && is_namesake(policy, other))
+    policies.iter().any(|other| is_other(updated, other) && is_namesake(policy, other))
 }
 
 /// Whether no other policy of the service and zone has the name (rule V2). A policy that is updated is told by its id.
@@ -57,11 +55,7 @@ pub fn policy_name_is_new(state: &State, updated: Option<PolicyId>, policy: &Pol
 
 /// Whether each item names a user, a group or a role, and each role exists (rule V10). It takes memory for the names
 /// of the roles.
-pub fn policy_subjects_fit(
-    alloc: Global,
-    state: &State,
-    policy: &Policy,
-) -> Result<bool, NoMemory>
+pub fn policy_subjects_fit(alloc: Global, state: &State, policy: &Policy) -> Result<bool, NoMemory>
     ensures { IfOk result (λ fit. fit ≡ policy_subjects_fit state.now policy.now) }
 {
     let roles = NameIndex::build(alloc, state.roles.as_slice())?;

@@ -39,9 +39,7 @@ pub fn keeps_definition(state: &State, row: &ServiceRow) -> bool
 fn some_policy_of(policies: &[Policy], service: &Text) -> bool
     ensures { result ≡ list_any (is_of service.now) policies.now }
 {
-    policies
-        .iter()
-        .any(|policy| same_text(policy.service.as_str(), service.as_str()))
+    policies.iter().any(|policy| same_text(policy.service.as_str(), service.as_str()))
 }
 
 fn some_row_of(rows: &[TagRow], service: &Text) -> bool

@@ -5,8 +5,7 @@ use rg_base::{NoMemory, PolicyId, Seq, Text, Version};
 use rg_cmd::{AdminCommand, Ask, Rule, ServiceRow, State, UserRow};
 use rg_defs::{AccessType, ConditionDef, Level, MaskType, ServiceDef};
 use rg_policy::{
-    AccessEntry, Item, MaskInfo, Policy, PolicyCondition, PolicyResource, ResourceMap,
-    ScheduleText,
+    AccessEntry, Item, MaskInfo, Policy, PolicyCondition, PolicyResource, ResourceMap, ScheduleText,
 };
 use rg_roles::RoleRow;
 use rg_tags::{Tag, TagRow};
@@ -286,7 +285,14 @@ fn def(alloc: Global, line: &str) -> Result<ServiceDef, NoMemory> {
         access_types: access_types(alloc, accesses)?,
         conditions: conditions(alloc, part(line, 4))?,
         masks: masks(alloc)?,
-        mask_access: words(alloc, if accesses.starts_with("select") { "select" } else { "-" })?,
+        mask_access: words(
+            alloc,
+            if accesses.starts_with("select") {
+                "select"
+            } else {
+                "-"
+            },
+        )?,
         mask_levels: Seq::new(alloc),
         filter_access: Seq::new(alloc),
         filter_levels: Seq::new(alloc),

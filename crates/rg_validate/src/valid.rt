@@ -6,6 +6,7 @@ ghost use Rattle.rg_base.specs.Texts.{all_distinct};
 ghost use Rattle.rg_policy.specs.declared.policy.Policy.{Policy};
 ghost use Rattle.rg_roles.specs.Faults.{fault_of};
 ghost use Rattle.rg_tags.specs.declared.row.TagRow.{TagRow};
+ghost use Rattle.rg_cmd.specs.Lookups.{def_of};
 ghost use Rattle.rg_validate.specs.Definitions.{policy_suits, under};
 ghost use Rattle.rg_validate.specs.Users.{time_zones_read};
 ghost use Rattle.rg_validate.specs.Valid.{IsValid, are_distinct, definition_valid, policy_valid, service_valid, tag_row_valid, zone_valid};
@@ -18,9 +19,7 @@ use crate::policies::{policy_schedules_read, policy_subjects_fit, zone_fits};
 use crate::services::tag_service_fits;
 use crate::tags::{tagged_resources_fit, tagged_service_fits};
 use crate::users::time_zones_read;
-use crate::zones::{
-    zone_levels_suit, zone_services_fit, zone_subjects_exist, zone_values_suit,
-};
+use crate::zones::{zone_levels_suit, zone_services_fit, zone_subjects_exist, zone_values_suit};
 use rg_base::{NoMemory, PolicyId, Text, all_names_distinct};
 use rg_cmd::{ServiceRow, State};
 use rg_defs::{DefFault, Paths, ServiceDef, check_def};
@@ -248,8 +247,10 @@ fn are_distinct(alloc: Global, state: &State) -> Result<bool, NoMemory>
     if !all_names_distinct(alloc, state.users.as_slice())? {
         return Ok(false);
     }
-    Ok(policy_ids_distinct(state.policies.as_slice())
-        && tag_row_ids_distinct(state.tag_rows.as_slice()))
+    Ok(
+        policy_ids_distinct(state.policies.as_slice())
+            && tag_row_ids_distinct(state.tag_rows.as_slice()),
+    )
 }
 
 /// What it says where it is true is what the rules ask of a state. The work is quadratic in the numbers of policies
