@@ -253,8 +253,8 @@ fn are_distinct(alloc: Global, state: &State) -> Result<bool, NoMemory>
     )
 }
 
-/// What it says where it is true is what the rules ask of a state. The work is quadratic in the numbers of policies
-/// and of tag rows.
+/// Whether the state is valid, which `first_fault` asks of it. The work is quadratic in the numbers of policies and of
+/// tag rows.
 pub fn is_valid(alloc: Global, state: &State) -> Result<bool, NoMemory>
     ensures { IfOk result (λ valid. valid ≡ true → IsValid state.now) }
 {
