@@ -6,6 +6,7 @@ ghost use Rattle.rg_base.specs.Texts.{all_distinct};
 ghost use Rattle.rg_policy.specs.declared.policy.Policy.{Policy};
 ghost use Rattle.rg_roles.specs.Faults.{fault_of};
 ghost use Rattle.rg_tags.specs.declared.row.TagRow.{TagRow};
+ghost use Rattle.rg_cmd.specs.Lookups.{def_of};
 ghost use Rattle.rg_validate.specs.Definitions.{policy_suits, under};
 ghost use Rattle.rg_validate.specs.Users.{time_zones_read};
 ghost use Rattle.rg_validate.specs.Valid.{IsValid, are_distinct, definition_valid, policy_valid, service_valid, tag_row_valid, zone_valid};
@@ -252,8 +253,8 @@ fn are_distinct(alloc: Global, state: &State) -> Result<bool, NoMemory>
     )
 }
 
-/// What it says where it is true is what the rules ask of a state. The work is quadratic in the numbers of policies
-/// and of tag rows.
+/// Whether the state is valid, which `first_fault` asks of it. The work is quadratic in the numbers of policies and of
+/// tag rows.
 pub fn is_valid(alloc: Global, state: &State) -> Result<bool, NoMemory>
     ensures { IfOk result (λ valid. valid ≡ true → IsValid state.now) }
 {
