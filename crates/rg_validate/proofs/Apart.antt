@@ -1,9 +1,9 @@
 -- Zones that overlap no other where one is put among them.
-use Rattle.std.proofs.Common.{◌≡◌, ◌⊎◌, ◌<◌, ◌≤◌, ◌+◌, ◌-◌, ◌||◌, ◌&&◌, ◌++◌, ℕ, zero, suc, Bool, true, false, not, List, [], ◌∷◌, take, drop, length, position, Option, Some, None, Contains, refl, sym, ap, ◌∙◌, subst, inl, inr, arith, if◌then◌else◌}
+use Rattle.std.proofs.Common.{◌≡◌, ◌≤◌, ◌-◌, ◌||◌, ◌&&◌, ◌++◌, ℕ, zero, suc, Bool, true, false, not, List, [], ◌∷◌, take, drop, length, position, Option, Some, None, refl, sym, ap, ◌∙◌, subst, inl, inr, arith, if◌then◌else◌}
 use Rattle.std.specs.List.{flat_map, list_all, list_any}
 use Rattle.std.specs.Option.{is_none}
 use Rattle.std.specs.Str.{bytes_eq}
-use Rattle.std.proofs.lemmas.Bool.{and_from, and_parts, not_from_false, or_from, or_left, or_parts, or_right, true≢false}
+use Rattle.std.proofs.lemmas.Bool.{and_from, and_parts, not_from_false, or_from, or_left, or_parts, or_right}
 use Rattle.std.proofs.lemmas.List.{append-nil, take_all}
 use Rattle.std.proofs.lemmas.List.Folds.{list_any-append}
 use Rattle.std.proofs.lemmas.Slice.Eq.{bytes_eq-Decides}
@@ -23,8 +23,8 @@ use Rattle.rg_cmd.specs.declared.state.ServiceRow.{ServiceRow}
 use Rattle.rg_cmd.specs.declared.state.State.{State}
 use Rattle.rg_validate.specs.Definitions.{under}
 use Rattle.rg_validate.specs.Valid.{IsValid, zone_valid}
-use Rattle.rg_validate.specs.Zones.{are_apart, are_apart_for, zone_levels_suit, zone_services_fit, zone_subjects_exist, zone_values_suit, zones_with}
-use Rattle.rg_validate.proofs.Putting.{Split, bool_is, distinct_middle, distinct_replaced, none_at, put_last, split}
+use Rattle.rg_validate.specs.Zones.{are_apart, are_apart_for, zone_levels_suit, zone_services_fit, zone_subjects_exist, zone_values_suit}
+use Rattle.rg_validate.proofs.Putting.{bool_is, distinct_middle, distinct_replaced, none_at, put_last, split}
 use Rattle.rg_validate.proofs.ValidParts.{row_of}
 
 -- ---- parts of lists

@@ -1,13 +1,13 @@
 -- Whether a role that is put goes in a circle.
-use Rattle.std.proofs.Common.{◌≡◌, ◌↔◌, ◌⊎◌, ◌++◌, ℕ, Bool, true, false, not, List, [], ◌∷◌, map, Contains, Option, Some, None, IsTrue, refl, sym, ap, ◌∙◌, subst, inl, inr}
-use Rattle.std.specs.List.{list_all, list_any}
+use Rattle.std.proofs.Common.{◌≡◌, ◌↔◌, ℕ, Bool, true, false, not, List, map, Option, Some, None, IsTrue, refl, sym, ap, ◌∙◌}
+use Rattle.std.specs.List.{list_any}
 use Rattle.std.specs.Option.{is_none}
 use Rattle.std.specs.Str.{bytes_eq}
-use Rattle.std.proofs.lemmas.Bool.{both_ways, false_from_ne_true, true≢false}
+use Rattle.std.proofs.lemmas.Bool.{false_from_ne_true, true≢false}
 use Rattle.std.proofs.lemmas.Slice.Eq.{bytes_eq-Decides}
 use Rattle.rg_base.specs.Texts.{all_distinct, is_among}
-use Rattle.rg_base.proofs.Lists.{Contains-map, Contains-mapped, all_distinct-map, all_holds, among_from, among_holds, any_from, any_holds, list_any_agree}
-use Rattle.rg_roles.specs.Chains.{Leads, here, there, leads}
+use Rattle.rg_base.proofs.Lists.{all_distinct-map, all_holds, among_holds, any_from, any_holds, list_any_agree}
+use Rattle.rg_roles.specs.Chains.{Leads, leads}
 use Rattle.rg_roles.specs.Faults.{AreSound, IsApart, IsPut, NamesThere, fault_of, have_own_names}
 use Rattle.rg_roles.specs.Members.{names_of, names_role}
 use Rattle.rg_roles.specs.declared.fault.RoleFault.{RoleFault}

@@ -1,5 +1,5 @@
 -- The rules of policies that look at the state. Those of one policy by itself stand in rg_effect, rg_resmatch and rg_cond.
-use Rattle.std.specs.Prelude.{ℤ, ◌&&◌, ◌||◌, not, Bool, true, List, [], ◌∷◌, Option, Some, None, option_and_then}
+use Rattle.std.specs.Prelude.{◌&&◌, ◌||◌, not, Bool, true, List, [], ◌∷◌, Option, Some, None, option_and_then}
 use Rattle.std.specs.List.{list_any}
 use Rattle.std.specs.Str.{bytes_eq}
 use Rattle.rg_base.specs.Texts.{is_name}

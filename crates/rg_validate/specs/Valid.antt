@@ -1,5 +1,5 @@
 -- When a state is valid, and what else an administration keeps.
-use Rattle.std.specs.Prelude.{◌≡◌, ◌≤◌, ◌+◌, ℤ, pos, int_lt, int_le, ◌&&◌, Bool, true, Some, is_none}
+use Rattle.std.specs.Prelude.{◌≡◌, ◌+◌, pos, int_lt, ◌&&◌, Bool, true, Some, is_none}
 use Rattle.std.specs.List.{list_all, list_any}
 use Rattle.std.specs.Ordering.{int_eq}
 use Rattle.std.specs.Str.{bytes_eq}

@@ -1,5 +1,5 @@
 -- The rules of zones.
-use Rattle.std.specs.Prelude.{ℕ, ◌&&◌, ◌||◌, not, Bool, List, map, filter, is_none}
+use Rattle.std.specs.Prelude.{ℕ, ◌||◌, not, Bool, List, map, filter, is_none}
 use Rattle.std.specs.List.{list_all, list_any}
 use Rattle.std.specs.Str.{bytes_eq}
 use Rattle.rg_policy.specs.declared.policy.Policy.{Policy}

@@ -1,8 +1,11 @@
 // The first rule that a command breaks, over tables that were worked out by hand from the rules of Ranger's administration as
 // this project narrows them.
+ghost use Rattle.std.specs.Prelude.{◌≡◌, ◌≤◌, true};
+ghost use Rattle.rg_validate.specs.Valid.{IsValid};
+
 use crate::{first_fault, is_valid};
 use rg_base::{NoMemory, PolicyId, Seq, Text, Version};
-use rg_cmd::{AdminCommand, Ask, Rule, ServiceRow, State, UserRow};
+use rg_cmd::{AdminCommand, Ask, ServiceRow, State, UserRow};
 use rg_defs::{AccessType, ConditionDef, Level, MaskType, ServiceDef};
 use rg_policy::{
     AccessEntry, Item, MaskInfo, Policy, PolicyCondition, PolicyResource, ResourceMap, ScheduleText,
@@ -299,7 +302,9 @@ fn def(alloc: Global, line: &str) -> Result<ServiceDef, NoMemory> {
     })
 }
 
-fn service(alloc: Global, line: &str, at: usize) -> Result<ServiceRow, NoMemory> {
+fn service(alloc: Global, line: &str, at: usize) -> Result<ServiceRow, NoMemory>
+    requires { at ≤ 2 }
+{
     Ok(ServiceRow {
         name: word(alloc, part(line, at))?,
         def: word(alloc, part(line, at + 1))?,
@@ -436,7 +441,9 @@ fn priority_of(flag: &str) -> i64 {
     }
 }
 
-fn policy(alloc: Global, line: &str, at: usize) -> Result<Policy, NoMemory> {
+fn policy(alloc: Global, line: &str, at: usize) -> Result<Policy, NoMemory>
+    requires { at ≤ 2 }
+{
     let flag = part(line, at + 4);
     let maps = part(line, at + 5);
     Ok(Policy {
@@ -648,26 +655,37 @@ fn command(alloc: Global, line: &str) -> Result<AdminCommand, NoMemory> {
     }
 }
 
-fn name_of(rule: Option<Rule>) -> &'static str {
-    match rule {
-        Some(rule) => rule.name(),
-        None => "-",
+/// Whether the rules may be asked of the state.
+fn is_ready(alloc: Global, state: &State) -> bool
+    ensures { result ≡ true → IsValid state.now }
+{
+    match is_valid(alloc, state) {
+        Ok(valid) => valid,
+        Err(_) => false,
+    }
+}
+
+/// The name of the rule that the command breaks, `-` for none.
+fn broken(alloc: Global, state: &State, line: &str) -> Result<&'static str, NoMemory>
+    requires { IsValid state.now }
+{
+    let ask = Ask {
+        actor: word(alloc, "root")?,
+        command: command(alloc, line)?,
+    };
+    match first_fault(alloc, state, &ask)? {
+        Some(rule) => Ok(rule.name()),
+        None => Ok("-"),
     }
 }
 
 /// The first line of the table that isn't answered as it says, with the rule that is named; empty where there is none.
-fn first_wrong(alloc: Global, count: u64, table: &str) -> Result<Text, NoMemory> {
-    let state = state(alloc, count)?;
-    if !is_valid(alloc, &state)? {
-        return Text::copy_of(alloc, "the state is not valid");
-    }
+fn first_wrong(alloc: Global, state: &State, table: &str) -> Result<Text, NoMemory>
+    requires { IsValid state.now }
+{
     for line in table.lines() {
         let (written, rule) = line.split_once('|').unwrap_or((line, ""));
-        let ask = Ask {
-            actor: word(alloc, "root")?,
-            command: command(alloc, written)?,
-        };
-        let found = name_of(first_fault(alloc, &state, &ask)?);
+        let found = broken(alloc, state, written)?;
         if found != rule {
             let mut wrong = Text::copy_of(alloc, line)?;
             wrong.append(" is ")?;
@@ -678,16 +696,24 @@ fn first_wrong(alloc: Global, count: u64, table: &str) -> Result<Text, NoMemory>
     Ok(Text::empty(alloc))
 }
 
+fn wrong_after(alloc: Global, count: u64, table: &str) -> Result<Text, NoMemory> {
+    let state = state(alloc, count)?;
+    if !is_ready(alloc, &state) {
+        return Text::copy_of(alloc, "the state is not valid");
+    }
+    first_wrong(alloc, &state, table)
+}
+
 #[test]
 fn the_first_rule_that_fails_is_named(rt: HostRuntime) -> Result<(), Fail> {
-    let wrong = first_wrong(rt.alloc(), 0, ASKS)?;
+    let wrong = wrong_after(rt.alloc(), 0, ASKS)?;
     assert_eq!(rt; wrong.as_str(), "");
     Ok(())
 }
 
 #[test]
 fn a_full_history_refuses_what_does_not_only_read(rt: HostRuntime) -> Result<(), Fail> {
-    let wrong = first_wrong(rt.alloc(), 1 << 62, FULL)?;
+    let wrong = wrong_after(rt.alloc(), 1 << 62, FULL)?;
     assert_eq!(rt; wrong.as_str(), "");
     Ok(())
 }

@@ -1,4 +1,4 @@
-use Rattle.std.proofs.Common.{rules, ◌≡◌, IfOk, Some, None, sym, ap, ◌∙◌, subst}
+use Rattle.std.proofs.Common.{rules, ◌≡◌, IfOk, Some, None, subst}
 use Rattle.rg_cmd.specs.Lookups.{def_of}
 use Rattle.rg_validate.specs.Policies.{policy_rules}
 use Rattle.rg_validate.specs.Rules.{rules_under}

@@ -1,4 +1,4 @@
-use Rattle.std.proofs.Common.{rules, ◌≡◌, true, List, [], ◌∷◌, IfOk, Some, None, sym, ap, ◌∙◌, subst}
+use Rattle.std.proofs.Common.{rules, ◌≡◌, true, ◌∷◌, IfOk, Some, None, ◌∙◌, subst}
 use Rattle.std.specs.List.{list_any}
 use Rattle.rg_cmd.specs.Lookups.{def_of, has_id}
 use Rattle.rg_cmd.specs.declared.rule.Rule.TheVariants.{E2}

@@ -1,4 +1,4 @@
-use Rattle.std.proofs.Common.{rules, ◌≡◌, IfOk, Some, None, sym, ◌∙◌, subst}
+use Rattle.std.proofs.Common.{rules, ◌≡◌, IfOk, Some, None, subst}
 use Rattle.rg_validate.proofs.Firsts.{by_form, by_name, by_setting}
 use Rattle.rg_validate.specs.Failing.{first_failing}
 use Rattle.rg_validate.specs.Steps.{form_rules, name_rules}

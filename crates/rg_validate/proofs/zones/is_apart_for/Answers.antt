@@ -1,6 +1,5 @@
-use Rattle.std.proofs.Common.{rules, ◌≡◌, true, false, Some, None, sym, ap, ◌∙◌}
+use Rattle.std.proofs.Common.{rules, ◌≡◌, false, Some, sym, ap, ◌∙◌}
 use Rattle.std.specs.Option.{is_none}
-use Rattle.rg_defs.specs.Rules.{def_fault}
 use Rattle.rg_zones.specs.Overlap.{first_overlap}
 use Rattle.rg_zones.specs.Rules.{all_maps_fit, lists_service}
 use Rattle.rg_cmd.specs.Lookups.{def_of}
