@@ -1,4 +1,4 @@
-use Rattle.std.proofs.Common.{arith, ◌≤◌, [], ◌∷◌, refl, subst, sym}
+use Rattle.std.proofs.Common.{arith, ◌≤◌, ◌∷◌, refl, subst, sym}
 use Rattle.rg_facts.specs.declared.facts.Facts.{Facts}
 use Rattle.rg_machine.specs.Logs.{Administration}
 use Rattle.rg_machine.specs.Machine.{Events, IsOpened, administration, after_events}
