@@ -1,8 +1,8 @@
 -- For proofs alone: refusals, ids that are given once, downloads from the present versions, and a policy that is created and deleted.
-use Rattle.std.proofs.Common.{arith, ◌≡◌, ◌≤◌, ◌<◌, ◌+◌, ◌-◌, ◌^◌, ◌&&◌, ℕ, ℤ, zero, suc, pos, ◌+ℤ◌, int_lt, eqb, leb, ltb, Bool, true, false, not, cond, is_some, Contains, List, [], ◌∷◌, ◌++◌, length, Option, Some, None, slice_get, refl, ap, sym, ◌∙◌, subst}
-use Rattle.std.specs.List.{filter, find, list_all, list_any}
+use Rattle.std.proofs.Common.{arith, ◌≡◌, ◌≤◌, ◌<◌, ◌+◌, ◌-◌, ◌&&◌, ℕ, ℤ, zero, suc, pos, int_lt, eqb, true, false, not, cond, is_some, Contains, List, [], ◌∷◌, ◌++◌, length, Option, Some, None, slice_get, refl, ap, sym, ◌∙◌, subst}
+use Rattle.std.specs.List.{list_all, list_any}
 use Rattle.std.specs.Ordering.{int_eq}
-use Rattle.std.proofs.lemmas.Bool.{and_parts, eqb-true, false≢true}
+use Rattle.std.proofs.lemmas.Bool.{and_parts, false≢true}
 use Rattle.std.proofs.lemmas.Bool.Decides.{Decides-int_eq}
 use Rattle.std.proofs.lemmas.List.{append-nil}
 use Rattle.std.proofs.lemmas.List.Elements.{filter-append}
@@ -17,11 +17,9 @@ use Rattle.rg_turn.specs.declared.rule.Entry.{Entry}
 use Rattle.rg_cmd.specs.Lists.{without}
 use Rattle.rg_cmd.specs.Lookups.{has_id, is_service, policy_at}
 use Rattle.rg_cmd.specs.declared.ask.AdminCommand.{AdminCommand}
-use Rattle.rg_cmd.specs.declared.ask.AdminCommand.TheVariants.{CreatePolicy, DeletePolicy, Download as Downloads, GetPolicy}
+use Rattle.rg_cmd.specs.declared.ask.AdminCommand.TheVariants.{CreatePolicy, Download as Downloads, GetPolicy}
 use Rattle.rg_cmd.specs.declared.ask.AdminReply.{AdminReply}
-use Rattle.rg_cmd.specs.declared.ask.AdminReply.TheVariants.{Kept}
 use Rattle.rg_cmd.specs.declared.ask.Ask.{Ask}
-use Rattle.rg_cmd.specs.declared.changes.Log.{Log}
 use Rattle.rg_cmd.specs.declared.changes.LogEntry.{LogEntry}
 use Rattle.rg_cmd.specs.declared.changes.TagChange.{TagChange}
 use Rattle.rg_cmd.specs.declared.download.Download.{Download}
@@ -35,18 +33,17 @@ use Rattle.rg_validate.specs.Valid.{is_given}
 use Rattle.rg_machine.specs.Changes.{after_command, created_form, next_id_after}
 use Rattle.rg_machine.specs.Downloads.{From, download, download_with, policy_part, policy_part_by, role_part, role_whole, tag_part, tag_part_by}
 use Rattle.rg_machine.specs.Laws.{from_of, gave_id, is_refused}
-use Rattle.rg_machine.specs.Logs.{Administration, is_log_of, log_at, policy_book, tag_book}
+use Rattle.rg_machine.specs.Logs.{Administration, policy_book, tag_book}
 use Rattle.rg_machine.specs.Machine.{is_unchanged, same_policies, same_roles, same_tags, same_versions, versions}
 use Rattle.rg_machine.specs.Starts.{IsStart}
-use Rattle.rg_machine.specs.Steps.{deletes, downloaded, fault, found, reply_to, step, step_by}
-use Rattle.rg_machine.specs.Views.{facts_with, view}
+use Rattle.rg_machine.specs.Steps.{downloaded, fault, found, reply_to, step, step_by}
+use Rattle.rg_machine.specs.Views.{view}
 use Rattle.rg_machine.proofs.Downloading.{viewed}
 use Rattle.rg_machine.proofs.Happening.{at_below, at_within}
-use Rattle.rg_machine.proofs.Histories.{step_orderly}
 use Rattle.rg_machine.proofs.Ids.{lt_differs, lt_more, lt_next, next_by_one}
 use Rattle.rg_machine.proofs.Lawful.{at_orderly, policy_version_is, service_viewed, state_next, tag_version_is}
 use Rattle.rg_machine.proofs.Lists.{case, find_some}
-use Rattle.rg_machine.proofs.Orderly.{IsOrderly, IsOrderlyState}
+use Rattle.rg_machine.proofs.Orderly.{IsOrderly}
 use Rattle.rg_machine.proofs.Passing.{IsPassed, passed, passed_at}
 
 -- ---- a reply is a refusal exactly where a rule is broken

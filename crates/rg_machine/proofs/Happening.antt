@@ -80,6 +80,24 @@ at_below (x ∷ xs) (suc n) h = at_below xs n (omega (arith, h))
 longer : {X : Type 0} (xs : List X) (x : X) → length (xs ++ x ∷ []) ≡ length xs + 1
 longer xs x = length-append xs (x ∷ [])
 
+-- ---- publications
+
+module _ (P : Parts) (s : P.State) (h : world.History P) (ps : List (world.Publication P)) (right : world.AreRight P s h ps) where
+  -- every publication's entries are there
+  pub seq_low : (i : ℕ) (p : world.Publication P) → slice_get ps i ≡ Some p → p.seq ≤ length h
+  seq_low zero p there = let none = right.first p there in omega (arith, none)
+  seq_low (suc i) p there = let low = right.within i p there in omega (arith, low)
+
+  -- they are right for the history as it goes on
+  pub right_on : (more : world.History P) → world.AreRight P s (h ++ more) ps
+  right_on more = record {
+    numbered = right.numbered;
+    first = right.first;
+    rising = right.rising;
+    within = λ i p there. let low = right.within i p there in let sum = length-append h more in omega (arith, low, sum);
+    viewed = λ i p there. ap P.view (state_at_front P.transition s h more p.seq (seq_low i p there)) ∙ right.viewed i p there;
+  }
+
 module _ (P : Parts) (IsStart : P.State → Type 0) (laws : Laws P IsStart) where
   abbrev E : Type 0
   E = Entry P.Ask P.Reply
@@ -93,20 +111,6 @@ module _ (P : Parts) (IsStart : P.State → Type 0) (laws : Laws P IsStart) wher
 
   abbrev next : P.State → List E → P.Ask → E
   next s h a = entry a (P.transition (state_after P.transition s h) a).1
-
-  -- every publication's entries are there
-  seq_low : (s : P.State) (h : List E) (ps : List (world.Publication P)) → world.AreRight P s h ps → (i : ℕ) (p : world.Publication P) → slice_get ps i ≡ Some p → p.seq ≤ length h
-  seq_low s h ps right zero p there = let none = right.first p there in omega (arith, none)
-  seq_low s h ps right (suc i) p there = let low = right.within i p there in omega (arith, low)
-
-  right_grows : (s : P.State) (h : List E) (e : E) (ps : List (world.Publication P)) → world.AreRight P s h ps → world.AreRight P s (h ++ e ∷ []) ps
-  right_grows s h e ps right = record {
-    numbered = right.numbered;
-    first = right.first;
-    rising = right.rising;
-    within = λ i p there. let low = right.within i p there in let more = longer h e in omega (arith, low, more);
-    viewed = λ i p there. ap P.view (state_kept s h e p.seq (seq_low s h ps right i p there)) ∙ right.viewed i p there;
-  }
 
   -- a document on the way is the download at some place, from the versions of an earlier view
   pub record IsGood (s : P.State) (h : List E) (d : world.Sent P) : Type 0 where
@@ -144,7 +148,7 @@ module _ (P : Parts) (IsStart : P.State → Type 0) (laws : Laws P IsStart) wher
   asked_holds w a holds = record {
     start = holds.start;
     legal = legal_snoc P.transition w.start w.history (next w.start w.history a) holds.legal refl;
-    right = right_grows w.start w.history (next w.start w.history a) (world.publications P w) holds.right;
+    right = right_on P w.start w.history (world.publications P w) holds.right (next w.start w.history a ∷ []);
     sent = λ d there. good_grows w.start w.history (next w.start w.history a) d (holds.sent d there);
     seen = holds.seen;
     tokens = holds.tokens;
@@ -164,7 +168,7 @@ module _ (P : Parts) (IsStart : P.State → Type 0) (laws : Laws P IsStart) wher
       ask = P.download_ask from
 
       low : w.newest.seq ≤ length w.history
-      low = seq_low w.start w.history (world.publications P w) holds.right (length w.older) w.newest (newest_is w)
+      low = seq_low P w.start w.history (world.publications P w) holds.right (length w.older) w.newest (newest_is w)
 
       go : (o : Option P.Document) → P.document_of (P.transition (world.present P w) ask).1 ≡ o → Holds (world.asked P (world.sent_with P w from o) ask)
       go None is = asked_holds w ask holds
@@ -261,7 +265,7 @@ module _ (P : Parts) (IsStart : P.State → Type 0) (laws : Laws P IsStart) wher
       there_at = holds.right.viewed (length w.older) w.newest (newest_is w)
 
       low : w.newest.seq ≤ length w.history
-      low = seq_low w.start w.history ps holds.right (length w.older) w.newest (newest_is w)
+      low = seq_low P w.start w.history ps holds.right (length w.older) w.newest (newest_is w)
 
       more_weight : laws.weight (P.versions w.newest.facts) < laws.weight (P.versions found.0)
       more_weight = subst (λ v. laws.weight v < laws.weight (P.versions found.0)) (good.from ∙ base)

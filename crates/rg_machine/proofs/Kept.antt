@@ -1,5 +1,5 @@
 -- For proofs alone: every step keeps a state valid, so every view of a history is sound.
-use Rattle.std.proofs.Common.{arith, ◌≡◌, ◌↔◌, ◌≤◌, ◌<◌, ◌+◌, ◌^◌, ◌&&◌, min, ℕ, pos, int_lt, Bool, true, false, not, is_none, leb, Contains, List, [], ◌∷◌, length, take, Option, Some, None, refl, ap, sym, ◌∙◌, subst}
+use Rattle.std.proofs.Common.{arith, ◌≡◌, ◌↔◌, ◌≤◌, ◌<◌, ◌+◌, ◌^◌, ◌&&◌, ℕ, pos, int_lt, Bool, true, not, is_none, leb, Contains, List, [], ◌∷◌, length, take, Option, Some, None, refl, ap, sym}
 use Rattle.std.specs.Bool.{IsTrue}
 use Rattle.std.specs.List.{filter, list_all, list_any}
 use Rattle.std.specs.Str.{bytes_eq}
@@ -30,7 +30,6 @@ use Rattle.rg_cmd.specs.declared.ask.AdminCommand.{AdminCommand}
 use Rattle.rg_cmd.specs.declared.ask.AdminCommand.TheVariants.{PutDef, CreateService, UpdateService, DeleteService, CreatePolicy, UpdatePolicy, DeletePolicy, GetPolicy, ListPolicies, PutRole, DeleteRole, PutZone, DeleteZone, PutTags, DeleteTags, PutUser, DeleteUser, Download}
 use Rattle.rg_cmd.specs.declared.ask.AdminReply.{AdminReply}
 use Rattle.rg_cmd.specs.declared.ask.Ask.{Ask}
-use Rattle.rg_cmd.specs.declared.changes.Log.{Log}
 use Rattle.rg_cmd.specs.declared.rule.Rule.{Rule}
 use Rattle.rg_cmd.specs.declared.rule.Rule.TheVariants.{O4, Z6}
 use Rattle.rg_cmd.specs.declared.state.State.{State}
@@ -58,7 +57,7 @@ use Rattle.rg_machine.proofs.Lawful.{at_orderly, count_after, start_orderly}
 use Rattle.rg_machine.proofs.Lists.{all_put, all_snoc, all_weaker, distinct_filtered, distinct_put, filter_all, none_passes, not_true}
 use Rattle.rg_machine.proofs.Orderly.{IsOrderly, IsOrderlyState, is_counted, orderly_after, orderly_refused, policy_ids, row_ids}
 use Rattle.rg_machine.proofs.Parts.{policy_parts, policy_whole, zone_parts, zone_whole}
-use Rattle.rg_machine.proofs.Passing.{IsPassed, passed, passed_at}
+use Rattle.rg_machine.proofs.Passing.{passed, passed_at}
 use Rattle.rg_machine.proofs.SoundViews.{view_sound}
 
 -- ---- the start of a count

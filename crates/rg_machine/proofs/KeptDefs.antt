@@ -3,11 +3,11 @@ use Rattle.std.proofs.Common.{◌≡◌, ◌⊎◌, ◌&&◌, ◌||◌, ℕ, Boo
 use Rattle.std.specs.List.{filter, find, list_all, list_any}
 use Rattle.std.specs.Option.{option_and_then, option_map}
 use Rattle.std.specs.Str.{bytes_eq}
-use Rattle.std.proofs.lemmas.Bool.{and_from, and_parts, false≢true}
-use Rattle.std.proofs.lemmas.Option.{none-some, same_Some}
+use Rattle.std.proofs.lemmas.Bool.{and_parts, false≢true}
+use Rattle.std.proofs.lemmas.Option.{none-some}
 use Rattle.std.proofs.lemmas.Slice.Eq.{bytes_eq-Decides}
-use Rattle.rg_base.proofs.Lists.{Contains-filter, all_holds, among_from, among_holds, among_mapped, any_from, find_contained}
-use Rattle.rg_base.specs.Texts.{all_distinct, is_among}
+use Rattle.rg_base.proofs.Lists.{Contains-filter, all_holds, among_holds, among_mapped, any_from, find_contained}
+use Rattle.rg_base.specs.Texts.{is_among}
 use Rattle.rg_policy.specs.declared.policy.Policy.{Policy}
 use Rattle.rg_defs.specs.Rules.{def_fault, rules_of}
 use Rattle.rg_defs.specs.declared.service_def.ServiceDef.{ServiceDef}
@@ -21,21 +21,20 @@ use Rattle.rg_zones.specs.declared.row.ZoneService.{ZoneService}
 use Rattle.rg_cmd.specs.Lists.{put}
 use Rattle.rg_cmd.specs.Lookups.{def_at, def_of, has_def, is_def, is_service, service_at}
 use Rattle.rg_cmd.specs.declared.ask.AdminCommand.TheVariants.{PutDef}
-use Rattle.rg_cmd.specs.declared.rule.Rule.{Rule}
 use Rattle.rg_cmd.specs.declared.rule.Rule.TheVariants.{C1}
 use Rattle.rg_cmd.specs.declared.state.ServiceRow.{ServiceRow}
 use Rattle.rg_cmd.specs.declared.state.State.{State}
-use Rattle.rg_validate.specs.Definitions.{definition_rule, definition_rules, definition_suits, names_with, policy_suits, services_suit, under, zones_suit}
+use Rattle.rg_validate.specs.Definitions.{definition_rule, definition_rules, definition_suits, names_with, policy_suits, under, zones_suit}
 use Rattle.rg_validate.specs.Failing.{Tested, first_failing}
 use Rattle.rg_validate.specs.Rules.{command_rules}
 use Rattle.rg_validate.specs.Valid.{IsValid, definition_valid, policy_valid, tag_row_valid, zone_valid}
-use Rattle.rg_validate.specs.Zones.{are_apart, are_apart_for, plain_services, tag_services}
+use Rattle.rg_validate.specs.Zones.{are_apart, are_apart_for}
 use Rattle.rg_machine.specs.Changes.{after_command}
 use Rattle.rg_machine.proofs.KeptRoles.{text_turn}
 use Rattle.rg_machine.proofs.Lists.{all_put, all_weaker, case, distinct_put, find_own, replaced}
 use Rattle.rg_machine.proofs.Moves.{def_kept, own_name}
 use Rattle.rg_machine.proofs.Orderly.{services_stay}
-use Rattle.rg_machine.proofs.Parts.{PolicyParts, RowParts, ZoneParts, policy_parts, policy_whole, row_parts, row_whole, zone_parts, zone_whole}
+use Rattle.rg_machine.proofs.Parts.{policy_parts, policy_whole, row_parts, row_whole, zone_parts, zone_whole}
 use Rattle.rg_machine.proofs.Passing.{none_of_both, passed_first}
 
 -- ---- S1 to S8

@@ -1,8 +1,6 @@
 -- For proofs alone: policies and tag rows that are put or taken away keep a state valid.
-use Rattle.std.proofs.Common.{◌≡◌, ◌&&◌, ℕ, ℤ, Bool, true, false, not, Contains, List, [], ◌∷◌, Option, Some, None, refl, ap, sym, ◌∙◌, subst}
-use Rattle.std.specs.List.{filter, list_all, list_any}
+use Rattle.std.proofs.Common.{◌≡◌, ℤ, true, ◌∷◌, Option, Some, None, refl, sym, subst}
 use Rattle.std.proofs.lemmas.Bool.{and_from, and_parts}
-use Rattle.rg_base.specs.Listed.{Listed, listed}
 use Rattle.rg_base.specs.declared.numbers.PolicyId.{PolicyId}
 use Rattle.rg_base.specs.declared.numbers.Version.{Version}
 use Rattle.rg_policy.specs.declared.policy.Policy.{Policy}
@@ -12,21 +10,19 @@ use Rattle.rg_effect.specs.PolicyRules.{entries_fit, lists_fit, outcomes_fit, pr
 use Rattle.rg_resmatch.specs.Rules.{policy_levels_fit, policy_values_fit}
 use Rattle.rg_tags.specs.Rules.{tags_fit}
 use Rattle.rg_tags.specs.declared.row.TagRow.{TagRow}
-use Rattle.rg_cmd.specs.Lists.{put, without}
-use Rattle.rg_cmd.specs.Lookups.{def_of, has_id, has_row_id}
+use Rattle.rg_cmd.specs.Lookups.{def_of}
 use Rattle.rg_cmd.specs.declared.ask.AdminCommand.TheVariants.{CreatePolicy, PutTags, UpdatePolicy}
 use Rattle.rg_cmd.specs.declared.rule.Rule.TheVariants.{G1, G2, G3, V10, V11, V12, V14, V3, V4, V5, V6, V7, V8, V9}
 use Rattle.rg_cmd.specs.declared.state.State.{State}
 use Rattle.rg_validate.specs.Definitions.{policy_suits, under}
-use Rattle.rg_validate.specs.Failing.{Tested, first_failing}
+use Rattle.rg_validate.specs.Failing.{first_failing}
 use Rattle.rg_validate.specs.Policies.{old_form, policy_place_fits, policy_rules, policy_subjects_fit, stays_in, zone_fits}
 use Rattle.rg_validate.specs.Rules.{command_rules, policy_exists, rules_under, service_exists}
 use Rattle.rg_validate.specs.Tags.{tagged_resources_fit, tagged_service_fits}
-use Rattle.rg_validate.specs.Valid.{IsValid, policy_valid, tag_row_valid}
+use Rattle.rg_validate.specs.Valid.{policy_valid, tag_row_valid}
 use Rattle.rg_machine.specs.Changes.{created_form, stored_row, updated_form}
-use Rattle.rg_machine.proofs.Lists.{all_put, all_snoc, filter_all}
 use Rattle.rg_machine.proofs.Orderly.{ServicesValid, def_there}
-use Rattle.rg_machine.proofs.Passing.{none_of_both, passed_at, passed_first}
+use Rattle.rg_machine.proofs.Passing.{passed_at, passed_first}
 
 -- a policy that passes its rules is valid
 pub policy_passes : (s : State) (updated : Option PolicyId) (p : Policy) (def : ServiceDef) → def_of s p.service ≡ Some def → first_failing (policy_rules s updated p def) ≡ None → policy_valid s p ≡ true

@@ -1,19 +1,19 @@
 -- For proofs alone: roles that are put or taken away keep a state valid.
-use Rattle.std.proofs.Common.{◌≡◌, ◌↔◌, ◌⊎◌, ◌&&◌, ◌||◌, ℕ, Bool, true, false, not, is_none, map, Contains, List, [], ◌∷◌, ◌++◌, Option, Some, None, refl, ap, sym, ◌∙◌, subst, inl, inr, cond}
+use Rattle.std.proofs.Common.{◌≡◌, ◌↔◌, ◌⊎◌, ◌||◌, ℕ, Bool, true, false, not, Contains, List, [], ◌∷◌, ◌++◌, None, refl, ap, sym, ◌∙◌, subst, inl, inr, cond}
 use Rattle.std.specs.Bool.{IsTrue}
-use Rattle.std.specs.List.{filter, find, list_all, list_any}
+use Rattle.std.specs.List.{filter, list_all, list_any}
 use Rattle.std.specs.Str.{bytes_eq}
 use Rattle.std.proofs.lemmas.Bool.{and_from, and_parts, false≢true}
-use Rattle.std.proofs.lemmas.List.Elements.{Contains-append_cases, Contains-append_left, Contains-append_right}
+use Rattle.std.proofs.lemmas.List.Elements.{Contains-append_cases, Contains-append_right}
 use Rattle.std.proofs.lemmas.Slice.Eq.{bytes_eq-Decides}
-use Rattle.rg_base.proofs.Lists.{Contains-cases, Contains-filter, Contains-filtered, Contains-first, Contains-later, Contains-map, Contains-mapped, Contains-none, all_from, all_holds, among_from, among_holds, any_from, any_holds}
-use Rattle.rg_base.specs.Texts.{all_distinct, is_among}
-use Rattle.rg_policy.specs.Kinds.{every_item, item_lists}
+use Rattle.rg_base.proofs.Lists.{Contains-cases, Contains-filter, Contains-first, Contains-later, Contains-map, Contains-mapped, Contains-none, all_holds, among_from, among_holds, any_from, any_holds}
+use Rattle.rg_base.specs.Texts.{is_among}
+use Rattle.rg_policy.specs.Kinds.{item_lists}
 use Rattle.rg_policy.specs.declared.policy.Item.{Item}
 use Rattle.rg_policy.specs.declared.policy.Policy.{Policy}
 use Rattle.rg_effect.specs.PolicyRules.{all_among, has_subject, item_subjects_fit, subjects_fit}
 use Rattle.rg_roles.specs.Chains.{Leads, leads}
-use Rattle.rg_roles.specs.Faults.{AreSound, IsApart, IsPut, NamesThere, fault_of, have_own_names}
+use Rattle.rg_roles.specs.Faults.{AreSound, IsApart, IsPut, NamesThere, fault_of}
 use Rattle.rg_roles.specs.Members.{names_of, names_role}
 use Rattle.rg_roles.specs.declared.row.RoleRow.{RoleRow}
 use Rattle.rg_zones.specs.Rules.{subjects_exist}
@@ -24,10 +24,10 @@ use Rattle.rg_cmd.specs.declared.ask.AdminCommand.TheVariants.{DeleteRole, PutRo
 use Rattle.rg_cmd.specs.declared.rule.Rule.TheVariants.{O2, O3, O4}
 use Rattle.rg_cmd.specs.declared.state.State.{State}
 use Rattle.rg_validate.specs.Failing.{first_failing}
-use Rattle.rg_validate.specs.Roles.{goes_in_no_circle, holds_itself, member_roles_exist, other_names_role, policy_names_role, role_is_unused, roles_with, zone_names_role}
+use Rattle.rg_validate.specs.Roles.{goes_in_no_circle, holds_itself, member_roles_exist, other_names_role, policy_names_role, role_is_unused, zone_names_role}
 use Rattle.rg_validate.specs.Rules.{command_rules}
-use Rattle.rg_machine.proofs.Lists.{all_weaker, any_put, case, distinct_put, none_passes, not_true, or_false, replaced}
-use Rattle.rg_machine.proofs.Moves.{other_name, own_name}
+use Rattle.rg_machine.proofs.Lists.{all_weaker, any_put, case, distinct_put, none_passes, not_true, replaced}
+use Rattle.rg_machine.proofs.Moves.{own_name}
 use Rattle.rg_machine.proofs.Passing.{passed_at}
 
 -- ---- more names

@@ -1,6 +1,6 @@
 -- For proofs alone: services that are created, updated or deleted keep a state valid.
 use Rattle.std.proofs.Common.{◌≡◌, ◌⊎◌, ◌&&◌, ◌||◌, ℕ, Bool, true, false, not, cond, is_none, map, Contains, List, [], ◌∷◌, ◌++◌, Option, Some, None, refl, ap, sym, ◌∙◌, subst, inl, inr}
-use Rattle.std.specs.List.{filter, find, flat_map, list_all, list_any}
+use Rattle.std.specs.List.{filter, flat_map, list_any}
 use Rattle.std.specs.Option.{option_and_then}
 use Rattle.std.specs.Str.{bytes_eq}
 use Rattle.std.proofs.lemmas.Bool.{and_from, and_parts, false≢true}
@@ -35,8 +35,8 @@ use Rattle.rg_machine.specs.Changes.{after_command}
 use Rattle.rg_machine.proofs.KeptRoles.{put_cases, put_there, text_turn}
 use Rattle.rg_machine.proofs.Lists.{all_snoc, all_weaker, case, distinct_filtered, distinct_put, distinct_snoc, find_append, find_put, find_some, find_without, none_passes, not_true, one_of_id, or_false, replaced, some_there}
 use Rattle.rg_machine.proofs.Moves.{other_name, own_name}
-use Rattle.rg_machine.proofs.Orderly.{IsUpdate, ServicesValid, def_there, has_row, is_update, new_is_new, services_stay, updated_def, updated_found}
-use Rattle.rg_machine.proofs.Parts.{PolicyParts, RowParts, ZoneParts, policy_parts, policy_whole, row_parts, row_whole, under_on, under_some, zone_parts, zone_whole}
+use Rattle.rg_machine.proofs.Orderly.{IsUpdate, ServicesValid, def_there, is_update, new_is_new, services_stay, updated_def, updated_found}
+use Rattle.rg_machine.proofs.Parts.{ZoneParts, policy_parts, policy_whole, row_parts, row_whole, under_some, zone_parts, zone_whole}
 use Rattle.rg_machine.proofs.Passing.{passed_at}
 
 -- the two states say the same of this name

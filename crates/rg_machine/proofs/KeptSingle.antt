@@ -1,32 +1,28 @@
 -- For proofs alone: V13 holds of each policy after every step, and what else an administration keeps beyond validity.
-use Rattle.std.proofs.Common.{◌≡◌, ◌⊎◌, ◌&&◌, ◌||◌, ℕ, ℤ, pos, int_lt, Bool, true, false, not, cond, Contains, List, [], ◌∷◌, ◌++◌, Option, Some, None, refl, ap, sym, ◌∙◌, subst, inl, inr}
-use Rattle.std.specs.List.{find, list_all, list_any}
-use Rattle.std.specs.Ordering.{int_eq}
-use Rattle.std.specs.Str.{bytes_eq}
-use Rattle.std.proofs.lemmas.Bool.{and_from, and_parts, false≢true}
+use Rattle.std.proofs.Common.{◌≡◌, ◌⊎◌, ◌&&◌, ◌||◌, ℤ, pos, int_lt, Bool, true, false, not, Contains, List, [], ◌∷◌, ◌++◌, Option, Some, None, refl, ap, sym, ◌∙◌, subst, inl, inr}
+use Rattle.std.specs.List.{list_all, list_any}
+use Rattle.std.proofs.lemmas.Bool.{and_parts, false≢true}
 use Rattle.std.proofs.lemmas.Cmp.{int_eq_equiv}
 use Rattle.std.proofs.lemmas.List.Elements.{Contains-append_cases}
-use Rattle.rg_base.proofs.Lists.{Contains-cases, Contains-filtered, Contains-none, all_from, all_holds, any_from}
-use Rattle.rg_base.specs.declared.numbers.PolicyId.{PolicyId}
+use Rattle.rg_base.proofs.Lists.{Contains-cases, Contains-filtered, Contains-none, all_from, all_holds}
 use Rattle.rg_policy.specs.Maps.{maps_of}
 use Rattle.rg_policy.specs.declared.policy.Policy.{Policy}
 use Rattle.rg_policy.specs.declared.policy.ScheduleText.{ScheduleText}
 use Rattle.rg_defs.specs.Rules.{tag_name}
 use Rattle.rg_defs.specs.declared.service_def.ServiceDef.{ServiceDef}
 use Rattle.rg_tags.specs.declared.row.TagRow.{TagRow}
-use Rattle.rg_cmd.specs.Lists.{put, without}
-use Rattle.rg_cmd.specs.Lookups.{def_of, has_def, has_id, has_row_id, is_service, is_tag_service, service_at, tag_row_at}
+use Rattle.rg_cmd.specs.Lists.{put}
+use Rattle.rg_cmd.specs.Lookups.{has_def, has_id, has_row_id, is_service, tag_row_at}
 use Rattle.rg_cmd.specs.declared.ask.AdminCommand.{AdminCommand}
 use Rattle.rg_cmd.specs.declared.ask.AdminCommand.TheVariants.{CreatePolicy, CreateService, DeletePolicy, DeleteService, DeleteTags, PutTags, UpdatePolicy, UpdateService}
 use Rattle.rg_cmd.specs.declared.rule.Rule.TheVariants.{G4, V13}
-use Rattle.rg_cmd.specs.declared.state.ServiceRow.{ServiceRow}
 use Rattle.rg_cmd.specs.declared.state.State.{State}
 use Rattle.rg_validate.specs.Definitions.{plugin_fits}
 use Rattle.rg_validate.specs.Failing.{first_failing}
 use Rattle.rg_validate.specs.Policies.{has_no_twin, is_other, policy_rules}
 use Rattle.rg_validate.specs.Rules.{command_rules, policy_exists, rules_under, service_exists}
 use Rattle.rg_validate.specs.Tags.{row_id_fits, row_stays_in}
-use Rattle.rg_validate.specs.Twins.{each_map_in, is_twin, same_flag, same_kind, same_maps, same_place, same_schedule, same_schedules}
+use Rattle.rg_validate.specs.Twins.{each_map_in, is_twin, same_flag, same_kind, same_maps, same_schedule, same_schedules}
 use Rattle.rg_validate.specs.Valid.{policy_is_single}
 use Rattle.rg_machine.specs.Changes.{after_command, created_form, stored_row, updated_form}
 use Rattle.rg_machine.specs.Steps.{counted}

@@ -1,8 +1,8 @@
 -- For proofs alone: zones that are put or taken away keep a state valid.
-use Rattle.std.proofs.Common.{◌≡◌, ◌&&◌, ◌||◌, ℕ, Bool, true, false, not, is_none, Contains, List, [], ◌∷◌, Option, Some, None, refl, ap, sym, ◌∙◌, subst}
-use Rattle.std.specs.List.{filter, list_all, list_any}
+use Rattle.std.proofs.Common.{◌≡◌, ◌||◌, ℕ, Bool, true, not, is_none, Contains, List, None, refl, ap, sym, ◌∙◌}
+use Rattle.std.specs.List.{filter, list_any}
 use Rattle.std.specs.Str.{bytes_eq}
-use Rattle.std.proofs.lemmas.Bool.{and_from, and_parts, false≢true}
+use Rattle.std.proofs.lemmas.Bool.{and_from, and_parts}
 use Rattle.std.proofs.lemmas.Slice.Eq.{bytes_eq-Decides}
 use Rattle.rg_base.proofs.Lists.{Contains-filter, all_holds, any_from, any_holds}
 use Rattle.rg_base.specs.Texts.{all_distinct, is_empty}
@@ -17,14 +17,12 @@ use Rattle.rg_cmd.specs.declared.ask.AdminCommand.TheVariants.{DeleteZone, PutZo
 use Rattle.rg_cmd.specs.declared.rule.Rule.TheVariants.{Z2, Z3, Z4, Z5, Z7, Z8}
 use Rattle.rg_cmd.specs.declared.state.ServiceRow.{ServiceRow}
 use Rattle.rg_cmd.specs.declared.state.State.{State}
-use Rattle.rg_validate.specs.Definitions.{under}
 use Rattle.rg_validate.specs.Failing.{first_failing}
 use Rattle.rg_validate.specs.Policies.{zone_fits}
 use Rattle.rg_validate.specs.Rules.{command_rules}
 use Rattle.rg_validate.specs.Valid.{zone_valid}
 use Rattle.rg_validate.specs.Zones.{are_apart, are_apart_for, zone_is_unused, zone_keeps, zone_keeps_policies, zone_levels_suit, zone_services_fit, zone_subjects_exist, zone_values_suit}
 use Rattle.rg_machine.proofs.Lists.{all_weaker, any_put, case, distinct_filtered, none_passes, not_true}
-use Rattle.rg_machine.proofs.Moves.{own_name}
 use Rattle.rg_machine.proofs.Parts.{under_on}
 use Rattle.rg_machine.proofs.Passing.{passed_at}
 

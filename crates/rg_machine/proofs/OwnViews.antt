@@ -1,5 +1,5 @@
 -- For proofs alone: what a view doesn't rest on.
-use Rattle.std.proofs.Common.{◌≡◌, ℕ, Bool, false, cond, List, [], ◌∷◌, ◌++◌, Option, Some, None, refl, ap, sym, ◌∙◌}
+use Rattle.std.proofs.Common.{◌≡◌, ℕ, Bool, false, cond, List, ◌∷◌, ◌++◌, Option, Some, None, refl, ap, sym, ◌∙◌}
 use Rattle.std.specs.List.{filter}
 use Rattle.std.proofs.lemmas.List.Elements.{filter-append}
 use Rattle.rg_base.specs.Listed.{listed}
@@ -11,7 +11,7 @@ use Rattle.rg_cmd.specs.declared.changes.Log.{Log}
 use Rattle.rg_cmd.specs.declared.state.ServiceRow.{ServiceRow}
 use Rattle.rg_cmd.specs.declared.state.State.{State}
 use Rattle.rg_machine.specs.Logs.{Administration, log_at}
-use Rattle.rg_machine.specs.Views.{facts_of, facts_with, policies_of, tag_policies_of, tag_rows_of, view}
+use Rattle.rg_machine.specs.Views.{facts_of, facts_with, view}
 use Rattle.rg_machine.specs.Laws.{with_policies, with_tag_rows}
 
 -- an element that fails the test

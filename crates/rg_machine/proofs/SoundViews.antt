@@ -1,5 +1,5 @@
 -- For proofs alone: every view of a valid state is sound where its versions are low enough.
-use Rattle.std.proofs.Common.{arith, length, ◌≡◌, ◌≤◌, ◌^◌, ◌&&◌, ◌||◌, ℕ, ℤ, pos, int_lt, Bool, true, false, not, cond, is_none, leb, map, Contains, List, [], ◌∷◌, ◌++◌, Option, Some, None, refl, ap, sym, ◌∙◌, subst}
+use Rattle.std.proofs.Common.{arith, ◌≡◌, ◌≤◌, ◌^◌, ◌&&◌, ◌||◌, ℕ, pos, int_lt, Bool, true, false, not, cond, is_none, leb, Contains, List, [], ◌∷◌, ◌++◌, Option, Some, None, refl, ap, sym, ◌∙◌, subst}
 use Rattle.std.specs.Option.{option_and_then, option_map}
 use Rattle.std.specs.List.{filter, find, list_all, list_any}
 use Rattle.std.specs.Ordering.{int_eq}
@@ -9,7 +9,7 @@ use Rattle.std.proofs.lemmas.Cmp.{int_eq_equiv}
 use Rattle.std.proofs.lemmas.List.Folds.{list_all-append}
 use Rattle.std.proofs.lemmas.Option.{none-some}
 use Rattle.std.proofs.lemmas.Slice.Eq.{bytes_eq-Decides}
-use Rattle.rg_base.proofs.Lists.{Contains-filtered, all_distinct-map, all_from, all_holds, among_mapped, any_from, any_holds, find_contained}
+use Rattle.rg_base.proofs.Lists.{Contains-filtered, all_distinct-map, all_holds, among_mapped, any_from, any_holds, find_contained}
 use Rattle.rg_base.specs.Texts.{all_distinct, is_among, is_empty}
 use Rattle.rg_policy.specs.declared.policy.Policy.{Policy}
 use Rattle.rg_cond.specs.PolicyRules.{conditions_compile, schedules_read}
@@ -28,28 +28,26 @@ use Rattle.rg_tags.specs.Rules.{tags_fit}
 use Rattle.rg_tags.specs.declared.row.TagRow.{TagRow}
 use Rattle.rg_resmatch.specs.Rules.{policy_levels_fit, policy_values_fit, tagged_fit}
 use Rattle.rg_zones.specs.Overlap.{first_overlap}
-use Rattle.rg_zones.specs.Rules.{entry_levels_fit, entry_values_fit, is_zone_of, listing_fits, lists_each_once, maps_fit, policy_zone_fits, same_name, service_names, subjects_exist, tag_policy_zone_fits, times_listed, times_tagged, zone_levels_fit, zone_values_fit}
+use Rattle.rg_zones.specs.Rules.{entry_levels_fit, entry_values_fit, is_zone_of, listing_fits, maps_fit, policy_zone_fits, same_name, service_names, subjects_exist, tag_policy_zone_fits, times_listed, times_tagged, zone_levels_fit, zone_values_fit}
 use Rattle.rg_zones.specs.Zones.{is_for}
 use Rattle.rg_zones.specs.declared.row.ZoneRow.{ZoneRow}
 use Rattle.rg_zones.specs.declared.row.ZoneService.{ZoneService}
 use Rattle.rg_facts.specs.Candidates.{frame_of}
-use Rattle.rg_facts.specs.Sound.{defs_sound, ids_sound, is_no_policy, is_tag_def, passes, policies_sound, roles_sound, row_ids, row_sound, same_id, sound, tag_def_sound, tag_policies_pass, tag_rows_sound, versions_fit, zone_names_sound, zones_sound}
+use Rattle.rg_facts.specs.Sound.{defs_sound, ids_sound, is_no_policy, is_tag_def, passes, policies_sound, roles_sound, row_sound, same_id, sound, tag_def_sound, tag_policies_pass, tag_rows_sound, versions_fit, zone_names_sound, zones_sound}
 use Rattle.rg_facts.specs.declared.facts.Facts.{Facts}
 use Rattle.rg_cmd.specs.Lookups.{def_at, def_of, has_def, is_def, is_of, is_of_tag, is_row_of, is_service, is_tag_service, service_at, tag_service_of}
 use Rattle.rg_cmd.specs.declared.changes.Log.{Log}
 use Rattle.rg_cmd.specs.declared.state.ServiceRow.{ServiceRow}
 use Rattle.rg_cmd.specs.declared.state.State.{State}
-use Rattle.rg_validate.specs.Definitions.{names_with, policy_suits, under}
-use Rattle.rg_validate.specs.Policies.{policy_subjects_fit, zone_fits}
-use Rattle.rg_validate.specs.Tags.{tagged_resources_fit, tagged_service_fits}
+use Rattle.rg_validate.specs.Definitions.{policy_suits, under}
 use Rattle.rg_validate.specs.Valid.{IsValid, definition_valid, is_given, policy_valid, tag_row_valid, zone_valid}
-use Rattle.rg_validate.specs.Zones.{are_apart, are_apart_for, plain_services, tag_services, zone_levels_suit, zone_services_fit, zone_subjects_exist, zone_values_suit}
+use Rattle.rg_validate.specs.Zones.{are_apart, are_apart_for, plain_services, tag_services}
 use Rattle.rg_machine.specs.Logs.{Administration, log_at}
 use Rattle.rg_machine.specs.Views.{facts_of, view}
-use Rattle.rg_machine.proofs.Downloading.{Viewed, viewed}
+use Rattle.rg_machine.proofs.Downloading.{viewed}
 use Rattle.rg_machine.proofs.Lists.{all_weaker, at_most_one, case, distinct_filtered, distinct_parts, filter_all, find_some, none_left, not_true, one_of_id}
 use Rattle.rg_machine.proofs.Orderly.{has_row}
-use Rattle.rg_machine.proofs.Parts.{PolicyParts, ZoneParts, policy_parts, row_parts, zone_parts}
+use Rattle.rg_machine.proofs.Parts.{ZoneParts, policy_parts, row_parts, zone_parts}
 use Rattle.rg_machine.proofs.Tidy.{not_itself, tag_facts, with_tag}
 
 -- ---- policies

@@ -1,5 +1,5 @@
 // Laws of the administration, each the contract of a function that does nothing.
-ghost use Rattle.std.specs.Prelude.{◌≡◌, ℕ, ◌≤◌, ◌<◌, ◌^◌, ◌∷◌, ◌++◌, [], List, Contains, Some, length, slice_get, is_some, false, true};
+ghost use Rattle.std.specs.Prelude.{◌≡◌, ℕ, ◌≤◌, ◌<◌, ◌^◌, ◌∷◌, ◌++◌, List, Contains, Some, length, slice_get, is_some, false, true};
 ghost use Rattle.std.specs.Ordering.{int_eq};
 ghost use Rattle.rg_turn.specs.History.{IsLegal, state_at};
 ghost use Rattle.rg_turn.specs.declared.rule.Entry.{Entry};
@@ -26,7 +26,7 @@ ghost use Rattle.rg_machine.specs.Machine.{Events, IsOpened, administration, aft
 ghost use Rattle.rg_machine.specs.Starts.{IsStart};
 ghost use Rattle.rg_machine.specs.Steps.{counted, fault, step};
 ghost use Rattle.rg_machine.specs.Views.{view};
-ghost use Rattle.rg_machine.specs.World.{Answer, AreRight, Event, IsAnswered, publications};
+ghost use Rattle.rg_machine.specs.World.{Answer, AreRight, Event, IsAnswered, Publication, publications};
 
 use rg_roles::laws::{leads_is_decided, row_may_be_put, sound_in_lists, unnamed_role_may_go};
 use rg_zones::zones_apart_by_pairs;
@@ -117,6 +117,12 @@ pub fn views_are_sound()
     zones_apart_by_pairs();
 }
 
+/// Publications that are right for a history are right for it as it goes on.
+pub fn publications_stay_right()
+    ensures { (plugin : List ℕ) (start : Administration) (h more : List (Entry Ask AdminReply)) (ps : List (Publication (administration plugin)))
+        → AreRight (administration plugin) start h ps → AreRight (administration plugin) start (h ++ more) ps }
+{}
+
 /// The law of the world. Whatever happens after an administration started, its history is legal and its publications are right
 /// for it, each answer is the evaluation over the last publication that its pass had seen, and how many publications a pass
 /// has seen never falls and is at least each number that it learnt.
@@ -133,7 +139,7 @@ pub fn world()
         → IsAnswered (administration start.state.plugin) (after_events start facts events) a }
     ensures never_falls { (start : Administration) (facts : Facts) (events more : Events start) → IsOpened start facts
         → (pass : ℕ) → (after_events start facts events).seen pass ≤ (after_events start facts (events ++ more)).seen pass }
-    ensures learnt { (start : Administration) (facts : Facts) (events : Events start) → IsOpened start facts
+    ensures learnt { (start : Administration) (facts : Facts) (events more : Events start) → IsOpened start facts
         → (pass which n : ℕ) → slice_get (after_events start facts events).tokens which ≡ Some n
-        → n ≤ (after_events start facts (events ++ Event.Learn pass which ∷ [])).seen pass }
+        → n ≤ (after_events start facts (events ++ Event.Learn pass which ∷ more)).seen pass }
 {}

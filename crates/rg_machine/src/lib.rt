@@ -5,6 +5,6 @@ mod laws;
 
 pub use laws::{
     created_policy_may_go, downloads_lead, ids_are_given_once, plugin_is_always_viewed,
-    refusals_are_exact, states_are_kept, unchanged_from_present_versions, versions_never_fall,
-    views_are_sound, views_rest_on_their_own, world,
+    publications_stay_right, refusals_are_exact, states_are_kept, unchanged_from_present_versions,
+    versions_never_fall, views_are_sound, views_rest_on_their_own, world,
 };

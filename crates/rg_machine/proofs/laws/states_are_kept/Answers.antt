@@ -1,4 +1,4 @@
-use Rattle.rg_machine.proofs.Kept.{Below, states_kept}
+use Rattle.rg_machine.proofs.Kept.{states_kept}
 use Rattle.rg_machine.proofs.laws.states_are_kept.Goals as goal
 
 pub returns : goal.returns

@@ -1,4 +1,4 @@
-use Rattle.rg_machine.proofs.Kept.{Below, views_sound}
+use Rattle.rg_machine.proofs.Kept.{views_sound}
 use Rattle.rg_machine.proofs.laws.views_are_sound.Goals as goal
 
 pub returns : goal.returns

@@ -1,10 +1,10 @@
-use Rattle.std.proofs.Common.{◌≤◌, [], ◌∷◌, refl, subst, sym}
+use Rattle.std.proofs.Common.{arith, ◌≤◌, ◌∷◌, refl, subst, sym}
 use Rattle.rg_facts.specs.declared.facts.Facts.{Facts}
 use Rattle.rg_machine.specs.Logs.{Administration}
 use Rattle.rg_machine.specs.Machine.{Events, IsOpened, administration, after_events}
 use Rattle.rg_machine.specs.World.{opening}
 use Rattle.rg_machine.specs.World as world
-use Rattle.rg_machine.proofs.Happening.{Holds, learnt_is_seen, opens, run_append, run_holds, run_start, seen_never_falls}
+use Rattle.rg_machine.proofs.Happening.{Holds, happens_holds, learnt_is_seen, opens, run_append, run_holds, run_start, seen_never_falls}
 use Rattle.rg_machine.proofs.Lawful.{Starts, laws}
 use Rattle.rg_machine.proofs.laws.world.Goals as goal
 
@@ -33,7 +33,10 @@ returns-clause-never_falls c = λ start facts events more opened pass.
     (seen_never_falls P (Starts start.state.plugin) (laws start.state.plugin) more (after_events start facts events) pass (holds start facts events opened))
 
 pub returns-clause-learnt : goal.returns-clause-learnt
-returns-clause-learnt c = λ start facts events opened pass which n is.
+returns-clause-learnt c = λ start facts events more opened pass which n is.
     let P = administration start.state.plugin in
-    subst (λ (w : world.World P). n ≤ w.seen pass) (sym (run_append P events (world.Event.Learn pass which ∷ []) (opening P start facts)))
-    (learnt_is_seen P (Starts start.state.plugin) (laws start.state.plugin) (after_events start facts events) pass which n is)
+    let w = after_events start facts events in
+    let next = world.happens P w (world.Event.Learn pass which) in
+    let learnt = learnt_is_seen P (Starts start.state.plugin) (laws start.state.plugin) w pass which n is in
+    let later = seen_never_falls P (Starts start.state.plugin) (laws start.state.plugin) more next pass (happens_holds P (Starts start.state.plugin) (laws start.state.plugin) w (world.Event.Learn pass which) (holds start facts events opened)) in
+    subst (λ (x : world.World P). n ≤ x.seen pass) (sym (run_append P events (world.Event.Learn pass which ∷ more) (opening P start facts))) (omega (arith, learnt, later))
