@@ -20,6 +20,3 @@ pub use laws::{
 };
 pub use listing::policies_seen;
 pub use rules::authority_fault;
-
-#[cfg(test)]
-mod tests;

@@ -37,6 +37,3 @@ pub use zones::{
     zone_is_apart, zone_is_unused, zone_keeps_policies, zone_levels_suit, zone_services_fit,
     zone_subjects_exist, zone_values_suit,
 };
-
-#[cfg(test)]
-mod tests;
