@@ -17,5 +17,3 @@ pub use touch::Touch;
 
 #[cfg(test)]
 mod plain_tests;
-#[cfg(test)]
-mod tests;
