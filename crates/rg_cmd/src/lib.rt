@@ -17,6 +17,3 @@ pub use download::{
 };
 pub use rule::Rule;
 pub use state::{ServiceRow, State, UserRow};
-
-#[cfg(test)]
-mod tests;
