@@ -1,13 +1,11 @@
 // What is published for decisions: one publisher, and passes that decide by what was published last.
 #![tactic(auto)]
 
-mod crossing;
 mod history;
 mod pass;
 mod publisher;
 mod shown;
 
-pub use crossing::may_cross_threads;
 pub use history::Publication;
 pub use pass::{Pass, Told};
 pub use publisher::{Publisher, begin};
