@@ -127,10 +127,18 @@ class AdminMaker(maker.Maker):
         return {"tagServiceDef": admin_rules.definition_of(self.state, service), "roles": copy.deepcopy(self.state["roles"]), "zones": [],
                 "policies": [], "serviceDef": {"name": "d"}}
 
+    def resources(self, definition, pattern, sets, whole=True):
+        """A definition may have lost some levels."""
+        there = model.names(definition["resources"])
+        able = [levels for levels in sets if all(name in there for name in levels)]
+        return super().resources(definition, pattern, able or [tuple(there[:1])], whole)
+
     def new_policy(self, service, kind):
         is_tag = service in self.services(True)
         facts = self.tag_facts(service) if is_tag else self.facts_of(service)
-        made = self.policy(0, facts, is_tag, kind)
+        definition = admin_rules.definition_of(self.state, service)
+        able = kind == 0 or definition[["dataMaskDef", "rowFilterDef"][kind - 1]]["accessTypes"]
+        made = {**self.policy(0, facts, is_tag, kind if able else 0), "policyType": kind}
         made.update(service=service, name=self.pick(NAMES_OF_POLICIES), id=self.pick([0, 0, 7]))
         if is_tag:
             able = [zone["name"] for zone in self.state["zones"] if service in zone["tagServices"]]
