@@ -36,7 +36,7 @@ def line(word, *parts):
 class AdminMaker(maker.Maker):
     def __init__(self, seed):
         super().__init__(seed)
-        self.script = None
+        self.script, self.trusted = None, []
 
     # ---- what is there
 
@@ -146,11 +146,41 @@ class AdminMaker(maker.Maker):
         for name in ("policyItems", "denyPolicyItems", "dataMaskPolicyItems"):
             for item in made.get(name, []):
                 item["delegateAdmin"] = self.maybe(.3)
-        return self.delegating(made) if kind == 0 and self.maybe(.15) else made
+        if self.maybe(.25):
+            self.move_under(made)
+        return self.delegating(made) if kind == 0 and self.maybe(.2) else made
+
+    def entry(self, accesses):
+        return {"type": self.pick(accesses), "isAllowed": self.maybe(.8)}
+
+    def move_under(self, made):
+        """To the maps of a policy that delegates, as they are or changed a little, and for those whom it names."""
+        there = [(policy, item) for policy in self.state["policies"] for item in policy["policyItems"]
+                 if policy["service"] == made["service"] and item["delegateAdmin"]]
+        if not there:
+            return
+        policy, item = self.pick(there)
+        maps = [copy.deepcopy(resources) for resources in maker.maps_of(policy)]
+        for resources in maps:
+            for level in resources.values():
+                level["values"] = [value.replace("*", self.pick(["*", "a", "?"])) if self.maybe(.5) else value for value in level["values"]]
+                self.turn(level)
+        self.random.shuffle(maps)
+        made.update(resources=maps[0], additionalResources=maps[1:], zoneName=policy["zoneName"])
+        accesses = [entry["type"] for entry in item["accesses"]]
+        for entry in [entry for name in model.records.ITEM_LISTS for one in made.get(name, []) for entry in one["accesses"]]:
+            entry["type"] = self.pick(accesses) if self.maybe(.7) and made["policyType"] == 0 else entry["type"]
+        self.trusted = item["users"] + [row["name"] for row in self.state["users"] if any(group in item["groups"] for group in row["groups"])]
+
+    def turn(self, level):
+        flag = self.pick(["isRecursive", "isExcludes"] + [""] * 6)
+        if flag:
+            level[flag] = not level[flag]
 
     def delegating(self, made):
         """All accesses of wide resources."""
-        accesses = [{"type": name} for name in (maker.TAG_ACCESSES if made["service"] in TAG_SERVICES else maker.ACCESSES)]
+        names = maker.TAG_ACCESSES[2:] if made["service"] in TAG_SERVICES else maker.ACCESSES
+        accesses = [{"type": name, "isAllowed": self.maybe(.95)} for name in (names if self.maybe(.6) else names[:2])]
         for resources in maker.maps_of(made):
             for resource in resources.values():
                 resource.update(values=self.pick([["*"], ["*"], ["s*", "hr"], resource["values"]]), isExcludes=False)
@@ -170,9 +200,10 @@ class AdminMaker(maker.Maker):
         elif way in ("same name", "same maps") and there:
             other = self.pick(there)
             keys = ["service", "zoneName"] + (["name"] if way == "same name" else
-                                              ["policyType", "policyPriority", "validitySchedules", "isEnabled", *model.records.ITEM_LISTS])
+                                              ["policyType", "policyPriority", "validitySchedules", *model.records.ITEM_LISTS])
             made.update({key: copy.deepcopy(other[key]) for key in keys})
             if way == "same maps":
+                made["isEnabled"] = other["isEnabled"] or self.maybe(.5)
                 self.take_maps(made, other)
         elif way == "zone":
             made["zoneName"] = self.pick(["nowhere"] + model.names(self.state["zones"]))
@@ -243,7 +274,7 @@ class AdminMaker(maker.Maker):
 
     def change_definition(self, made):
         levels, masks = made["resources"], made["dataMaskDef"]
-        way = self.pick(["setting", "setting", "setting", "level", "access", "condition", "mask", "parts", "more", "nothing", "fold"])
+        way = self.pick(["setting", "setting", "setting", "level", "level", "access", "condition", "mask", "parts", "more", "nothing", "fold"])
         if way == "setting":
             level = self.pick(levels)
             key = self.pick(["mandatory", "recursiveSupported", "excludesSupported"])
@@ -252,7 +283,9 @@ class AdminMaker(maker.Maker):
             for level in levels:
                 level["matcherOptions"] = {"wildCard": self.maybe(.8), "ignoreCase": True}
         elif way == "level" and len(levels) > 1:
-            self.drop_level(made, levels.pop()["name"])
+            leaves = [level for level in levels if all(other["parent"] != level["name"] for other in levels)]
+            levels.remove(self.pick(leaves))
+            self.drop_levels(made)
         elif way == "access" and len(made["accessTypes"]) > 2:
             made["accessTypes"] = [kind for kind in made["accessTypes"] if "super" not in kind["name"] and "other" not in kind["name"]]
         elif way == "condition" and made["policyConditions"]:
@@ -265,9 +298,9 @@ class AdminMaker(maker.Maker):
             made["accessTypes"].append({"name": "extra%d" % self.random.randint(1, 3)})
 
     @staticmethod
-    def drop_level(made, name):
+    def drop_levels(made):
         for part in ("dataMaskDef", "rowFilterDef"):
-            made[part]["resources"] = [one for one in made[part]["resources"] if one["name"] != name]
+            made[part]["resources"] = [one for one in made[part]["resources"] if one["name"] in model.names(made["resources"])]
 
     def createService(self):
         free = [name for name in PLAIN_SERVICES + TAG_SERVICES if name not in model.names(self.state["services"])]
@@ -393,6 +426,9 @@ class AdminMaker(maker.Maker):
     def actor(self, command, fields):
         """Of a policy that is there, at times somebody who may administer it."""
         able = command in ("createPolicy", "updatePolicy", "deletePolicy", "getPolicy", "listPolicies", "download")
+        trusted, self.trusted = self.trusted, []
+        if command in ("createPolicy", "updatePolicy") and trusted and self.maybe(.6):
+            return self.pick(trusted)
         if self.maybe(.65 if able else .85):
             return "root"
         there = admin_rules.numbered(self.state["policies"], fields.get("id", fields.get("policy", {}).get("id")))
