@@ -679,9 +679,9 @@ def deepest_value(definition, elements):
 
 # ---- scripts
 
-def printed(facts, verdict):
+def printed(facts, verdict, serial=1):
     return json.dumps({"access": verdict.access, "audited": verdict.audited, "mask": verdict.mask, "policyId": verdict.policy,
-                       "policyVersion": facts["policyVersion"], "rowFilter": verdict.row_filter, "serial": 1,
+                       "policyVersion": facts["policyVersion"], "rowFilter": verdict.row_filter, "serial": serial,
                        "tagVersion": facts["tagVersion"]}, separators=(",", ":"), ensure_ascii=False)
 
 

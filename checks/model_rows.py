@@ -1,7 +1,12 @@
-"""Worked examples whose answers are written in the rules, tried on the model. usage: checks/model_rows.py"""
+"""Worked examples whose answers are written in the rules, and the stored runs, tried on the model. usage: checks/model_rows.py"""
 
+import pathlib
+
+import admin_model
 import model
 import records
+
+TOP = pathlib.Path(__file__).resolve().parent.parent
 
 SELECT = [{"type": "select"}]
 TAG_SELECT = [{"type": "hive:select"}]
@@ -229,8 +234,19 @@ def masks_and_filters():
     assert model.first_fault(facts({**select, "conditions": unsupported})) == "V9"
 
 
+def stored_runs():
+    """Every run of `replay` that the gate keeps, and the examples that have their output beside them."""
+    runs = [folder for folder in sorted((TOP / "crates").iterdir()) if (folder / "stdin").exists() and (folder / "stdout").exists()]
+    cases = [(run.name, run / "stdin", run / "stdout", run / "status") for run in runs if (run / "args").read_text().split() == ["replay"]]
+    cases += [(out.name, out.with_suffix(".script"), out, TOP / "none") for out in sorted((TOP / "examples").glob("*.out"))]
+    assert len(cases) >= 7
+    for name, script, out, status in cases:
+        text, number, cause = admin_model.worked(script.read_bytes())
+        assert (text, number) == (out.read_text(), int(status.read_text()) if status.exists() else 0), (name, cause)
+
+
 EXAMPLES = (resource_policies, resources, additional_maps, schedules_and_conditions, roles, zones, tags, eight_cells, two_tags, tags_in_zones,
-            masks_and_filters)
+            masks_and_filters, stored_runs)
 for example in EXAMPLES:
     example()
 print("%d groups of examples agree" % len(EXAMPLES))

@@ -1,0 +1,10 @@
+// `rangerd replay` over a configuration, a created policy, refreshes and decisions.
+#![tactic(auto)]
+
+use std::process::ExitCode;
+use std::{env, io};
+
+fn main(rt: HostRuntime) -> io::Result<ExitCode> {
+    let words: Vec<String> = env::args(&rt)?.skip(1).collect(rt.alloc())?;
+    rg_run::start(&rt, words.as_slice())
+}
