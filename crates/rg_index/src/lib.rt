@@ -1,0 +1,14 @@
+// Which policies and tag rows are asked about a resource: their resource maps, filed by the literal prefixes of their values.
+#![tactic(auto)]
+
+mod candidates;
+mod form;
+mod forms;
+mod index;
+mod keys;
+mod level_trie;
+mod origin;
+
+pub use candidates::Candidates;
+pub use form::Form;
+pub use index::Index;
