@@ -1,0 +1,7 @@
+mod Bare
+mod Changing
+mod Choosing
+mod Found
+mod Keying
+mod Lists
+mod Ordered

@@ -1,5 +1,5 @@
 -- For proofs alone: what the tries of an index hold.
-use Rattle.std.specs.Prelude.{◌≡◌, ℕ, ℤ, Bool, true, List, [], ◌∷◌, ◌++◌, fold, map, Option, Some, None, if◌then◌else◌}
+use Rattle.std.specs.Prelude.{◌≡◌, ℕ, ℤ, Bool, true, nat_lt, List, [], ◌∷◌, ◌++◌, fold, map, Option, Some, None, if◌then◌else◌}
 use Rattle.std.specs.List.{flat_map, list_all}
 use Rattle.std.specs.Str.{bytes_eq}
 use Rattle.rg_defs.specs.declared.service_def.Level.{Level}
@@ -90,3 +90,8 @@ entries_of all = map (λ (p : Pair). p.entry) all
 
 abbrev pub entry_ids : List Filed → List ℤ
 entry_ids entries = map (λ (e : Filed). e.id) entries
+
+-- the element with its number, where that is less than that of the best so far
+abbrev pub lesser : {X : Type 0} → Option (X × ℕ) → X → ℕ → Option (X × ℕ)
+lesser None x n = Some (x, n)
+lesser (Some best) x n = if nat_lt n best.1 then Some (x, n) else Some best

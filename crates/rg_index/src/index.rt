@@ -6,7 +6,7 @@ ghost use Rattle.rg_defs.specs.Rules.{def_fault};
 ghost use Rattle.rg_index.specs.Candidates.{bound, candidates, fewest, filed_number, in_order};
 ghost use Rattle.rg_index.specs.Changes.{IsAmong, changed, forms_fit, given_fits, given_pairs, ids_differ, is_free};
 ghost use Rattle.rg_index.specs.Filing.{EditsWithin, filed, pairs};
-ghost use Rattle.rg_index.specs.Kept.{LevelPairs, built, edited, entries_of, given_keys, is_given_written, is_written, level_keys};
+ghost use Rattle.rg_index.specs.Kept.{LevelPairs, built, edited, entries_of, given_keys, is_given_written, is_written, lesser, level_keys};
 ghost use Rattle.rg_defs.specs.declared.service_def.Level.{Level};
 ghost use Rattle.rg_index.specs.declared.form.Form.{Form};
 ghost use Rattle.rg_resmatch.specs.Tests.{some_lies, tag_elements, value_at};
@@ -172,15 +172,13 @@ impl Index {
         ensures { option_map (λ e. e.now) result ≡ fewest self.now.def self.now.forms elements.now }
     {
         let mut best = None;
-        let mut least = 0;
         for element in elements {
-            let count = self.count_for(elements, element);
-            if best.is_none() || count < least {
-                best = Some(element);
-                least = count;
-            }
+            best = lesser(best, element, self.count_for(elements, element));
         }
-        best
+        match best {
+            Some((element, _)) => Some(element),
+            None => None,
+        }
     }
 
     /// The ids of the forms that are filed at the level of the resource at which fewest are, the first of such: those
@@ -208,6 +206,20 @@ impl Index {
             → some_lies self.now.def form.maps.items form.reach (tag_elements (chars tag.now)) user ≡ true → Contains result form.id }
     {
         Candidates::of(self.walk(tag_name(), tag))
+    }
+}
+
+/// The element with its count, where that is less than the count of the best so far.
+fn lesser<'a>(
+    best: Option<(&'a Element, usize)>,
+    element: &'a Element,
+    count: usize,
+) -> Option<(&'a Element, usize)>
+    ensures { option_map (λ p. (p.0.now, p.1)) result ≡ lesser (option_map (λ p. (p.0.now, p.1)) best.entry) element.now count }
+{
+    match best {
+        Some((_, least)) if least <= count => best,
+        _ => Some((element, count)),
     }
 }
 

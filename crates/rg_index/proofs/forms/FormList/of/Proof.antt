@@ -1,7 +1,7 @@
 -- A list that owns nothing is made of nothing, so it may be any.
 use Rattle.std.proofs.Common.{List, [], ◌∷◌, ◌++◌, refl}
 use Rattle.std.proofs.raw_atomic.Walks.{proved_at}
-use Rattle.rg_base.proofs.Bare.{Bare, bare, from_nothing}
+use Rattle.rg_index.proofs.Bare.{Bare, bare, from_nothing}
 use base.Fml.{ftrue}
 use base.Logic.{ent}
 use contract.Monad.{fact_i}
@@ -51,4 +51,4 @@ of_spec 𝓤 𝓛 𝓜 𝓡 wired =
     returns ! (look_at ! 0 refl) $ free_all ! refl $
     use0 𝓛 (‵ ((Bare (it.the_type).name).own_val (tt, tt) (bare ∷ []))) (from_nothing (it.the_type).name 𝓛) $
     suffices ! _ (ends_at 𝓛 f.ended stayed c y bare made (tt, tt) (tt, tt)) $ says ! refl $
-    nothing ! $ nothing ! $ fjoin ! $ join ! $ move ! (1 ∷ 0 ∷ []) $ join ! $ done !)))
+    nothing ! $ move ! (1 ∷ 0 ∷ []) $ fjoin ! $ nothing ! $ nothing ! $ fjoin ! $ join ! $ move ! (1 ∷ 0 ∷ []) $ join ! $ done !)))
