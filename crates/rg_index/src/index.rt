@@ -14,6 +14,7 @@ ghost use Rattle.rg_resmatch.specs.Tests.{some_lies, tag_elements, value_at};
 use crate::candidates::Candidates;
 use crate::form::Form;
 use crate::forms::FormList;
+use crate::laws::lying_forms_are_candidates;
 use crate::level_trie::LevelTrie;
 use crate::origin::Origin;
 use rg_base::{Ledger, NoMemory, Steps, find_named};
@@ -190,6 +191,7 @@ impl Index {
         ensures all { (form : Form) (user : List ℕ) → Contains self.now.forms form
             → some_lies self.now.def form.maps.items form.reach resource.now.elements.items user ≡ true → Contains result form.id }
     {
+        lying_forms_are_candidates();
         let elements = resource.elements.as_slice();
         let Some(element) = self.fewest(elements) else {
             return Candidates::of(self.nothing.walk("", false));
@@ -205,6 +207,7 @@ impl Index {
         ensures all { (form : Form) (user : List ℕ) → Contains self.now.forms form
             → some_lies self.now.def form.maps.items form.reach (tag_elements (chars tag.now)) user ≡ true → Contains result form.id }
     {
+        lying_forms_are_candidates();
         Candidates::of(self.walk(tag_name(), tag))
     }
 }
@@ -218,8 +221,14 @@ fn lesser<'a>(
     ensures { option_map (λ p. (p.0.now, p.1)) result ≡ lesser (option_map (λ p. (p.0.now, p.1)) best.entry) element.now count }
 {
     match best {
-        Some((_, least)) if least <= count => best,
-        _ => Some((element, count)),
+        Some((held, least)) => {
+            if count < least {
+                Some((element, count))
+            } else {
+                Some((held, least))
+            }
+        }
+        None => Some((element, count)),
     }
 }
 

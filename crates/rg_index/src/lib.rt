@@ -6,9 +6,11 @@ mod form;
 mod forms;
 mod index;
 mod keys;
+mod laws;
 mod level_trie;
 mod origin;
 
 pub use candidates::Candidates;
 pub use form::Form;
 pub use index::Index;
+pub use laws::lying_forms_are_candidates;
