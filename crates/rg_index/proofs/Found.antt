@@ -94,6 +94,14 @@ module _ (def : ServiceDef) (forms : List Form) where
   filed_apart (Some l) name value apart =
       length_in_order (filter (is_under (folded l.fold value)) (all_pairs def name forms)) (apart_filter (is_under (folded l.fold value)) (all_pairs def name forms) (all_apart def name forms apart))
 
+  -- of one element, what is filed at its level
+  pub one_element : (e : Element) → candidates def forms (e ∷ []) ≡ ids_of (in_order (filed def forms e.level e.value))
+  one_element e =
+      ap (λ b. ids_for def forms (e ∷ []) (cond b (Some e) None)) (same (filed_number def forms (e ∷ []) e))
+      ∙ ap (λ b. ids_of (in_order (filed def forms e.level (unwrap_or (option_map (λ (e : Element). e.value) (cond b (Some e) None)) [])))) ((bytes_eq-Decides e.level e.level).1 refl) where
+        same : (n : ℕ) → nat_eq n n ≡ true
+        same n = grind arith
+
   -- the candidates are as many as the bound says
   pub as_many : ids_differ forms ≡ true → (elements : List Element) → length (candidates def forms elements) ≡ bound def forms elements
   as_many apart elements = at elements (fewest def forms elements) refl where

@@ -9,6 +9,7 @@ ghost use Rattle.rg_index.specs.Filing.{EditsWithin, filed, pairs};
 ghost use Rattle.rg_index.specs.Kept.{LevelPairs, built, edited, entries_of, given_keys, is_given_written, is_written, lesser, level_keys};
 ghost use Rattle.rg_defs.specs.declared.service_def.Level.{Level};
 ghost use Rattle.rg_index.specs.declared.form.Form.{Form};
+ghost use Rattle.rg_policy.specs.declared.request.Element.{Element};
 ghost use Rattle.rg_resmatch.specs.Tests.{some_lies, tag_elements, value_at};
 
 use crate::candidates::Candidates;
@@ -140,6 +141,15 @@ impl Index {
         })
     }
 
+    /// The law of forms: no two have one id, and they fit the definition, which passes its rules. The call does nothing.
+    pub fn law_of_forms(&self)
+        ensures lawful { def_fault self.now.def ≡ None }
+        ensures apart { ids_differ self.now.forms ≡ true }
+        ensures fit { forms_fit self.now.def self.now.forms ≡ true }
+    {
+        let _levels = &self.levels;
+    }
+
     /// A walk over what is filed at the level of this name for the value.
     fn walk<'a>(&'a self, name: &str, value: &'a str) -> Walk<'a>
         ensures { result ≡ entries_of (in_order (filed self.now.def self.now.forms (chars name.now) (chars value.now))) }
@@ -176,10 +186,7 @@ impl Index {
         for element in elements {
             best = lesser(best, element, self.count_for(elements, element));
         }
-        match best {
-            Some((element, _)) => Some(element),
-            None => None,
-        }
+        element_of(best)
     }
 
     /// The ids of the forms that are filed at the level of the resource at which fewest are, the first of such: those
@@ -192,12 +199,15 @@ impl Index {
             → some_lies self.now.def form.maps.items form.reach resource.now.elements.items user ≡ true → Contains result form.id }
     {
         lying_forms_are_candidates();
+        self.law_of_forms();
         let elements = resource.elements.as_slice();
-        let Some(element) = self.fewest(elements) else {
-            return Candidates::of(self.nothing.walk("", false));
-        };
-        let name = element.level.as_str();
-        Candidates::of(self.walk(name, value_for(elements, name)))
+        match self.fewest(elements) {
+            Some(element) => {
+                let name = element.level.as_str();
+                Candidates::of(self.walk(name, value_for(elements, name)))
+            }
+            None => Candidates::of(self.nothing.walk("", false)),
+        }
     }
 
     /// As `candidates`, for a resource whose one element has the level `tag` and this value.
@@ -208,6 +218,7 @@ impl Index {
             → some_lies self.now.def form.maps.items form.reach (tag_elements (chars tag.now)) user ≡ true → Contains result form.id }
     {
         lying_forms_are_candidates();
+        self.law_of_forms();
         Candidates::of(self.walk(tag_name(), tag))
     }
 }
@@ -229,6 +240,15 @@ fn lesser<'a>(
             }
         }
         None => Some((element, count)),
+    }
+}
+
+fn element_of<'a>(best: Option<(&'a Element, usize)>) -> Option<&'a Element>
+    ensures { option_map (λ e. e.now) result ≡ option_map (λ (p : Element × ℕ). p.0) (option_map (λ p. (p.0.now, p.1)) best.entry) }
+{
+    match best {
+        Some((element, _)) => Some(element),
+        None => None,
     }
 }
 
