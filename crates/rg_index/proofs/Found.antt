@@ -145,8 +145,7 @@ module _ (stand : StandsLaw) (prefix : PrefixLaw) (twinned : TwinLaw) (def : Ser
   hit_key l r user value off e = elim (or_cases (any_stands l.fold user value (patterns_of l r)) (r.recursive && any_stands l.fold user value (map twin (patterns_of l r))) e) [
     | inl now ↦
         let p = any_holds (λ p. stands l.fold user p value) (patterns_of l r) now in
-        let t = Contains-mapped (atoms_of l.wild) r.values.items p.0 p.1 in
-        (
+        let t = Contains-mapped (atoms_of l.wild) r.values.items p.0 p.1 in (
           literal_prefix l.fold (atoms_of l.wild t.0),
           Contains-map (λ t. literal_prefix l.fold (atoms_of l.wild t)) r.values.items t.0 t.1,
           ap (λ q. starts_with nat_eq (folded l.fold value) (literal_prefix l.fold q)) t.2 ∙ prefix l.fold user p.0 value ((stand l.fold user p.0 value).0 p.2),
@@ -155,12 +154,11 @@ module _ (stand : StandsLaw) (prefix : PrefixLaw) (twinned : TwinLaw) (def : Ser
         let h = (and_parts r.recursive (any_stands l.fold user value (map twin (patterns_of l r))) below).1 in
         let w = any_holds (λ p. stands l.fold user p value) (map twin (patterns_of l r)) h in
         let p = Contains-mapped twin (patterns_of l r) w.0 w.1 in
-        let t = Contains-mapped (atoms_of l.wild) r.values.items p.0 p.1 in
-        (
+        let t = Contains-mapped (atoms_of l.wild) r.values.items p.0 p.1 in (
           literal_prefix l.fold (atoms_of l.wild t.0),
           Contains-map (λ t. literal_prefix l.fold (atoms_of l.wild t)) r.values.items t.0 t.1,
           ap (λ q. starts_with nat_eq (folded l.fold value) (literal_prefix l.fold q)) t.2
-          ∙ twinned l.fold user p.0 value (subst (λ q. Stands l.fold user q value) (sym p.2) ((stand l.fold user w.0 value).0 w.2)),
+              ∙ twinned l.fold user p.0 value (subst (λ q. Stands l.fold user q value) (sym p.2) ((stand l.fold user w.0 value).0 w.2)),
         )
   ]
 
@@ -206,8 +204,7 @@ module _ (stand : StandsLaw) (prefix : PrefixLaw) (twinned : TwinLaw) (def : Ser
       let r = any_holds (λ (r : PolicyResource). bytes_eq r.level name) m.levels.items named in
       let same : r.0.level ≡ name = (bytes_eq-Decides r.0.level name).0 r.2 in
       let hit = ap (λ (o : Option (List ℕ)). meets def user r.0 o) (sym (ap (value_at elements) same ∙ given)) ∙ all_holds (λ (r : PolicyResource). meets def user r (value_at elements r.level)) m.levels.items met r.0 r.1 in
-      let k = resource_keyed stand prefix twinned def r.0 user value (level_of def r.0.level) refl hit in
-      (
+      let k = resource_keyed stand prefix twinned def r.0 user value (level_of def r.0.level) refl hit in (
         k.0,
         k.1,
         ap (level_of def) (sym same) ∙ k.2,
@@ -223,14 +220,13 @@ module _ (stand : StandsLaw) (prefix : PrefixLaw) (twinned : TwinLaw) (def : Ser
       let path = any_holds (λ path. list_all (lies_on def.levels.items path) (levels_of m.levels.items elements)) (paths_of def.levels.items) on in
       let l = level_on_path def.levels.items path.0 name (all_holds (lies_on def.levels.items path.0) (levels_of m.levels.items elements) path.2 name among) in
       let known = is_known def.levels.items l.0 name l.1 l.2 in
-      let lacks : not (names_level m.levels.items l.0.name) ≡ true = not_from_false _ (ap (names_level m.levels.items) l.2 ∙ unnamed) in
-      (
+      let lacks : not (names_level m.levels.items l.0.name) ≡ true = not_from_false _ (ap (names_level m.levels.items) l.2 ∙ unnamed) in (
         known.0,
         record { level = l.0.name; key = [] },
         known.1,
         Contains-append_right (flat_map (resource_filings def) m.levels.items) (lacked_filings Down def m.levels.items) _
-        (Contains-map (λ (l : Level). record { level = l.name; key = [] }) (filter (λ (l : Level). not (names_level m.levels.items l.name)) def.levels.items) l.0
-        (Contains-filter (λ (l : Level). not (names_level m.levels.items l.name)) def.levels.items l.0 l.1 lacks)),
+            (Contains-map (λ (l : Level). record { level = l.name; key = [] }) (filter (λ (l : Level). not (names_level m.levels.items l.name)) def.levels.items) l.0
+            (Contains-filter (λ (l : Level). not (names_level m.levels.items l.name)) def.levels.items l.0 l.1 lacks)),
         (bytes_eq-Decides l.0.name name).1 l.2,
         empty_begins (folded known.0.fold value),
       )
@@ -271,11 +267,10 @@ module _ (stand : StandsLaw) (prefix : PrefixLaw) (twinned : TwinLaw) (def : Ser
       (Contains-filter (λ (f : Filing). bytes_eq f.level e.level) (filings def form) k.1 filing k.4) in
       let q = numbered_has form.id 0 (keys_at def form e.level) k.1.key key in
       let under : is_under (folded k.0.fold value.0) q.0 ≡ true = ap (starts_with nat_eq (folded k.0.fold value.0)) q.3 ∙ k.5 in
-      let held = Contains-filter (is_under (folded k.0.fold value.0)) (all_pairs def e.level forms) q.0 (Contains-flat_map (form_pairs def e.level) forms form q.0 there q.1) under in
-      (
+      let held = Contains-filter (is_under (folded k.0.fold value.0)) (all_pairs def e.level forms) q.0 (Contains-flat_map (form_pairs def e.level) forms form q.0 there q.1) under in (
         q.0,
         subst (λ (all : List Pair). Contains all q.0)
-        (sym (ap (λ (o : Option (List ℕ)). filed def forms e.level (unwrap_or o [])) value.1 ∙ ap (λ (o : Option Level). filed_under o value.0 (all_pairs def e.level forms)) k.2)) held,
+            (sym (ap (λ (o : Option (List ℕ)). filed def forms e.level (unwrap_or o [])) value.1 ∙ ap (λ (o : Option Level). filed_under o value.0 (all_pairs def e.level forms)) k.2)) held,
         q.2,
       )
 

@@ -18,6 +18,6 @@ loop-place-preserved g c =
     let held = c.deref.ensures ∙ c.loop-place.invariant.so_far in
     record {
       so_far = c.in_ok-trie.ensures.ok ∙ c.in_ok-next.ensures.made ∙ (λ k. without_pair (record { key = c.as_str.ensures.read k; entry = entry k }) (held k))
-      ∙ sym (taken_more (arc_value c.args.trie) id keys i key within c.index-keys-place.is);
+          ∙ sym (taken_more (arc_value c.args.trie) id keys i key within c.index-keys-place.is);
       counted = one_more i c.args.steps.now c.loop-place.steps c.remove.new.steps c.loop-place.invariant.counted c.remove.ensures.counted;
     }

@@ -58,8 +58,7 @@ invariant_of-result g c =
     let later = c.in_ok-levels.levels.items in
     let held = seen def _ self levels c.self.view_is c.requires.same c.self.invariant.1 in
     let made = is_edited def held.lawful self.forms old new held.apart c.requires.old levels later held.fit c.requires.free c.requires.fit held.levels_hold (c.in_ok-levels.ensures.edited ∙ ap (map (edited old new)) c.deref.ensures.value) in
-    let forms = c.of-2.ensures ∙ ap (λ (x : Indexed). changed x.forms old new) c.self.view_is in
-    (
+    let forms = c.of-2.ensures ∙ ap (λ (x : Indexed). changed x.forms old new) c.self.view_is in (
       c.empty.ensures,
       subst (λ (d : ServiceDef). IsIndexed d c.of-2.result.forms later) (sym c.of.ensures) (subst (λ (fs : List Form). IsIndexed def fs later) (sym forms) made),
     )

@@ -34,8 +34,7 @@ invariant_of-result g c =
     let def = c.args.def.now in
     let forms = c.args.forms.now in
     let levels = c.in_ok-levels.levels.items in
-    let made = is_built def c.requires.lawful forms levels c.requires.apart c.requires.fit (c.in_ok-levels.ensures.built ∙ ap (map (built forms)) c.as_slice.ensures) in
-    (
+    let made = is_built def c.requires.lawful forms levels c.requires.apart c.requires.fit (c.in_ok-levels.ensures.built ∙ ap (map (built forms)) c.as_slice.ensures) in (
       c.empty.ensures,
       subst (λ (d : ServiceDef). IsIndexed d c.of-2.result.forms levels) (sym c.of.ensures) (subst (λ (fs : List Form). IsIndexed def fs levels) (sym c.of-2.ensures) made),
     )
