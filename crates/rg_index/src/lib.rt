@@ -2,6 +2,7 @@
 #![tactic(auto)]
 
 mod candidates;
+mod checks;
 mod form;
 mod forms;
 mod index;
@@ -11,6 +12,10 @@ mod level_trie;
 mod origin;
 
 pub use candidates::Candidates;
+pub use checks::{forms_fit, ids_differ};
 pub use form::Form;
 pub use index::Index;
 pub use laws::lying_forms_are_candidates;
+
+#[cfg(test)]
+mod tests;
