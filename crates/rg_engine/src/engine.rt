@@ -1,9 +1,9 @@
 // The engine of one service.
-ghost use Rattle.std.specs.Prelude.{◌≡◌, ◌≤◌, ◌+◌, IfOk, IfErr, Err, None, true};
+ghost use Rattle.std.specs.Prelude.{◌≡◌, ◌≤◌, IfOk, IfErr, Err, None, true};
 ghost use Rattle.rg_delta.specs.Applied.{applied};
 ghost use Rattle.rg_engine.specs.Bases.{Tells, wrong_base};
 ghost use Rattle.rg_engine.specs.declared.fault.ApplyFault.TheVariants.{WrongBase};
-ghost use Rattle.rg_engine.specs.Bounds.{made, policies_in};
+ghost use Rattle.rg_engine.specs.Bounds.{TriesWithin, WorkWithin, bound_on, made, pairs_in, pairs_of_changes, policies_in};
 ghost use Rattle.rg_facts.specs.Flow.{eval};
 ghost use Rattle.rg_facts.specs.Sound.{sound};
 ghost use Rattle.rg_facts.specs.Texts.{decide};
@@ -70,8 +70,7 @@ impl Engine {
     ) -> Result<Engine, NoMemory>
         requires { sound facts ≡ true }
         ensures facts { IfOk result (λ e. e ≡ facts) }
-        ensures compiles { steps.new.compiles ≤ steps.old.compiles + policies_in facts }
-        ensures tries { steps.new.tries ≡ steps.old.tries }
+        ensures steps { WorkWithin (policies_in facts) (pairs_in facts) steps.old steps.new }
     {
         let plain = Plain::build(alloc, facts)?;
         Ok(Engine { plain })
@@ -92,8 +91,7 @@ impl Engine {
         ensures facts { IfOk result (λ e. e ≡ applied self.now policies.now tags.now roles.now) }
         ensures bases { IfOk result (λ _. wrong_base self.now policies.now tags.now roles.now ≡ None) }
         ensures fault { IfErr result (λ f. Tells f (wrong_base self.now policies.now tags.now roles.now)) }
-        ensures compiles { steps.new.compiles ≤ steps.old.compiles + made policies.now.changes.items }
-        ensures tries { steps.new.tries ≡ steps.old.tries }
+        ensures steps { WorkWithin (made policies.now.changes.items) (pairs_of_changes self.now policies.now tags.now) steps.old steps.new }
     {
         check_bases(self.plain.facts(), policies, tags, roles)?;
         let facts = self.plain.facts().try_copy(alloc)?;
@@ -105,8 +103,7 @@ impl Engine {
     /// The written flow over all policies and tags. It takes no memory, and always answers.
     pub fn verdict<L: Ledger>(&self, request: &AccessRequest, steps: &mut Steps<L>) -> Verdict
         ensures verdict { result ≡ eval self.now request.now }
-        ensures compiles { steps.new.compiles ≡ steps.old.compiles }
-        ensures edits { steps.new.edits ≡ steps.old.edits }
+        ensures steps { TriesWithin (bound_on self.now request.now) steps.old steps.new }
     {
         self.plain.scan(request)
     }
@@ -119,8 +116,7 @@ impl Engine {
         steps: &mut Steps<L>,
     ) -> Result<Decision, NoMemory>
         ensures decision { IfOk result (λ d. d ≡ decide self.now request.now (record { 0 = 0 })) }
-        ensures compiles { steps.new.compiles ≡ steps.old.compiles }
-        ensures edits { steps.new.edits ≡ steps.old.edits }
+        ensures steps { TriesWithin (bound_on self.now request.now) steps.old steps.new }
     {
         self.plain.decide(alloc, request, Serial(0))
     }

@@ -9,3 +9,6 @@ mod shown;
 pub use history::Publication;
 pub use pass::{Pass, Told};
 pub use publisher::{Publisher, begin};
+
+#[cfg(test)]
+mod tests;

@@ -2,6 +2,10 @@
 ghost use Rattle.std.specs.Prelude.{◌≡◌, ◌⊎◌, ◌<◌, ◌≤◌, length, nat_lt, MatchBool, IfOk, IfSome, OnOk, OnErr};
 ghost use mathlib.Core.List.{IsPrefix};
 ghost use Rattle.left_right.specs.Sides.{view as known_by};
+ghost use Rattle.rg_engine.specs.Bounds.{TriesWithin, bound_on};
+ghost use Rattle.rg_facts.specs.Texts.{decide};
+ghost use Rattle.rg_facts.specs.declared.facts.Facts.{Facts};
+ghost use Rattle.rg_policy.specs.declared.request.AccessRequest.{AccessRequest};
 ghost use Rattle.rg_publish.specs.Knowing.{Begins, Knows};
 ghost use Rattle.rg_publish.specs.Passes.{Ends, HasEntered, answer_of, decision_of, new_pass, risen, seeing};
 ghost use Rattle.rg_publish.specs.Publications.{published};
@@ -123,8 +127,7 @@ impl Pass {
     /// The written flow over what it keeps.
     fn judge<L: Ledger>(&self, request: &AccessRequest, steps: &mut Steps<L>) -> Answer
         ensures answer { Ends self.now.list (λ p. result ≡ answer_of p request.now) }
-        ensures compiles { steps.new.compiles ≡ steps.old.compiles }
-        ensures edits { steps.new.edits ≡ steps.old.edits }
+        ensures steps { Ends self.now.list (λ p. TriesWithin (bound_on p.facts request.now) steps.old steps.new) }
     {
         let engine = &*self.kept.engine;
         Answer {
@@ -143,13 +146,11 @@ impl Pass {
         request: &AccessRequest,
         steps: &mut Steps<L>,
     ) -> Result<Decision, NoMemory>
-        ensures decision { Ends self.now.list (λ p. IfOk result (λ d. d ≡ decision_of p request.now)) }
-        ensures compiles { steps.new.compiles ≡ steps.old.compiles }
-        ensures edits { steps.new.edits ≡ steps.old.edits }
+        ensures { Ends self.now.list (λ p. IfOk result (λ d. d ≡ decision_of p request.now) × TriesWithin (bound_on p.facts request.now) steps.old steps.new) }
     {
-        let mut decision = self.kept.engine.decide(alloc, request, steps)?;
-        decision.serial = Serial(self.kept.serial);
-        Ok(decision)
+        let engine = &*self.kept.engine;
+        let decision = engine.decide(alloc, request, steps)?;
+        Ok(numbered(decision, self.kept.serial))
     }
 
     /// Finds what was published last, and answers by it. Where the entry, or the copy of the shared pointer, is refused it
@@ -160,8 +161,7 @@ impl Pass {
         ensures answer { Ends self.new.list (λ p. result ≡ answer_of p request.now) }
         ensures answered { self.new.answered ≡ risen self.old.answered }
         ensures entered { ((self.new.entered ≡ self.old.entered) × (self.new.list ≡ self.old.list)) ⊎ (self.new.entered ≡ risen self.old.entered) }
-        ensures compiles { steps.new.compiles ≡ steps.old.compiles }
-        ensures edits { steps.new.edits ≡ steps.old.edits }
+        ensures steps { Ends self.new.list (λ p. TriesWithin (bound_on p.facts request.now) steps.old steps.new) }
     {
         let _entered = self.enter();
         self.answered = self.answered.saturating_add(1);
@@ -182,14 +182,22 @@ impl Pass {
         ensures answered { OnOk result (self.new.answered ≡ risen self.old.answered) }
         ensures unanswered { OnErr result (self.new.answered ≡ self.old.answered) }
         ensures entered { ((self.new.entered ≡ self.old.entered) × (self.new.list ≡ self.old.list)) ⊎ (self.new.entered ≡ risen self.old.entered) }
-        ensures compiles { steps.new.compiles ≡ steps.old.compiles }
-        ensures edits { steps.new.edits ≡ steps.old.edits }
+        ensures steps { Ends self.new.list (λ p. TriesWithin (bound_on p.facts request.now) steps.old steps.new) }
     {
         let _entered = self.enter();
         let decision = self.judge_in_full(alloc, request, steps)?;
         self.answered = self.answered.saturating_add(1);
         Ok(decision)
     }
+}
+
+/// The decision as one of the publication of this serial.
+fn numbered(decision: Decision, serial: u64) -> Decision
+    ensures { (facts : Facts) (q : AccessRequest) → decision ≡ decide facts q (record { 0 = 0 }) → result ≡ decide facts q (record { 0 = serial }) }
+{
+    let mut decision = decision;
+    decision.serial = Serial(serial);
+    decision
 }
 
 /// Enters, and finds what is shown where it is no earlier than what is kept.

@@ -1,0 +1,9 @@
+mod Bare
+mod Changing
+mod Choosing
+mod Filling
+mod Found
+mod Indexing
+mod Keying
+mod Lists
+mod Ordered
