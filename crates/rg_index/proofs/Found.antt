@@ -7,7 +7,7 @@ use Rattle.std.proofs.lemmas.Option.{none-some, same_Some}
 use Rattle.std.proofs.lemmas.Slice.Eq.{bytes_eq-Decides}
 use Rattle.std.specs.List.{find, flat_map, list_all, list_any, starts_with}
 use Rattle.std.specs.Str.{bytes_eq}
-use Rattle.rg_base.proofs.Lists.{Contains-cases, Contains-filter, Contains-filtered, Contains-flat_map, Contains-map, Contains-mapped, Contains-none, Contains-slice_get, all_holds, any_from, any_holds, find_contained}
+use Rattle.rg_base.proofs.Lists.{Contains-cases, Contains-filter, Contains-filtered, Contains-flat_map, Contains-flat_mapped, Contains-map, Contains-mapped, Contains-none, Contains-slice_get, all_holds, any_from, any_holds, find_contained}
 use Rattle.rg_base.specs.Folding.{folded}
 use Rattle.rg_defs.specs.declared.service_def.Level.{Level}
 use Rattle.rg_defs.specs.declared.service_def.ServiceDef.{ServiceDef}
@@ -32,10 +32,10 @@ use Rattle.rg_index.specs.Candidates.{bound, candidates, fewest, filed_for, file
 use Rattle.rg_index.specs.Changes.{ids_differ}
 use Rattle.rg_index.specs.Filing.{Filing, all_pairs, filed, filed_under, filings, form_pairs, keys_at, keys_of, lacked_filings, map_filings, resource_filings}
 use Rattle.rg_index.specs.Kept.{LevelPairs, entries_of, indexed}
-use Rattle.rg_index.proofs.Changing.{all_apart, numbered_has}
+use Rattle.rg_index.proofs.Changing.{all_apart, numbered_has, numbered_of}
 use Rattle.rg_index.proofs.Choosing.{attained}
 use Rattle.rg_index.proofs.Lists.{find_mapped}
-use Rattle.rg_index.proofs.Ordered.{apart_filter, filter_in_order, into_new, length_in_order}
+use Rattle.rg_index.proofs.Ordered.{apart_filter, filter_in_order, into_new, length_in_order, ordered_from}
 
 -- one of the elements passes, so one is found
 not_missed : {X : Type 0} (p : X → Bool) (xs : List X) (x : X) → Contains xs x → p x ≡ true → find p xs ≡ None → ⊥
@@ -292,3 +292,22 @@ module _ (stand : StandsLaw) (prefix : PrefixLaw) (twinned : TwinLaw) (def : Ser
         subst (λ (o : Option Element). Contains (ids_for def forms elements o) form.id) (sym k)
         (subst (Contains (ids_of (in_order (filed_for def forms elements e)))) q.2
         (Contains-map (λ (p : Pair). p.entry.id) (in_order (filed_for def forms elements e)) q.0 (into_new (filed_for def forms elements e) [] q.0 q.1)))
+
+-- ---- each candidate is a form's id
+
+module _ (def : ServiceDef) (forms : List Form) where
+  of_level : (o : Option Level) (name value : List ℕ) (q : Pair) → Contains (filed_under o value (all_pairs def name forms)) q → (form : Form) × Contains forms form × (form.id ≡ q.entry.id)
+  of_level None name value q h = absurd (Contains-none q h)
+  of_level (Some l) name value q h =
+      let k = Contains-filtered (is_under (folded l.fold value)) (all_pairs def name forms) q h in
+      let f = Contains-flat_mapped (form_pairs def name) forms q k.0 in
+      (f.0, f.1, sym (numbered_of f.0.id 0 (keys_at def f.0 name) q f.2).owner)
+
+  pub is_of_form : (elements : List Element) (id : ℤ) → Contains (candidates def forms elements) id → (form : Form) × Contains forms form × (form.id ≡ id)
+  is_of_form elements id h = at (fewest def forms elements) h where
+    at : (o : Option Element) → Contains (ids_for def forms elements o) id → (form : Form) × Contains forms form × (form.id ≡ id)
+    at None none = absurd (Contains-none id none)
+    at (Some e) w =
+        let q = Contains-mapped (λ (p : Pair). p.entry.id) (in_order (filed_for def forms elements e)) id w in
+        let f = of_level (level_of def e.level) e.level (unwrap_or (value_at elements e.level) []) q.0 (ordered_from (filed_for def forms elements e) q.0 q.1) in
+        (f.0, f.1, f.2 ∙ q.2)

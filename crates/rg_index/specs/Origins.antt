@@ -1,11 +1,14 @@
--- For proofs alone: the forms of a list.
-use Rattle.std.specs.Prelude.{List, option_map}
-use Rattle.rg_index.specs.declared.form.Form.{Form}
+-- For proofs alone: what is seen of an index from what it was made from.
+use Rattle.std.specs.Prelude.{option_map}
 use Rattle.rg_index.specs.declared.origin.Origin.{Origin}
 use Rattle.rg_index.specs.declared.origin.Origin.TheVariants.{Built, Changed}
 use Rattle.rg_index.specs.Changes.{changed}
+use Rattle.rg_index.specs.Indexed.{Indexed}
 
--- those that were given, or those of another list after a change
-abbrev pub forms_from : Origin → List Form
-forms_from (Built forms) = forms.now
-forms_from (Changed list old new) = changed list.now.forms (option_map (λ f. f.now) old) (option_map (λ f. f.now) new)
+-- what was given, or another index after a change
+abbrev pub seen_from : Origin → Indexed
+seen_from (Built def forms) = record { def = def.now; forms = forms.now }
+seen_from (Changed seen old new) = record {
+  def = seen.now.value.def;
+  forms = changed seen.now.value.forms (option_map (λ f. f.now) old) (option_map (λ f. f.now) new);
+}

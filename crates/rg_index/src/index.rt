@@ -14,17 +14,16 @@ ghost use Rattle.rg_resmatch.specs.Tests.{some_lies, tag_elements, value_at};
 
 use crate::candidates::Candidates;
 use crate::form::Form;
-use crate::forms::FormList;
 use crate::laws::lying_forms_are_candidates;
 use crate::level_trie::LevelTrie;
 use crate::origin::Origin;
+use crate::seen::Seen;
 use rg_base::{Ledger, NoMemory, Steps, find_named};
 use rg_defs::{Level, ServiceDef, tag_name};
 use rg_policy::{Element, Resource};
 use rg_trie::{Trie, Walk};
 use std::alloc::Global;
 use std::marker::Model;
-use std::snapshot::Snapshot;
 
 /// Forms, filed at the levels of a service definition. Contracts see the definition and the forms.
 ///
@@ -36,8 +35,7 @@ pub struct Index {
     /// Where nothing is filed: what an unknown level has.
     nothing: Trie,
     /// Which only contracts see.
-    def: Snapshot<ServiceDef>,
-    forms: FormList,
+    seen: Seen,
 }
 
 impl Model for Index {
@@ -47,9 +45,9 @@ impl Model for Index {
 
     ghost Value = { Indexed };
 
-    ghost view = { λ x. record { def = x.def.value; forms = x.forms.forms } };
+    ghost view = { λ x. x.seen.value };
 
-    ghost invariant = { λ x. (x.nothing ≡ []) × IsIndexed x.def.value x.forms.forms x.levels.items };
+    ghost invariant = { λ x. (x.nothing ≡ []) × IsIndexed x.seen.value.def x.seen.value.forms x.levels.items };
 }
 
 /// All levels with these forms.
@@ -110,8 +108,7 @@ impl Index {
         Ok(Index {
             levels,
             nothing: Trie::empty(alloc),
-            def: Snapshot::of(def),
-            forms: FormList::of(&Origin::Built(forms)),
+            seen: Seen::of(&Origin::Built(def, forms)),
         })
     }
 
@@ -136,8 +133,7 @@ impl Index {
         Ok(Index {
             levels,
             nothing: Trie::empty(alloc),
-            def: Snapshot::of(def),
-            forms: FormList::of(&Origin::Changed(&self.forms, old, new)),
+            seen: Seen::of(&Origin::Changed(&self.seen, old, new)),
         })
     }
 

@@ -1,5 +1,5 @@
-// The law of candidates, as the contract of a function that does nothing.
-ghost use Rattle.std.specs.Prelude.{◌≡◌, ℕ, List, true};
+// Laws of candidates, each the contract of a function that does nothing.
+ghost use Rattle.std.specs.Prelude.{◌≡◌, ℕ, ℤ, List, true};
 ghost use Rattle.std.specs.List.{Contains};
 ghost use Rattle.rg_defs.specs.declared.service_def.ServiceDef.{ServiceDef};
 ghost use Rattle.rg_index.specs.declared.form.Form.{Form};
@@ -17,3 +17,9 @@ pub fn lying_forms_are_candidates()
     stands_is_decided();
     prefix_begins_text();
 }
+
+/// Each candidate is the id of one of the forms.
+pub fn candidates_are_of_forms()
+    ensures { (def : ServiceDef) (forms : List Form) (elements : List Element) (id : ℤ) → Contains (candidates def forms elements) id
+        → (form : Form) × Contains forms form × (form.id ≡ id) }
+{}

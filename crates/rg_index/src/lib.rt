@@ -4,18 +4,18 @@
 mod candidates;
 mod checks;
 mod form;
-mod forms;
 mod index;
 mod keys;
 mod laws;
 mod level_trie;
 mod origin;
+mod seen;
 
 pub use candidates::Candidates;
 pub use checks::{forms_fit, ids_differ};
 pub use form::Form;
 pub use index::Index;
-pub use laws::lying_forms_are_candidates;
+pub use laws::{candidates_are_of_forms, lying_forms_are_candidates};
 
 #[cfg(test)]
 mod tests;

@@ -1,26 +1,27 @@
-// How the forms of an index come about.
+// How an index comes about.
 ghost use Rattle.std.specs.Prelude.{◌≡◌};
-ghost use Rattle.rg_index.specs.Origins.{forms_from};
+ghost use Rattle.rg_index.specs.Origins.{seen_from};
 
 use crate::form::Form;
-use crate::forms::FormList;
+use crate::seen::Seen;
+use rg_defs::ServiceDef;
 use std::marker::PhantomData;
 
-/// What a list of forms is made from.
+/// What an index is made from.
 #[derive(Clone, Copy)]
 pub(crate) enum Origin<'a> {
-    /// These forms.
-    Built(&'a [Form]),
-    /// Those of the list, with the new form in the place of the old one.
-    Changed(&'a FormList, Option<&'a Form>, Option<&'a Form>),
+    /// This definition and these forms.
+    Built(&'a ServiceDef, &'a [Form]),
+    /// Another index, with the new form in the place of the old one.
+    Changed(&'a Seen, Option<&'a Form>, Option<&'a Form>),
 }
 
-impl FormList {
-    /// The forms that come about so.
-    pub(crate) fn of(_origin: &Origin<'_>) -> FormList
-        ensures { result.forms ≡ forms_from _origin.now }
+impl Seen {
+    /// What is seen of it.
+    pub(crate) fn of(_origin: &Origin<'_>) -> Seen
+        ensures { result.value ≡ seen_from _origin.now }
     {
-        FormList {
+        Seen {
             marker: PhantomData,
         }
     }

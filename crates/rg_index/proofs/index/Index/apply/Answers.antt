@@ -58,7 +58,15 @@ invariant_of-result g c =
     let later = c.in_ok-levels.levels.items in
     let held = seen def _ self levels c.self.view_is c.requires.same c.self.invariant.1 in
     let made = is_edited def held.lawful self.forms old new held.apart c.requires.old levels later held.fit c.requires.free c.requires.fit held.levels_hold (c.in_ok-levels.ensures.edited ∙ ap (map (edited old new)) c.deref.ensures.value) in
-    let forms = c.of-2.ensures ∙ ap (λ (x : Indexed). changed x.forms old new) c.self.view_is in (
-      c.empty.ensures,
-      subst (λ (d : ServiceDef). IsIndexed d c.of-2.result.forms later) (sym c.of.ensures) (subst (λ (fs : List Form). IsIndexed def fs later) (sym forms) made),
-    )
+    let view = c.self.view_is in
+    let shown : c.of.result.value ≡ record { def = def; forms = changed self.forms old new } =
+    c.of.ensures ∙ (λ i. record { def = (ap (λ (x : Indexed). x.def) view ∙ sym c.requires.same) i; forms = changed (view i).forms old new }) in
+    (c.empty.ensures, subst (λ (x : Indexed). IsIndexed x.def x.forms later) (sym shown) made)
+
+pub returns-clause-made : goal.returns-clause-made
+returns-clause-made g c =
+    let def = c.args.def.now in
+    let old = option_map (λ f. f.now) c.args.old in
+    let new = option_map (λ f. f.now) c.args.new in
+    let view = c.self.view_is in
+    c.of.ensures ∙ (λ i. record { def = (ap (λ (x : Indexed). x.def) view ∙ sym c.requires.same) i; forms = changed (view i).forms old new })

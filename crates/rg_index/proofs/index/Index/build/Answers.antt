@@ -4,6 +4,7 @@ use Rattle.rg_defs.specs.declared.service_def.Level.{Level}
 use Rattle.rg_defs.specs.declared.service_def.ServiceDef.{ServiceDef}
 use Rattle.rg_index.specs.declared.form.Form.{Form}
 use Rattle.rg_index.specs.Filing.{EditsWithin, pairs}
+use Rattle.rg_index.specs.Indexed.{Indexed}
 use Rattle.rg_index.specs.Kept.{IsIndexed, built, level_keys}
 use Rattle.rg_index.proofs.Filling.{more_allowed}
 use Rattle.rg_index.proofs.Indexing.{built_within, forms_written, is_built}
@@ -34,7 +35,5 @@ invariant_of-result g c =
     let def = c.args.def.now in
     let forms = c.args.forms.now in
     let levels = c.in_ok-levels.levels.items in
-    let made = is_built def c.requires.lawful forms levels c.requires.apart c.requires.fit (c.in_ok-levels.ensures.built ∙ ap (map (built forms)) c.as_slice.ensures) in (
-      c.empty.ensures,
-      subst (λ (d : ServiceDef). IsIndexed d c.of-2.result.forms levels) (sym c.of.ensures) (subst (λ (fs : List Form). IsIndexed def fs levels) (sym c.of-2.ensures) made),
-    )
+    let made = is_built def c.requires.lawful forms levels c.requires.apart c.requires.fit (c.in_ok-levels.ensures.built ∙ ap (map (built forms)) c.as_slice.ensures) in
+    (c.empty.ensures, subst (λ (x : Indexed). IsIndexed x.def x.forms levels) (sym c.of.ensures) made)

@@ -13,8 +13,8 @@ use Rattle.rg_index.proofs.index.Index.walk.Goals as goal
 
 pub returns-in-Some : goal.returns-in-Some
 returns-in-Some c =
-    let def = c.self.inside.def.value in
-    let forms = c.self.inside.forms.forms in
+    let def = c.self.inside.seen.value.def in
+    let forms = c.self.inside.seen.value.forms in
     let levels = c.self.inside.levels.items in
     let name = chars c.args.name.now in
     let value = chars c.args.value.now in
@@ -28,8 +28,8 @@ returns-in-Some c =
 
 pub returns-in-None : goal.returns-in-None
 returns-in-None c =
-    let def = c.self.inside.def.value in
-    let forms = c.self.inside.forms.forms in
+    let def = c.self.inside.seen.value.def in
+    let forms = c.self.inside.seen.value.forms in
     let levels = c.self.inside.levels.items in
     let name = chars c.args.name.now in
     let value = chars c.args.value.now in

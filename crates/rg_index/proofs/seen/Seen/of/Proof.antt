@@ -1,4 +1,4 @@
--- A list that owns nothing is made of nothing, so it may be any.
+-- What owns nothing is made of nothing, so it may show any value.
 use Rattle.std.proofs.Common.{List, [], ◌∷◌, ◌++◌, refl}
 use Rattle.std.proofs.raw_atomic.Walks.{proved_at}
 use Rattle.rg_index.proofs.Bare.{Bare, bare, from_nothing}
@@ -19,12 +19,12 @@ use types.Kit.{‵, raw, ◌⊛◌, ◌$◌, ◌∵◌, !, qed, move, keep, drop
 use types.Part.{agg}
 use types.Run.{enter, no_more, and_then, returns}
 use prog.Wp.{WpFn}
-use Rattle.rg_index.specs.Origins.{forms_from}
-use Rattle.rg_index.specs.contracts.forms.FormList as it
+use Rattle.rg_index.specs.Origins.{seen_from}
+use Rattle.rg_index.specs.contracts.seen.Seen as it
 use Rattle.rg_index.specs.contracts.origin.Origin as from
-use Rattle.rg_index.specs.contracts.forms.FormList.of as f
-use Rattle.rg_index.proofs.forms.FormList.of.Code as code
-use Rattle.rg_index.proofs.forms.FormList.of.Statement.{statement}
+use Rattle.rg_index.specs.contracts.seen.Seen.of as f
+use Rattle.rg_index.proofs.seen.Seen.of.Code as code
+use Rattle.rg_index.proofs.seen.Seen.of.Statement.{statement}
 
 abbrev stayed : Stays f.ended.signature.params f.ended.kept
 stayed = (stay_dropped _ yes, tt)
@@ -39,7 +39,7 @@ of_spec 𝓤 𝓛 𝓜 𝓡 wired =
     let a = y.0.3 in
     let vss = y.0.4 in
     let u : Val = vptr a.0.ref_ptr.0 a.0.ref_ptr.1 in
-    let made : (it.the_row).Denot = record { marker = record {}; forms = forms_from a.0.now } in
+    let made : (it.the_row).Denot = record { marker = record {}; value = seen_from a.0.now } in
     qed 𝓛 ((raw (alive 𝓛 f.ended.signature y.0.0 y.0.1) ⊛ ‵ (owns (types_at f.ended.signature.params y.0.0) a vss)) ∷ raw ((c y.0.0 a).requires y.1) ∷ []) ∵
     keep ! (0 ∷ []) $ split ! $ move ! (1 ∷ []) $ fsplit ! $ fsplit ! $ feq_l ! (λ is. drop ! $ drop ! $
     regoal ! (λ (us : List Val). prop (WpFn 𝓤 𝓛.H 𝓣.C 𝓣.Λ code.function (us ++ []) (W.post y))) is refl $
