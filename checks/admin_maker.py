@@ -284,7 +284,7 @@ class AdminMaker(maker.Maker):
                 level["matcherOptions"] = {"wildCard": self.maybe(.8), "ignoreCase": True}
         elif way == "level" and len(levels) > 1:
             leaves = [level for level in levels if all(other["parent"] != level["name"] for other in levels)]
-            levels.remove(self.pick(leaves))
+            levels.remove(self.pick([level for level in leaves if level["name"] in self.levels_of_zones(made)] or leaves))
             self.drop_levels(made)
         elif way == "access" and len(made["accessTypes"]) > 2:
             made["accessTypes"] = [kind for kind in made["accessTypes"] if "super" not in kind["name"] and "other" not in kind["name"]]
@@ -296,6 +296,13 @@ class AdminMaker(maker.Maker):
             made.update(self.pick([{"dataMaskDef": {}}, {"rowFilterDef": {}}, {"dataMaskDef": {**masks, "maskTypes": []}}]))
         elif way == "more":
             made["accessTypes"].append({"name": "extra%d" % self.random.randint(1, 3)})
+
+    def levels_of_zones(self, definition):
+        """The levels that zones name under the definition, and no policy and no tag row."""
+        own = [row["name"] for row in self.state["services"] if row["type"] == definition["name"]]
+        used = {name for policy in self.state["policies"] if policy["service"] in own for resources in maker.maps_of(policy) for name in resources}
+        used |= {name for row in self.state["tagRows"] if row["serviceName"] in own for name in row["resourceElements"]}
+        return {name for zone in self.state["zones"] for service in own for levels in model.maps_of(zone, service) for name in levels} - used
 
     @staticmethod
     def drop_levels(made):
