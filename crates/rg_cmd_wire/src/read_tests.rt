@@ -1,7 +1,7 @@
 // What is read, and the first faults of texts, with ample memory. A row is a text, `|`, and the path and the kind of its first
 // fault, or nothing where it has none.
 use crate::{read_command, read_config, read_service, read_user};
-use rg_base::{PolicyId, Version};
+use rg_base::Version;
 use rg_cmd::AdminCommand;
 use rg_json::WireFault;
 use std::alloc::Global;
@@ -155,25 +155,31 @@ const DOWNLOADS: &str = r#"{"command":"download"}|/service Missing
 {"command":"download","rolesFrom":-1,"tagsFrom":true,"service":"s"}|/tagsFrom Mistyped
 {"command":"download","rolesFrom":-1}|/service Missing"#;
 
+/// The first row of the table whose fault is another one, and the fault that was found; empty where there is none.
+fn wrong_row(alloc: Global, table: &str) -> Result<String, Fail> {
+    for row in table.split('\n') {
+        let (text, fault) = split_row(row);
+        let found = command_fault(alloc, text)?;
+        let found = found.as_str().trim();
+        if found != fault {
+            return Ok(format!(in alloc; "{row}: {found}")?);
+        }
+    }
+    Ok(String::new(alloc))
+}
+
 #[test]
 fn first_faults_of_commands(rt: HostRuntime) -> Result<(), Fail> {
     let alloc = rt.alloc();
     for table in [NAMING, WORDS, SERVICES, POLICIES, SUBJECTS, DOWNLOADS] {
-        for row in table.split('\n') {
-            let (text, fault) = split_row(row);
-            assert_eq!(rt; command_fault(alloc, text)?.as_str().trim(), fault, "{row}");
-        }
+        assert_eq!(rt; wrong_row(alloc, table)?.as_str(), "");
     }
     Ok(())
 }
 
-/// What is read of a command, in a few words.
-fn command_words(alloc: Global, text: &str) -> Result<String, Fail> {
-    let command = match read_command(alloc, text.as_bytes()) {
-        Ok(command) => command,
-        Err(fault) => return words(alloc, fault),
-    };
-    let (kind, held) = match &command {
+/// What a command is, and a text that it holds.
+fn held_in<'a>(command: &'a AdminCommand) -> (&'static str, &'a str) {
+    match command {
         AdminCommand::PutDef { def } => ("put def", def.name.as_str()),
         AdminCommand::CreateService { service } => ("create service", service.def.as_str()),
         AdminCommand::UpdateService { service } => ("update service", service.tag_service.as_str()),
@@ -188,8 +194,18 @@ fn command_words(alloc: Global, text: &str) -> Result<String, Fail> {
         AdminCommand::PutUser { user } => ("put user", user.name.as_str()),
         AdminCommand::DeleteUser { name } => ("delete user", name.as_str()),
         _ => ("another", ""),
-    };
-    Ok(format!(in alloc; "{kind} {held}")?)
+    }
+}
+
+/// What is read of a command, in a few words.
+fn command_words(alloc: Global, text: &str) -> Result<String, Fail> {
+    match read_command(alloc, text.as_bytes()) {
+        Ok(command) => {
+            let (kind, held) = held_in(&command);
+            Ok(format!(in alloc; "{kind} {held}")?)
+        }
+        Err(fault) => words(alloc, fault),
+    }
 }
 
 /// Commands that are read, and what they hold.
@@ -217,42 +233,57 @@ fn commands_are_read(rt: HostRuntime) -> Result<(), Fail> {
     Ok(())
 }
 
-/// The ids and versions of a command; `none` for one of another kind, and for one that isn't read.
+/// The version that is asked from, 0 where there is none.
+fn version_in(from: &Option<Version>) -> u64 {
+    match from {
+        Some(version) => version.0,
+        None => 0,
+    }
+}
+
+/// What a command is, and the numbers that it holds.
+fn numbers_in(command: &AdminCommand) -> (&'static str, i64, [u64; 3]) {
+    match command {
+        AdminCommand::DeletePolicy { id } => ("delete policy", id.0, [0, 0, 0]),
+        AdminCommand::GetPolicy { id } => ("get policy", id.0, [0, 0, 0]),
+        AdminCommand::PutTags { id, row: _row } => ("put tags", *id, [0, 0, 0]),
+        AdminCommand::DeleteTags { id } => ("delete tags", *id, [0, 0, 0]),
+        AdminCommand::Download {
+            service: _service,
+            policies_from,
+            tags_from,
+            roles_from,
+        } => (
+            "download",
+            0,
+            [
+                version_in(policies_from),
+                version_in(tags_from),
+                version_in(roles_from),
+            ],
+        ),
+        _ => ("another", 0, [0, 0, 0]),
+    }
+}
+
+/// The numbers of a command in words.
 fn command_numbers(alloc: Global, text: &str) -> Result<String, Fail> {
-    Ok(match read_command(alloc, text.as_bytes()) {
-        Ok(AdminCommand::DeletePolicy { id: PolicyId(id) }) => format!(in alloc;
-            "delete policy {id}"
-        )?,
-        Ok(AdminCommand::GetPolicy { id: PolicyId(id) }) => format!(in alloc; "get policy {id}")?,
-        Ok(AdminCommand::PutTags { id, row }) => {
-            let inner = row.id;
-            format!(in alloc; "put tags {id} {inner}")?
+    match read_command(alloc, text.as_bytes()) {
+        Ok(command) => {
+            let (kind, id, [policies, tags, roles]) = numbers_in(&command);
+            Ok(format!(in alloc; "{kind} {id} {policies} {tags} {roles}")?)
         }
-        Ok(AdminCommand::DeleteTags { id }) => format!(in alloc; "delete tags {id}")?,
-        Ok(
-            AdminCommand::Download {
-                service: _service,
-                policies_from,
-                tags_from,
-                roles_from,
-            },
-        ) => {
-            let Version(policies) = policies_from.unwrap_or(Version(0));
-            let Version(tags) = tags_from.unwrap_or(Version(0));
-            let Version(roles) = roles_from.unwrap_or(Version(0));
-            format!(in alloc; "download {policies} {tags} {roles}")?
-        }
-        _ => String::from_str(alloc, "none")?,
-    })
+        Err(fault) => words(alloc, fault),
+    }
 }
 
 /// Commands that are read, and their numbers.
-const NUMBERS: &str = r#"{"command":"deletePolicy","id":-7}|delete policy -7
-{"command":"getPolicy","id":9223372036854775807}|get policy 9223372036854775807
-{"command":"putTags","id":3,"row":{"id":4,"serviceName":"s"}}|put tags 3 4
-{"command":"deleteTags","id":5}|delete tags 5
-{"command":"download","service":"s","policiesFrom":1,"tagsFrom":2,"rolesFrom":3}|download 1 2 3
-{"command":"download","service":"s","tagsFrom":18446744073709551615,"rolesFrom":null}|download 0 18446744073709551615 0"#;
+const NUMBERS: &str = r#"{"command":"deletePolicy","id":-7}|delete policy -7 0 0 0
+{"command":"getPolicy","id":9223372036854775807}|get policy 9223372036854775807 0 0 0
+{"command":"putTags","id":3,"row":{"id":4,"serviceName":"s"}}|put tags 3 0 0 0
+{"command":"deleteTags","id":5}|delete tags 5 0 0 0
+{"command":"download","service":"s","policiesFrom":1,"tagsFrom":2,"rolesFrom":3}|download 0 1 2 3
+{"command":"download","service":"s","tagsFrom":18446744073709551615,"rolesFrom":null}|download 0 0 18446744073709551615 0"#;
 
 #[test]
 fn numbers_of_commands_are_read(rt: HostRuntime) -> Result<(), Fail> {
