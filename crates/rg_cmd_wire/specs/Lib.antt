@@ -1,0 +1,4 @@
+pub mod Commands
+pub mod Naming
+pub mod Reading
+pub mod Rows
