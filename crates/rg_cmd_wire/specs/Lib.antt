@@ -1,0 +1,4 @@
+pub mod PrintedNames
+pub mod PrintedParts
+pub mod PrintedReplies
+pub mod PrintedRows
