@@ -1,5 +1,5 @@
 -- The names of the fields of rows, replies and downloads in JSON.
-use Rattle.std.specs.Prelude.{ℕ, List, codes}
+use Rattle.std.specs.Prelude.{ℕ, List, [], ◌∷◌, codes}
 use Rattle.serde_json.specs.Data.{Data}
 use Rattle.rg_json.specs.Printing as named
 use Rattle.rg_wire.specs.Names as wire
@@ -26,3 +26,7 @@ name_of own.TagDef = codes "tagDef"
 -- a map of these members, each put in turn
 abbrev pub object_of : List (ReplyKey × Data) → Data
 object_of ps = named.object_of name_of ps
+
+-- a map of this one field
+unfoldable pub only_data : ReplyKey → Data → Data
+only_data key d = object_of ((key, d) ∷ [])

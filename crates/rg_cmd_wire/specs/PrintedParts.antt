@@ -18,7 +18,7 @@ use Rattle.rg_cmd.specs.declared.download.TagDelta.{TagDelta}
 use Rattle.rg_cmd.specs.declared.download.TagPart.{TagPart}
 use Rattle.rg_cmd.specs.declared.download.TagPart.TheVariants as tags
 use Rattle.rg_cmd.specs.declared.download.TagWhole.{TagWhole}
-use Rattle.rg_cmd_wire.specs.PrintedNames.{object_of}
+use Rattle.rg_cmd_wire.specs.PrintedNames.{object_of, only_data}
 use Rattle.rg_cmd_wire.specs.PrintedRows.{def_data, role_data, tag_row_data, time_zone_data, zone_data}
 use Rattle.rg_cmd_wire.specs.declared.reply_key.ReplyKey.{ReplyKey}
 use Rattle.rg_cmd_wire.specs.declared.reply_key.ReplyKey.TheVariants as own
@@ -98,26 +98,20 @@ role_whole_data w = object_of (role_whole_members w)
 abbrev pub unchanged_data : Data
 unchanged_data = string (codes "unchanged")
 
--- a map of one field, which says what the part is
-abbrev pub delta_data : Data → Data
-delta_data d = object_of ((own.Delta, d) ∷ [])
-
-abbrev pub whole_data : Data → Data
-whole_data d = object_of ((own.Whole, d) ∷ [])
-
+-- a map whose one field says what the part is
 unfoldable pub policy_part_data : PolicyPart → Data
 policy_part_data policies.Unchanged = unchanged_data
-policy_part_data (policies.Delta d) = delta_data (policy_delta_data d)
-policy_part_data (policies.Whole w) = whole_data (policy_whole_data w)
+policy_part_data (policies.Delta d) = only_data own.Delta (policy_delta_data d)
+policy_part_data (policies.Whole w) = only_data own.Whole (policy_whole_data w)
 
 unfoldable pub tag_part_data : TagPart → Data
 tag_part_data tags.Unchanged = unchanged_data
-tag_part_data (tags.Delta d) = delta_data (tag_delta_data d)
-tag_part_data (tags.Whole w) = whole_data (tag_whole_data w)
+tag_part_data (tags.Delta d) = only_data own.Delta (tag_delta_data d)
+tag_part_data (tags.Whole w) = only_data own.Whole (tag_whole_data w)
 
 unfoldable pub role_part_data : RolePart → Data
 role_part_data roles.Unchanged = unchanged_data
-role_part_data (roles.Whole w) = whole_data (role_whole_data w)
+role_part_data (roles.Whole w) = only_data own.Whole (role_whole_data w)
 
 -- the texts of the parts
 unfoldable pub policy_part_text : PolicyPart → List ℕ

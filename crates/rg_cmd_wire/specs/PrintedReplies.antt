@@ -14,7 +14,7 @@ use Rattle.rg_cmd.specs.declared.ask.AdminReply.{AdminReply}
 use Rattle.rg_cmd.specs.declared.ask.AdminReply.TheVariants.{Done, Kept, Found, Listed as ListedPolicies, Downloaded, Refused}
 use Rattle.rg_cmd.specs.declared.download.Download.{Download}
 use Rattle.rg_cmd.specs.declared.rule.Rule.{Rule}
-use Rattle.rg_cmd_wire.specs.PrintedNames.{object_of}
+use Rattle.rg_cmd_wire.specs.PrintedNames.{object_of, only_data}
 use Rattle.rg_cmd_wire.specs.PrintedParts.{policy_part_data, role_part_data, tag_part_data}
 use Rattle.rg_cmd_wire.specs.declared.reply_key.ReplyKey.{ReplyKey}
 use Rattle.rg_cmd_wire.specs.declared.reply_key.ReplyKey.TheVariants as own
@@ -46,12 +46,12 @@ unfoldable pub download_data : Download → Data
 download_data d = object_of (download_members d)
 
 unfoldable pub reply_data : AdminReply → Data
-reply_data Done = object_of ((own.Done, bool_data true) ∷ [])
+reply_data Done = only_data own.Done (bool_data true)
 reply_data (Kept id version) = kept_data id version
-reply_data (Found policy) = object_of ((Wire key.Policy, policy_data policy) ∷ [])
-reply_data (ListedPolicies policies) = object_of ((Wire key.Policies, policies_data policies) ∷ [])
+reply_data (Found policy) = only_data (Wire key.Policy) (policy_data policy)
+reply_data (ListedPolicies policies) = only_data (Wire key.Policies) (policies_data policies)
 reply_data (Downloaded download) = download_data download
-reply_data (Refused rule) = object_of ((own.Refused, rule_data rule) ∷ [])
+reply_data (Refused rule) = only_data own.Refused (rule_data rule)
 
 -- the line of a reply, without its LF
 unfoldable pub reply_text : AdminReply → List ℕ
@@ -66,7 +66,7 @@ unfoldable pub policies_text : Listed Policy → List ℕ
 policies_text ps = compact_text (policies_data ps)
 
 unfoldable pub refusal_data : Rule → Data
-refusal_data rule = object_of ((Wire key.Rule, rule_data rule) ∷ [])
+refusal_data rule = only_data (Wire key.Rule) (rule_data rule)
 
 unfoldable pub refusal_text : Rule → List ℕ
 refusal_text rule = compact_text (refusal_data rule)
