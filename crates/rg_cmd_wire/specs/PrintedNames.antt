@@ -18,9 +18,7 @@ name_of own.To = codes "to"
 name_of own.Changes = codes "changes"
 name_of own.ChangeType = codes "changeType"
 name_of own.Tag = codes "tag"
-name_of own.Row = codes "row"
 name_of own.Rows = codes "rows"
-name_of own.Def = codes "def"
 name_of own.TagDef = codes "tagDef"
 
 -- a map of these members, each put in turn

@@ -50,7 +50,7 @@ abbrev pub policy_whole_members : PolicyWhole → List (ReplyKey × Data)
 policy_whole_members w =
     (Wire key.Version, count_data w.version.0) ∷
     (Wire key.Fallback, bool_data w.fallback) ∷
-    (own.Def, def_data w.def) ∷
+    (Wire key.Def, def_data w.def) ∷
     (own.TagDef, option_data def_data w.tag_def) ∷
     (Wire key.Policies, list_data policy_data w.policies) ∷
     (Wire key.TagPolicies, list_data policy_data w.tag_policies) ∷
@@ -63,7 +63,7 @@ policy_whole_data w = object_of (policy_whole_members w)
 abbrev pub tag_change_members : TagChange → List (ReplyKey × Data)
 tag_change_members c =
     (own.ChangeType, count_data c.change_type) ∷
-    (own.Row, tag_row_data c.row) ∷ []
+    (Wire key.Row, tag_row_data c.row) ∷ []
 
 unfoldable pub tag_change_data : TagChange → Data
 tag_change_data c = object_of (tag_change_members c)

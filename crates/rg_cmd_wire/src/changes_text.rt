@@ -60,7 +60,7 @@ impl ToJson<ReplyKey> for PolicyWhole {
         let mut members = Map::new(alloc);
         put(alloc, &mut members, Wire(Key::Version), &self.version.0)?;
         put(alloc, &mut members, Wire(Key::Fallback), &self.fallback)?;
-        put(alloc, &mut members, ReplyKey::Def, &self.def)?;
+        put(alloc, &mut members, Wire(Key::Def), &self.def)?;
         put(alloc, &mut members, ReplyKey::TagDef, &self.tag_def)?;
         put(alloc, &mut members, Wire(Key::Policies), &self.policies)?;
         let tag_policies = &self.tag_policies;
@@ -81,7 +81,7 @@ impl ToJson<ReplyKey> for TagChange {
         let mut members = Map::new(alloc);
         let change_type = u64::from(self.change_type);
         put(alloc, &mut members, ReplyKey::ChangeType, &change_type)?;
-        put(alloc, &mut members, ReplyKey::Row, &self.row)?;
+        put(alloc, &mut members, Wire(Key::Row), &self.row)?;
         Ok(Value::Object(members))
     }
 }

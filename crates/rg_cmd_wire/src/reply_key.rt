@@ -19,9 +19,7 @@ pub enum ReplyKey {
     Changes,
     ChangeType,
     Tag,
-    Row,
     Rows,
-    Def,
     TagDef,
 }
 
@@ -44,9 +42,7 @@ impl Name for ReplyKey {
             ReplyKey::Changes => "changes",
             ReplyKey::ChangeType => "changeType",
             ReplyKey::Tag => "tag",
-            ReplyKey::Row => "row",
             ReplyKey::Rows => "rows",
-            ReplyKey::Def => "def",
             ReplyKey::TagDef => "tagDef",
         }
     }
