@@ -45,7 +45,8 @@ impl ToJson<ReplyKey> for PolicyDelta {
         put(alloc, &mut members, ReplyKey::From, &self.from.0)?;
         put(alloc, &mut members, ReplyKey::To, &self.to.0)?;
         put(alloc, &mut members, ReplyKey::Changes, &self.changes)?;
-        put(alloc, &mut members, Wire(Key::Zones), &self.zones)?;
+        let zones = &self.zones;
+        put(alloc, &mut members, Wire(Key::Zones), zones)?;
         Ok(Value::Object(members))
     }
 }
