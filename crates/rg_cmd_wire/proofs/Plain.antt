@@ -41,7 +41,7 @@ use Rattle.rg_cmd.specs.declared.download.TagPart.TheVariants as tags
 use Rattle.rg_cmd.specs.declared.download.TagWhole.{TagWhole}
 use Rattle.rg_cmd.specs.declared.rule.Rule.{Rule}
 use Rattle.rg_cmd_wire.specs.PrintedNames.{name_of, only_data}
-use Rattle.rg_cmd_wire.specs.PrintedRows.{named_members, map_data, pair_data, pairs_data, options_members, options_data, level_members, level_data, access_type_members, access_type_data, condition_def_members, condition_def_data, mask_type_members, mask_type_data, named_members_of, named_data, mask_part_members, mask_part_data, filter_part_members, filter_part_data, def_members, def_data, role_members, role_data, zone_level_data, zone_map_data, zone_service_members, zone_service_data, zone_members, zone_data, tag_members, tag_data, tag_row_members, tag_row_data, time_zone_members, time_zone_data}
+use Rattle.rg_cmd_wire.specs.PrintedRows.{named_members, map_data, pair_data, pairs_data, options_members, options_data, level_members, level_data, access_type_members, access_type_data, condition_def_members, condition_def_data, mask_type_members, mask_type_data, name_members, named_data, mask_part_members, mask_part_data, filter_part_members, filter_part_data, def_members, def_data, role_members, role_data, zone_level_data, zone_map_data, zone_service_members, zone_service_data, zone_members, zone_data, tag_members, tag_data, tag_row_members, tag_row_data, time_zone_members, time_zone_data}
 use Rattle.rg_cmd_wire.specs.PrintedParts.{policy_change_members, policy_change_data, policy_delta_members, policy_delta_data, policy_whole_members, policy_whole_data, tag_change_members, tag_change_data, tag_delta_members, tag_delta_data, tag_whole_members, tag_whole_data, role_whole_members, role_whole_data, unchanged_data, policy_part_data, tag_part_data, role_part_data}
 use Rattle.rg_cmd_wire.specs.PrintedReplies.{rule_data, policies_data, kept_members, kept_data, download_members, download_data, reply_data, refusal_data}
 use Rattle.rg_cmd_wire.specs.declared.reply_key.ReplyKey.{ReplyKey}
@@ -89,7 +89,7 @@ mask_type_plain m = object_plain name_of 0 1 (mask_type_members m) (omega arith)
 
 named_plain : (name : List ℕ) → Plain 1 (named_data name)
 unfolding named_data
-named_plain name = object_plain name_of 0 1 (named_members_of name) (omega arith) (text_plain 0 name, tt)
+named_plain name = object_plain name_of 0 1 (name_members name) (omega arith) (text_plain 0 name, tt)
 
 names_plain : (names : Listed (List ℕ)) → Plain 2 (list_data named_data names)
 names_plain names = list_plain 1 2 named_data names (omega arith) named_plain

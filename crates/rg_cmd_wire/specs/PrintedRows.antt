@@ -89,12 +89,12 @@ mask_type_members m =
 unfoldable pub mask_type_data : MaskType → Data
 mask_type_data m = object_of (mask_type_members m)
 
-abbrev pub named_members_of : List ℕ → List (ReplyKey × Data)
-named_members_of name = (Wire key.Name, text_data name) ∷ []
+abbrev pub name_members : List ℕ → List (ReplyKey × Data)
+name_members name = (Wire key.Name, text_data name) ∷ []
 
 -- what is kept by its name alone
 unfoldable pub named_data : List ℕ → Data
-named_data name = object_of (named_members_of name)
+named_data name = object_of (name_members name)
 
 abbrev pub mask_part_members : ServiceDef → List (ReplyKey × Data)
 mask_part_members d =
