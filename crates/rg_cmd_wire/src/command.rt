@@ -1,24 +1,18 @@
 // Commands, read.
 ghost use Rattle.std.specs.Prelude.{◌≡◌, IfOk, Some};
 ghost use Rattle.serde_json.specs.View.{view};
-ghost use Rattle.rg_json.specs.Reading.{Answers};
+ghost use Rattle.rg_json.specs.Reading.{Answers, Refuses};
 ghost use Rattle.rg_cmd_wire.specs.Commands.{OwnsPolicy, command_of};
-ghost use Rattle.rg_cmd_wire.specs.Reading.{reading_in, word_at};
+ghost use Rattle.rg_cmd_wire.specs.Reading.{reading_in, unnamed, word_at};
 
-use crate::command_name::CommandName;
+use crate::command_name::{CommandName, word_fields};
 use crate::rows::AdminWire;
 use rg_base::{NoMemory, PolicyId, Text, Version};
 use rg_cmd::AdminCommand;
-use rg_json::Need::Must;
-use rg_json::{
-    Field, Kind, Reader, WireFault, WireKind, find, i64_at, judge, optional_at, record_at, text_at,
-};
+use rg_json::{Reader, WireFault, WireKind, find, i64_at, judge, optional_at, record_at, text_at};
 use rg_wire::{Key, Record, Wire};
 use serde_json::Value;
 use std::alloc::Global;
-
-/// The field that says which command it is.
-const WORD: [Field<Key, Record>; 1] = [Field(Key::Command, Must, Kind::Text)];
 
 impl Reader<Version> for AdminWire {
     ghost use Rattle.rg_json.specs.Own.{Whatever};
@@ -42,6 +36,20 @@ fn word_at<'a>(value: &'a Value) -> &'a str
     match find(value, Key::Command) {
         None => "",
         Some(found) => found.as_str().unwrap_or(""),
+    }
+}
+
+/// The fault where no command is called so.
+#[tactic(auto, using(crate::proofs::Refusals::spellings))]
+fn unnamed(alloc: Global) -> WireFault
+    ensures { Refuses result (Some unnamed) }
+{
+    match Text::copy_of(alloc, "/command") {
+        Err(_) => WireFault::NoMemory,
+        Ok(path) => WireFault::Bad {
+            path,
+            kind: WireKind::Mistyped,
+        },
     }
 }
 
@@ -114,19 +122,14 @@ fn command_of(alloc: Global, name: CommandName, value: &Value) -> Result<AdminCo
 }
 
 /// The command of a value, or its first fault.
+#[tactic(auto, using(crate::proofs::Refusals::refusals))]
 pub(crate) fn command_in(alloc: Global, value: &Value) -> Result<AdminCommand, WireFault>
     ensures reads { Answers result (reading_in (Some (view value.now))) }
     ensures owned { IfOk result OwnsPolicy }
 {
-    judge::<Key, Record>(alloc, &WORD, value)?;
+    judge::<Key, Record>(alloc, word_fields(), value)?;
     match CommandName::named(word_at(value)) {
-        None => match Text::copy_of(alloc, "/command") {
-            Err(_) => Err(WireFault::NoMemory),
-            Ok(path) => Err(WireFault::Bad {
-                path,
-                kind: WireKind::Mistyped,
-            }),
-        },
+        None => Err(unnamed(alloc)),
         Some(name) => {
             judge::<Key, Record>(alloc, name.fields(), value)?;
             match command_of(alloc, name, value) {

@@ -6,10 +6,19 @@ ghost use Rattle.rg_wire.specs.Names.{name_of};
 ghost use Rattle.rg_wire.specs.Shapes.{record_shape};
 ghost use Rattle.rg_cmd_wire.specs.Commands.{command_shape};
 ghost use Rattle.rg_cmd_wire.specs.Naming.{named, word_of};
+ghost use Rattle.rg_cmd_wire.specs.Reading.{word_shape};
 
 use rg_json::Need::{May, Must};
 use rg_json::{Field, Kind};
 use rg_wire::{Key, Record};
+
+/// The field that says which command it is.
+#[tactic(auto, unfolding(rg_json::specs::Kinds::shape_of, rg_wire::specs::Shapes::record_shape))]
+pub(crate) fn word_fields() -> &'static [Field<Key, Record>]
+    ensures { record_of (fields_from name_of record_shape result.now) ≡ word_shape }
+{
+    &[Field(Key::Command, Must, Kind::Text)]
+}
 
 /// What a command is called.
 #[derive(Clone, Copy, Debug, PartialEq, Eq)]
