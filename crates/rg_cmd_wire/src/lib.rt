@@ -4,8 +4,6 @@
 mod command;
 mod command_name;
 mod read;
-#[cfg(test)]
-mod read_tests;
 mod rows;
 
 pub use read::{read_command, read_config, read_service, read_user};
