@@ -11,8 +11,6 @@ mod maps;
 #[cfg(test)]
 mod print_tests;
 mod read;
-#[cfg(test)]
-mod read_tests;
 mod reply_key;
 mod reply_text;
 mod rows;
