@@ -8,8 +8,6 @@ mod command_name;
 mod def_text;
 mod download_text;
 mod maps;
-#[cfg(test)]
-mod print_tests;
 mod read;
 mod reply_key;
 mod reply_text;
