@@ -1,5 +1,5 @@
 -- What is printed for the answers of the administration.
-use Rattle.std.specs.Prelude.{ℕ, ℤ, true, List, [], ◌∷◌}
+use Rattle.std.specs.Prelude.{ℕ, true, List, [], ◌∷◌}
 use Rattle.serde_json.specs.Data.{Data, string}
 use Rattle.serde_json.specs.Written.{compact_text}
 use Rattle.rg_base.specs.Listed.{Listed}

@@ -8,11 +8,7 @@ mod command_name;
 mod def_text;
 mod download_text;
 mod maps;
-#[cfg(test)]
-mod print_tests;
 mod read;
-#[cfg(test)]
-mod read_tests;
 mod reply_key;
 mod reply_text;
 mod rows;
