@@ -2,8 +2,7 @@
 use Rattle.std.proofs.Common.{◌≡◌, ◌+◌, ◌<◌, ◌≤◌, ◌++◌, ℕ, ℤ, List, [], ◌∷◌, true, false, Bool, if◌then◌else◌, get_or, length, map, take, refl, sym, ap, subst, ◌∙◌, arith}
 use Rattle.std.proofs.lemmas.List.{length-take-le, map-append}
 use Rattle.std.proofs.lemmas.List.Sums.{fold-append, sum_by_more, sum_by_more_le}
-use Rattle.std.specs.List.{fold, list_any, sum_by}
-use Rattle.std.specs.Str.{bytes_eq}
+use Rattle.std.specs.List.{sum_by}
 use Rattle.rg_base.proofs.Lists.{take_next}
 use Rattle.rg_base.specs.Counts.{Counts, one_edit}
 use Rattle.rg_defs.specs.declared.service_def.Level.{Level}

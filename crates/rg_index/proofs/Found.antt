@@ -1,13 +1,13 @@
 -- What is found at a level, and that each form that lies on a resource is.
-use Rattle.std.proofs.Common.{◌≡◌, ◌⊎◌, ◌++◌, ◌&&◌, ◌||◌, ℕ, ℤ, Bool, true, false, not, cond, if◌then◌else◌, List, [], ◌∷◌, Option, Some, None, Contains, IsTrue, length, map, filter, nat_eq, option_map, slice_get, unwrap_or, refl, sym, ap, subst, ◌∙◌, inl, inr, arith}
+use Rattle.std.proofs.Common.{◌≡◌, ◌⊎◌, ◌&&◌, ℕ, ℤ, Bool, true, false, not, cond, if◌then◌else◌, List, [], ◌∷◌, Option, Some, None, Contains, IsTrue, length, map, filter, nat_eq, option_map, slice_get, unwrap_or, refl, sym, ap, subst, ◌∙◌, inl, inr, arith}
 use Rattle.std.proofs.lemmas.Bool.{and_parts, false≢true, not_from_false, or_cases}
 use Rattle.std.proofs.lemmas.List.{length-map}
 use Rattle.std.proofs.lemmas.List.Elements.{Contains-append_left, Contains-append_right}
 use Rattle.std.proofs.lemmas.Option.{none-some, same_Some}
 use Rattle.std.proofs.lemmas.Slice.Eq.{bytes_eq-Decides}
-use Rattle.std.specs.List.{find, flat_map, list_all, list_any, starts_with}
+use Rattle.std.specs.List.{find, flat_map, list_all, starts_with}
 use Rattle.std.specs.Str.{bytes_eq}
-use Rattle.rg_base.proofs.Lists.{Contains-cases, Contains-filter, Contains-filtered, Contains-flat_map, Contains-flat_mapped, Contains-map, Contains-mapped, Contains-none, Contains-slice_get, all_holds, any_from, any_holds, find_contained}
+use Rattle.rg_base.proofs.Lists.{Contains-cases, Contains-filter, Contains-filtered, Contains-flat_map, Contains-flat_mapped, Contains-map, Contains-mapped, Contains-none, Contains-slice_get, all_holds, any_holds, find_contained}
 use Rattle.rg_base.specs.Folding.{folded}
 use Rattle.rg_defs.specs.declared.service_def.Level.{Level}
 use Rattle.rg_defs.specs.declared.service_def.ServiceDef.{ServiceDef}
@@ -24,11 +24,10 @@ use Rattle.rg_policy.specs.declared.request.Element.{Element}
 use Rattle.rg_resmatch.specs.declared.reach.Reach.{Reach}
 use Rattle.rg_resmatch.specs.declared.reach.Reach.TheVariants.{Exact, Down}
 use Rattle.rg_resmatch.specs.Tests.{any_stands, is_hit, is_some_element, levels_of, lies, may_name, meets, names_level, patterns_of, some_lies, some_stands, value_at}
-use Rattle.rg_trie.specs.declared.pair.Filed.{Filed}
 use Rattle.rg_trie.specs.declared.pair.Pair.{Pair}
 use Rattle.rg_trie.specs.Walked.{entries_under, is_under}
 use Rattle.rg_index.specs.declared.form.Form.{Form}
-use Rattle.rg_index.specs.Candidates.{bound, candidates, fewest, filed_for, filed_number, ids_for, ids_of, in_order, least}
+use Rattle.rg_index.specs.Candidates.{bound, candidates, fewest, filed_for, filed_number, ids_for, ids_of, in_order}
 use Rattle.rg_index.specs.Changes.{ids_differ}
 use Rattle.rg_index.specs.Filing.{Filing, all_pairs, filed, filed_under, filings, form_pairs, keys_at, keys_of, lacked_filings, map_filings, resource_filings}
 use Rattle.rg_index.specs.Kept.{LevelPairs, entries_of, indexed}

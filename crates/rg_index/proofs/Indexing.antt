@@ -1,8 +1,8 @@
 -- What the tries hold is what is filed, after a build and after a change; and the edits that this takes.
-use Rattle.std.proofs.Common.{◌≡◌, ◌+◌, ◌≤◌, ◌&&◌, ℕ, Bool, true, false, List, [], ◌∷◌, Option, Some, None, Contains, length, map, refl, sym, ap, ◌∙◌, arith}
+use Rattle.std.proofs.Common.{◌≡◌, ◌+◌, ◌≤◌, ◌&&◌, true, List, Option, Some, None, Contains, length, map, refl, sym, ap, ◌∙◌, arith}
 use Rattle.std.proofs.lemmas.Bool.{and_parts}
 use Rattle.std.proofs.lemmas.List.Folds.{fold-map}
-use Rattle.std.specs.List.{flat_map, list_all, sum_by}
+use Rattle.std.specs.List.{list_all, sum_by}
 use Rattle.std.specs.Str.{bytes_eq}
 use Rattle.rg_base.proofs.Lists.{all_from, all_holds}
 use Rattle.rg_base.specs.Texts.{all_distinct, is_name}
@@ -17,7 +17,7 @@ use Rattle.rg_resmatch.specs.Rules.{are_written, is_some_text, supports, values_
 use Rattle.rg_index.specs.declared.form.Form.{Form}
 use Rattle.rg_index.specs.Candidates.{in_order}
 use Rattle.rg_index.specs.Changes.{IsAmong, changed, form_fits, forms_fit, given_fits, given_pairs, ids_differ, is_free}
-use Rattle.rg_index.specs.Filing.{all_pairs, form_pairs, keys_at, numbered, pairs}
+use Rattle.rg_index.specs.Filing.{all_pairs, form_pairs, numbered, pairs}
 use Rattle.rg_index.specs.Kept.{IsIndexed, LevelPairs, built, edited, given_keys, given_level_pairs, indexed, is_given_written, is_written, level_keys, level_pairs, with_all, without_all}
 use Rattle.rg_index.proofs.Changing.{after_change, after_change_apart, after_change_fit, given_form_pairs}
 use Rattle.rg_index.proofs.Keying.{Distinct, form_within, forms_within, found_itself, same_keys}

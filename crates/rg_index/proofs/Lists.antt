@@ -1,8 +1,8 @@
 -- Lists that are made of others, and sums over them.
-use Rattle.std.proofs.Common.{◌≡◌, ◌⊎◌, ◌+◌, ◌≤◌, ◌++◌, ℕ, zero, suc, Bool, true, false, cond, List, [], ◌∷◌, Option, Some, None, Contains, length, map, filter, refl, sym, ap, subst, ◌∙◌, inl, inr, arith, option_map}
+use Rattle.std.proofs.Common.{◌≡◌, ◌+◌, ◌++◌, ℕ, Bool, true, false, cond, List, [], ◌∷◌, Some, Contains, map, refl, sym, ap, ◌∙◌, arith, option_map}
 use Rattle.std.proofs.lemmas.List.Sums.{sum_by-cons}
 use Rattle.std.specs.List.{find, flat_map, sum_by}
-use Rattle.rg_base.proofs.Lists.{Contains-cases, Contains-first, Contains-later}
+use Rattle.rg_base.proofs.Lists.{Contains-first, Contains-later}
 
 pub flat_map_agree : {X Y : Type 0} (f g : X → List Y) → ((x : X) → f x ≡ g x) → (xs : List X) → flat_map f xs ≡ flat_map g xs
 flat_map_agree f g e [] = refl

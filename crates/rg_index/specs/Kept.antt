@@ -16,7 +16,7 @@ use Rattle.rg_trie.specs.declared.pair.Pair.{Pair}
 use Rattle.rg_trie.specs.Edited.{with_pair, without_pair}
 use Rattle.rg_index.specs.declared.form.Form.{Form}
 use Rattle.rg_index.specs.Candidates.{in_order}
-use Rattle.rg_index.specs.Changes.{changed, forms_fit, ids_differ}
+use Rattle.rg_index.specs.Changes.{forms_fit, ids_differ}
 use Rattle.rg_index.specs.Filing.{all_pairs, keys_of, numbered}
 
 -- the keys of a resource at this level

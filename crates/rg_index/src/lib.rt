@@ -16,6 +16,3 @@ pub use checks::{forms_fit, ids_differ};
 pub use form::Form;
 pub use index::Index;
 pub use laws::{candidates_are_of_forms, lying_forms_are_candidates};
-
-#[cfg(test)]
-mod tests;

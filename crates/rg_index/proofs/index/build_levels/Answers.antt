@@ -1,4 +1,4 @@
-use Rattle.std.proofs.Common.{◌≡◌, ◌<◌, ℕ, List, length, ◌∙◌, arith}
+use Rattle.std.proofs.Common.{◌<◌, ℕ, List, length, ◌∙◌, arith}
 use Rattle.std.specs.List.{sum_by}
 use Rattle.rg_defs.specs.declared.service_def.Level.{Level}
 use Rattle.rg_index.specs.declared.form.Form.{Form}

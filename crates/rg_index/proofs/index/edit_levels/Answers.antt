@@ -1,8 +1,7 @@
-use Rattle.std.proofs.Common.{◌≡◌, ◌<◌, ◌+◌, ℕ, List, Option, length, option_map, ◌∙◌, arith}
-use Rattle.std.specs.List.{sum_by}
+use Rattle.std.proofs.Common.{◌<◌, ◌+◌, ℕ, Option, length, option_map, arith}
 use Rattle.rg_index.specs.declared.form.Form.{Form}
-use Rattle.rg_index.specs.Kept.{LevelPairs, edited, given_keys}
-use Rattle.rg_index.proofs.Filling.{mapped_more, sum_more, sum_upto}
+use Rattle.rg_index.specs.Kept.{LevelPairs, given_keys}
+use Rattle.rg_index.proofs.Filling.{sum_upto}
 use Rattle.rg_index.proofs.index.edit_levels.Goals as goal
 
 abbrev keys_of_both : Option Form → Option Form → LevelPairs → ℕ

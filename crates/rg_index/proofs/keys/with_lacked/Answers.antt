@@ -1,5 +1,4 @@
-use Rattle.std.proofs.Common.{◌≡◌, ◌++◌, ◌∷◌, [], ℕ, List, Bool, true, false, append-nil, sym, ap, ◌∙◌}
-use Rattle.rg_policy.specs.declared.policy.PolicyResource.{PolicyResource}
+use Rattle.std.proofs.Common.{◌≡◌, ◌++◌, ◌∷◌, [], ℕ, List, true, false, append-nil, sym, ap, ◌∙◌}
 use Rattle.rg_resmatch.specs.Tests.{names_level}
 use Rattle.rg_index.proofs.Filling.{is_lacked, not_lacked}
 use Rattle.rg_index.proofs.keys.with_lacked.Goals as goal

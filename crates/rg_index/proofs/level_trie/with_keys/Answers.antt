@@ -1,9 +1,6 @@
-use Rattle.std.proofs.Common.{◌≡◌, ◌+◌, ◌<◌, ℕ, ℤ, List, length, sym, ap, ◌∙◌, arith, w64, to_z, of_z}
+use Rattle.std.proofs.Common.{◌≡◌, ◌<◌, length, sym, ◌∙◌, arith, w64, to_z, of_z}
 use Rattle.std.specs.Arc.{arc_value}
-use Rattle.rg_trie.specs.declared.pair.Filed.{Filed}
 use Rattle.rg_trie.specs.Edited.{with_pair}
-use Rattle.rg_index.specs.Filing.{EditsWithin, numbered}
-use Rattle.rg_index.specs.Kept.{with_all}
 use Rattle.rg_index.proofs.Filling.{filed_more, one_more}
 use Rattle.rg_index.proofs.level_trie.with_keys.Goals as goal
 

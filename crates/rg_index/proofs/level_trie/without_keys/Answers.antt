@@ -1,9 +1,6 @@
-use Rattle.std.proofs.Common.{◌≡◌, ◌+◌, ◌<◌, ℕ, ℤ, List, length, sym, ap, ◌∙◌, arith, w64, to_z, of_z}
+use Rattle.std.proofs.Common.{◌≡◌, ◌<◌, length, sym, ◌∙◌, arith, w64, to_z, of_z}
 use Rattle.std.specs.Arc.{arc_value}
-use Rattle.rg_trie.specs.declared.pair.Filed.{Filed}
 use Rattle.rg_trie.specs.Edited.{without_pair}
-use Rattle.rg_index.specs.Filing.{EditsWithin, numbered}
-use Rattle.rg_index.specs.Kept.{without_all}
 use Rattle.rg_index.proofs.Filling.{taken_more, one_more}
 use Rattle.rg_index.proofs.level_trie.without_keys.Goals as goal
 

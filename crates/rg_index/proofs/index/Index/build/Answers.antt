@@ -1,7 +1,6 @@
-use Rattle.std.proofs.Common.{◌≡◌, ◌∙◌, ℕ, List, length, map, sym, ap, subst}
+use Rattle.std.proofs.Common.{◌∙◌, ℕ, List, length, map, sym, ap, subst}
 use Rattle.std.specs.List.{sum_by}
 use Rattle.rg_defs.specs.declared.service_def.Level.{Level}
-use Rattle.rg_defs.specs.declared.service_def.ServiceDef.{ServiceDef}
 use Rattle.rg_index.specs.declared.form.Form.{Form}
 use Rattle.rg_index.specs.Filing.{EditsWithin, pairs}
 use Rattle.rg_index.specs.Indexed.{Indexed}

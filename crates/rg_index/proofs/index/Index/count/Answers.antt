@@ -1,4 +1,4 @@
-use Rattle.std.proofs.Common.{◌≡◌, ℕ, List, Some, length, sym, ap, ◌∙◌}
+use Rattle.std.proofs.Common.{Some, length, sym, ap, ◌∙◌}
 use Rattle.std.specs.List.{find}
 use Rattle.std.specs.Str.{bytes_eq, chars}
 use Rattle.rg_index.specs.Filing.{filed}

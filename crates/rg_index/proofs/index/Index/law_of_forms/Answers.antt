@@ -1,4 +1,4 @@
-use Rattle.std.proofs.Common.{◌≡◌, ap, sym, ◌∙◌}
+use Rattle.std.proofs.Common.{ap, sym, ◌∙◌}
 use Rattle.rg_defs.specs.Rules.{def_fault}
 use Rattle.rg_index.specs.Changes.{forms_fit, ids_differ}
 use Rattle.rg_index.specs.Indexed.{Indexed}

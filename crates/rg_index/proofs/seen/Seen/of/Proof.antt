@@ -2,9 +2,6 @@
 use Rattle.std.proofs.Common.{List, [], ◌∷◌, ◌++◌, refl}
 use Rattle.std.proofs.raw_atomic.Walks.{proved_at}
 use Rattle.rg_index.proofs.Bare.{Bare, bare, from_nothing}
-use base.Fml.{ftrue}
-use base.Logic.{ent}
-use contract.Monad.{fact_i}
 use contract.Running.{tables}
 use denote.Builtin.{RefOf}
 use denote.Exit.{yes}
@@ -15,7 +12,7 @@ use denote.Triple.Entry.{alive}
 use denote.Triple.Walked.{Stays, stay_dropped, Goes-dropped, walk_of, says, ends_at}
 use mir.Val.{Val, vptr}
 use types.ByLocal.{alloc_all, pass_all, free_all, look_at, sets, get}
-use types.Kit.{‵, raw, ◌⊛◌, ◌$◌, ◌∵◌, !, qed, move, keep, drop, split, join, fsplit, fjoin, feq_l, regoal, prop, suffices, frame, use0, by, done}
+use types.Kit.{‵, raw, ◌⊛◌, ◌$◌, ◌∵◌, !, qed, move, keep, drop, split, join, fsplit, fjoin, feq_l, regoal, prop, suffices, use0, done}
 use types.Part.{agg}
 use types.Run.{enter, no_more, and_then, returns}
 use prog.Wp.{WpFn}
