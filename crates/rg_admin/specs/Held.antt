@@ -10,7 +10,7 @@ use Rattle.rg_delta.specs.Logs.{Book}
 use Rattle.rg_delta.specs.Touches.{touched}
 use Rattle.rg_delta.specs.declared.touch.Touch.{Touch}
 use Rattle.rg_delta.specs.declared.touch.Touch.TheVariants.{Leaves}
-use Rattle.rg_machine.specs.Logs.{policy_book, tag_book, version, written}
+use Rattle.rg_machine.specs.Logs.{Administration, policy_book, tag_book, version, written}
 use Rattle.rg_machine.specs.Touches.{policy_touch, tag_touch}
 
 -- a log, and what is to be done to its policies and to its tag rows
@@ -29,6 +29,10 @@ log_of service policies tags = record {
   tag_changes = listed tags.changes;
 }
 
+-- nothing is to be done
+abbrev pub unplanned : Log → Planned
+unplanned log = record { log = log; policies = Leaves; tags = Leaves }
+
 abbrev pub planned : Planned → Touch LogEntry → Touch TagChange → Planned
 planned p policies tags = record { log = p.log; policies = policies; tags = tags }
 
@@ -36,9 +40,13 @@ planned p policies tags = record { log = p.log; policies = policies; tags = tags
 abbrev pub plan_for : State → AdminCommand → Planned → Planned
 plan_for s c p = planned p (policy_touch s c p.log.service) (tag_touch s c p.log.service)
 
--- after the change, nothing is to be done
+-- after the change
 abbrev pub settled : Planned → Planned
-settled p = record { log = written p.log (touched p.policies (policy_book p.log)) (touched p.tags (tag_book p.log)); policies = Leaves; tags = Leaves }
+settled p = unplanned (written p.log (touched p.policies (policy_book p.log)) (touched p.tags (tag_book p.log)))
 
 abbrev pub logs_of : List Planned → List Log
 logs_of ps = map (λ (p : Planned). p.log) ps
+
+-- the administration of this state and these logs
+abbrev pub administration_of : State → List Planned → Administration
+administration_of s ps = record { state = s; logs = logs_of ps }

@@ -1,12 +1,13 @@
 // The logs of the services.
-ghost use Rattle.std.specs.Prelude.{◌≡◌, OnOk, map};
+ghost use Rattle.std.specs.Prelude.{◌≡◌, IfOk, OnOk};
 ghost use Rattle.rg_delta.specs.declared.touch.Touch.TheVariants.{Leaves};
-ghost use Rattle.rg_admin.specs.Held.{Planned, planned, settled};
-ghost use Rattle.rg_machine.specs.Logs.{policy_book, tag_book};
+ghost use Rattle.rg_admin.specs.Held.{Planned, planned, settled, unplanned};
+ghost use Rattle.rg_machine.specs.Logs.{new_log, policy_book, tag_book};
 
-use rg_base::{NoMemory, Text};
+use rg_base::{NoMemory, Text, TryCopy, Version};
 use rg_cmd::{LogEntry, TagChange};
 use rg_delta::{DeltaLog, Touch};
+use std::alloc::Global;
 use std::marker::Model;
 use std::mem;
 
@@ -33,6 +34,22 @@ impl Model for ServiceLog {
 }
 
 impl ServiceLog {
+    /// The logs of a created service, at versions 1 and 1.
+    pub fn new(alloc: Global, service: &Text) -> Result<ServiceLog, NoMemory>
+        ensures { IfOk result (λ log. log ≡ unplanned (new_log service.now)) }
+    {
+        let service = service.try_copy(alloc)?;
+        let policies = DeltaLog::new(alloc, Version(1))?;
+        let tags = DeltaLog::new(alloc, Version(1))?;
+        Ok(ServiceLog {
+            service,
+            policies,
+            tags,
+            policies_due: Touch::Leaves,
+            tags_due: Touch::Leaves,
+        })
+    }
+
     /// The service's name.
     pub fn service(&self) -> &Text
         ensures { result.now ≡ self.now.log.service }
@@ -87,14 +104,5 @@ impl ServiceLog {
         self.policies.touch(policies);
         let tags = mem::replace(&mut self.tags_due, Touch::Leaves);
         self.tags.touch(tags);
-    }
-}
-
-/// Makes the change in each log. It takes no memory.
-pub fn settle_all(logs: &mut Vec<ServiceLog>)
-    ensures { logs.new.items ≡ map settled logs.old.items }
-{
-    for log in logs.iter_mut() {
-        log.settle();
     }
 }
