@@ -1,0 +1,3 @@
+pub mod Readying
+pub mod Reaching
+pub mod Settling
