@@ -1,3 +1,5 @@
+pub mod Firsts
 pub mod Readying
 pub mod Reaching
 pub mod Settling
+pub mod Tightness

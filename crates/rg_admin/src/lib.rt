@@ -2,8 +2,11 @@
 #![tactic(auto)]
 
 mod admin;
+mod change;
+mod lists;
 mod logs;
 mod lookups;
+mod numbered;
 mod planning;
 mod stand_ins;
 mod touches;
