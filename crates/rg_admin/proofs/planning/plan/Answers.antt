@@ -4,7 +4,7 @@ use Rattle.rg_admin.proofs.Settling.{changes_list, each_touched, logs_left, logs
 use Rattle.rg_admin.proofs.planning.plan.Goals as goal
 
 pub returns-in_ok-try_copy-in-DeleteService-clause-due : goal.returns-in_ok-try_copy-in-DeleteService-clause-due
-returns-in_ok-try_copy-in-DeleteService-clause-due c = search (rules, logs_left c.in-DeleteService.name.now c.args.logs.now.items)
+returns-in_ok-try_copy-in-DeleteService-clause-due c = search (rules, logs_left c.in-DeleteService.name c.args.logs.now.items)
 
 pub returns-in_ok-plan_each-in_default : goal.returns-in_ok-plan_each-in_default
 returns-in_ok-plan_each-in_default c =
