@@ -1,15 +1,18 @@
 // The administration machine.
-ghost use Rattle.std.specs.Prelude.{◌≡◌, IfOk, OnErr, OnOk};
+ghost use Rattle.std.specs.Prelude.{◌≡◌, IfOk, OnErr, OnOk, vec_capacity, vec_len};
+ghost use Rattle.rg_machine.specs.Changes.{after_command};
 ghost use Rattle.rg_machine.specs.Starts.{IsStart};
 ghost use Rattle.rg_machine.specs.Steps.{accepted, counted, fault, step};
 ghost use Rattle.rg_validate.specs.Valid.{IsKept};
+ghost use Rattle.rg_admin.specs.Due.{HasRoom, done};
 ghost use Rattle.rg_admin.specs.Held.{administration_of};
+ghost use Rattle.rg_admin.specs.Tight.{IsTight};
 ghost use Rattle.rg_admin.specs.Reached.{IsPacked};
 ghost use Rattle.rg_admin.specs.Stepped.{IsAccepted, IsStep, administration_in};
 
 use crate::change::{change, kept_is_tight};
 use crate::logs::ServiceLog;
-use crate::planning::{plan, settle};
+use crate::planning::{Due, plan, settle};
 use crate::stand_ins::reply_of;
 use rg_base::NoMemory;
 use rg_cmd::{AdminCommand, AdminReply, Ask, Rule, State};
@@ -66,6 +69,20 @@ fn count_entry(state: &mut State)
     state.count = state.count.saturating_add(1).min(MOST_ENTRIES);
 }
 
+/// Changes the state, and then the logs, as is due to them.
+fn make(alloc: Global, held: &mut Held, command: AdminCommand, due: Due) -> Result<(), NoMemory>
+    requires tight { IsTight held.old.state }
+    requires room { HasRoom due (vec_len held.old.logs) (vec_capacity held.old.logs) }
+    ensures state { OnOk result (held.new.state ≡ after_command held.old.state command) }
+    ensures logs { OnOk result (held.new.logs.items ≡ done due held.old.logs.items) }
+    ensures err_state { OnErr result (held.new.state ≡ held.old.state) }
+    ensures err_logs { OnErr result (held.new.logs.items ≡ held.old.logs.items) }
+{
+    change(alloc, &mut held.state, command)?;
+    settle(&mut held.logs, due);
+    Ok(())
+}
+
 /// Makes the change of a command that passes every rule.
 fn accept(alloc: Global, held: &mut Held, command: AdminCommand) -> Result<(), NoMemory>
     requires kept { IsKept held.old.state }
@@ -75,8 +92,7 @@ fn accept(alloc: Global, held: &mut Held, command: AdminCommand) -> Result<(), N
 {
     kept_is_tight();
     let due = plan(alloc, &held.state, &command, &mut held.logs)?;
-    change(alloc, &mut held.state, command)?;
-    settle(&mut held.logs, due);
+    make(alloc, held, command, due)?;
     count_entry(&mut held.state);
     Ok(())
 }
