@@ -2,13 +2,13 @@
 ghost use Rattle.std.specs.Prelude.{◌≡◌, IfOk, OnErr, OnOk, vec_capacity, vec_len};
 ghost use Rattle.rg_machine.specs.Changes.{after_command};
 ghost use Rattle.rg_machine.specs.Starts.{IsStart};
-ghost use Rattle.rg_machine.specs.Steps.{accepted, counted, fault, step};
+ghost use Rattle.rg_machine.specs.Steps.{counted, fault, step};
 ghost use Rattle.rg_validate.specs.Valid.{IsKept};
 ghost use Rattle.rg_admin.specs.Due.{HasRoom, done};
 ghost use Rattle.rg_admin.specs.Held.{administration_of};
 ghost use Rattle.rg_admin.specs.Tight.{IsTight};
 ghost use Rattle.rg_admin.specs.Reached.{IsPacked};
-ghost use Rattle.rg_admin.specs.Stepped.{IsAccepted, IsStep, administration_in};
+ghost use Rattle.rg_admin.specs.Stepped.{IsAccepted, IsMade, IsStep, administration_in};
 
 use crate::change::{change, kept_is_tight};
 use crate::logs::ServiceLog;
@@ -69,17 +69,18 @@ fn count_entry(state: &mut State)
     state.count = state.count.saturating_add(1).min(MOST_ENTRIES);
 }
 
-/// Changes the state, and then the logs, as is due to them.
+/// Changes the state, and then the logs as is due to them, and counts the entry.
 fn make(alloc: Global, held: &mut Held, command: AdminCommand, due: Due) -> Result<(), NoMemory>
     requires tight { IsTight held.old.state }
     requires room { HasRoom due (vec_len held.old.logs) (vec_capacity held.old.logs) }
-    ensures state { OnOk result (held.new.state ≡ after_command held.old.state command) }
+    ensures state { OnOk result (held.new.state ≡ counted (after_command held.old.state command)) }
     ensures logs { OnOk result (held.new.logs.items ≡ done due held.old.logs.items) }
     ensures err_state { OnErr result (held.new.state ≡ held.old.state) }
     ensures err_logs { OnErr result (held.new.logs.items ≡ held.old.logs.items) }
 {
     change(alloc, &mut held.state, command)?;
     settle(&mut held.logs, due);
+    count_entry(&mut held.state);
     Ok(())
 }
 
@@ -87,14 +88,17 @@ fn make(alloc: Global, held: &mut Held, command: AdminCommand, due: Due) -> Resu
 fn accept(alloc: Global, held: &mut Held, command: AdminCommand) -> Result<(), NoMemory>
     requires kept { IsKept held.old.state }
     requires packed { IsPacked held.old.state }
-    ensures ok { OnOk result (administration_in held.new ≡ accepted (administration_in held.old) command) }
+    ensures ok { OnOk result (IsMade (administration_in held.old) command (administration_in held.new)) }
     ensures err { OnErr result (administration_in held.new ≡ administration_in held.old) }
 {
     kept_is_tight();
-    let due = plan(alloc, &held.state, &command, &mut held.logs)?;
-    make(alloc, held, command, due)?;
-    count_entry(&mut held.state);
-    Ok(())
+    match plan(alloc, &held.state, &command, &mut held.logs) {
+        Ok(due) => make(alloc, held, command, due),
+        Err(refused) => {
+            drop(command);
+            Err(refused)
+        }
+    }
 }
 
 fn command_of(ask: Ask) -> AdminCommand
@@ -104,30 +108,47 @@ fn command_of(ask: Ask) -> AdminCommand
 }
 
 /// Answers an ask that passes every rule.
+#[tactic(none)]
 fn answer(alloc: Global, held: &mut Held, ask: Ask) -> Result<AdminReply, NoMemory>
     requires kept { IsKept held.old.state }
     requires packed { IsPacked held.old.state }
     ensures ok { IfOk result (IsAccepted (administration_in held.old) ask (administration_in held.new)) }
     ensures err { OnErr result (administration_in held.new ≡ administration_in held.old) }
 {
-    let reply = reply_of(alloc, &held.state, &held.logs, &ask)?;
-    accept(alloc, held, command_of(ask))?;
-    Ok(reply)
+    match reply_of(alloc, &held.state, &held.logs, &ask) {
+        Ok(reply) => match accept(alloc, held, command_of(ask)) {
+            Ok(()) => Ok(reply),
+            Err(refused) => {
+                drop(reply);
+                Err(refused)
+            }
+        },
+        Err(refused) => {
+            drop(ask);
+            Err(refused)
+        }
+    }
 }
 
 /// Answers an ask.
+#[tactic(none)]
 fn step_held(alloc: Global, held: &mut Held, ask: Ask) -> Result<AdminReply, NoMemory>
     requires kept { IsKept held.old.state }
     requires packed { IsPacked held.old.state }
     ensures ok { IfOk result (IsStep (administration_in held.old) ask (administration_in held.new)) }
     ensures err { OnErr result (administration_in held.new ≡ administration_in held.old) }
 {
-    match fault(alloc, &held.state, &ask)? {
-        Some(rule) => {
+    match fault(alloc, &held.state, &ask) {
+        Ok(None) => answer(alloc, held, ask),
+        Ok(Some(rule)) => {
+            drop(ask);
             count_entry(&mut held.state);
             Ok(AdminReply::Refused(rule))
         }
-        None => answer(alloc, held, ask),
+        Err(refused) => {
+            drop(ask);
+            Err(refused)
+        }
     }
 }
 

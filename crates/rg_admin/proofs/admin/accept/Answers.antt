@@ -1,22 +1,17 @@
-use Rattle.std.proofs.Common.{ap, ◌∙◌}
-use Rattle.rg_machine.specs.Steps.{counted}
-use Rattle.rg_admin.specs.Held.{logs_of}
+use Rattle.rg_admin.proofs.Stepping.{made_on, unmade_on}
 use Rattle.rg_admin.proofs.admin.accept.Goals as goal
 
 pub make-requires-clause-tight : goal.make-requires-clause-tight
 make-requires-clause-tight c = c.kept_is_tight.ensures c.args.held.now.state c.requires.kept c.requires.packed
 
 pub make-requires-clause-room : goal.make-requires-clause-room
-make-requires-clause-room c = c.in_ok-plan.ensures.room
+make-requires-clause-room c = c.in-Ok.ensures.room
 
-pub returns-in_err-plan-clause-err : goal.returns-in_err-plan-clause-err
-returns-in_err-plan-clause-err c = λ i. record { state = c.args.held.now.state; logs = c.plan.ensures.logs i }
+pub returns-in-Ok-clause-ok : goal.returns-in-Ok-clause-ok
+returns-in-Ok-clause-ok c = made_on c.make.result _ _ _ _ c.in-Ok.due _ _ c.make.ensures.state c.make.ensures.logs c.in-Ok.ensures.due
 
-pub returns-in_err-make-clause-err : goal.returns-in_err-make-clause-err
-returns-in_err-make-clause-err c = let logs = ap logs_of c.make.ensures.err_logs ∙ c.in_ok-plan.ensures.logs in λ i. record { state = c.make.ensures.err_state i; logs = logs i }
+pub returns-in-Ok-clause-err : goal.returns-in-Ok-clause-err
+returns-in-Ok-clause-err c = unmade_on c.make.result _ _ _ _ _ c.make.ensures.err_state c.make.ensures.err_logs c.plan.ensures.logs
 
-pub returns-clause-ok : goal.returns-clause-ok
-returns-clause-ok c =
-    let state = c.count_entry.ensures ∙ ap counted c.in_ok-make.ensures.state in
-    let logs = ap logs_of c.in_ok-make.ensures.logs ∙ c.in_ok-plan.ensures.due in
-    λ i. record { state = state i; logs = logs i }
+pub returns-in-Err-clause-err : goal.returns-in-Err-clause-err
+returns-in-Err-clause-err c = λ i. record { state = c.args.held.now.state; logs = c.plan.ensures.logs i }
