@@ -108,7 +108,6 @@ fn command_of(ask: Ask) -> AdminCommand
 }
 
 /// Answers an ask that passes every rule.
-#[tactic(none)]
 fn answer(alloc: Global, held: &mut Held, ask: Ask) -> Result<AdminReply, NoMemory>
     requires kept { IsKept held.old.state }
     requires packed { IsPacked held.old.state }
@@ -131,7 +130,6 @@ fn answer(alloc: Global, held: &mut Held, ask: Ask) -> Result<AdminReply, NoMemo
 }
 
 /// Answers an ask.
-#[tactic(none)]
 fn step_held(alloc: Global, held: &mut Held, ask: Ask) -> Result<AdminReply, NoMemory>
     requires kept { IsKept held.old.state }
     requires packed { IsPacked held.old.state }
@@ -176,7 +174,7 @@ impl Admin {
     /// Answers the ask: refused by the first rule that it breaks, which changes nothing but the count of entries, or else
     /// done. Where memory is refused everything stays as it is.
     pub fn step(&mut self, alloc: Global, ask: Ask) -> Result<AdminReply, NoMemory>
-        ensures ok { IfOk result (IsStep self.old ask self.new) }
+        ensures ok { IfOk result (λ r. (self.new, r) ≡ step self.old ask) }
         ensures err { OnErr result (self.new ≡ self.old) }
     {
         states_are_kept();
