@@ -6,9 +6,10 @@ ghost use Rattle.rg_validate.specs.Valid.{IsKept};
 ghost use Rattle.rg_admin.specs.Held.{administration_of, logs_of};
 ghost use Rattle.rg_admin.specs.Reached.{IsPacked};
 
+use crate::change::{change, kept_is_tight};
 use crate::logs::ServiceLog;
 use crate::planning::{plan, settle};
-use crate::stand_ins::{change, reply_of};
+use crate::stand_ins::reply_of;
 use rg_base::NoMemory;
 use rg_cmd::{AdminCommand, AdminReply, Ask, Rule, State};
 use rg_delegate::authority_fault;
@@ -70,6 +71,7 @@ fn accept(
     ensures ok { OnOk result (administration_of state.new logs.new.items ≡ accepted (administration_of state.old logs.old.items) command) }
     ensures err { OnErr result (administration_of state.new logs.new.items ≡ administration_of state.old logs.old.items) }
 {
+    kept_is_tight();
     let due = plan(alloc, state, &command, logs)?;
     change(alloc, state, command)?;
     settle(logs, due);
