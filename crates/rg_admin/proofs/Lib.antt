@@ -3,3 +3,5 @@ pub mod Readying
 pub mod Reaching
 pub mod Settling
 pub mod Tightness
+pub mod Placing
+pub mod Serving

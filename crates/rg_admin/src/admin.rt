@@ -9,7 +9,7 @@ ghost use Rattle.rg_admin.specs.Reached.{IsPacked};
 use crate::change::{change, kept_is_tight};
 use crate::logs::ServiceLog;
 use crate::planning::{plan, settle};
-use crate::stand_ins::reply_of;
+use crate::reply::reply_of;
 use rg_base::NoMemory;
 use rg_cmd::{AdminCommand, AdminReply, Ask, Rule, State};
 use rg_delegate::authority_fault;
