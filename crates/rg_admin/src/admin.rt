@@ -13,7 +13,7 @@ ghost use Rattle.rg_admin.specs.Stepped.{IsAccepted, IsMade, IsStep, administrat
 use crate::change::{change, kept_is_tight};
 use crate::logs::ServiceLog;
 use crate::planning::{Due, plan, settle};
-use crate::stand_ins::reply_of;
+use crate::reply::reply_of;
 use rg_base::NoMemory;
 use rg_cmd::{AdminCommand, AdminReply, Ask, Rule, State};
 use rg_delegate::authority_fault;
