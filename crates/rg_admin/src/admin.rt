@@ -1,0 +1,218 @@
+// The administration machine.
+ghost use Rattle.std.specs.Prelude.{◌≡◌, IfOk, OnErr, OnOk, Some, true, vec_capacity, vec_len};
+ghost use Rattle.std.specs.List.{list_any};
+ghost use Rattle.std.specs.Str.{chars};
+ghost use Rattle.rg_cmd.specs.Lookups.{is_service};
+ghost use Rattle.rg_machine.specs.Changes.{after_command};
+ghost use Rattle.rg_machine.specs.Starts.{IsStart};
+ghost use Rattle.rg_machine.specs.Steps.{counted, fault, step};
+ghost use Rattle.rg_machine.specs.Views.{view};
+ghost use Rattle.rg_validate.specs.Valid.{IsKept};
+ghost use Rattle.rg_admin.specs.Due.{HasRoom, done};
+ghost use Rattle.rg_admin.specs.Held.{administration_of};
+ghost use Rattle.rg_admin.specs.Tight.{IsTight};
+ghost use Rattle.rg_admin.specs.Reached.{IsPacked};
+ghost use Rattle.rg_admin.specs.Stepped.{IsAccepted, IsMade, IsStep, administration_in};
+
+use crate::change::{change, kept_is_tight};
+use crate::logs::ServiceLog;
+use crate::planning::{Due, plan, settle};
+use crate::reply::reply_of;
+use crate::view::view_of;
+use rg_base::NoMemory;
+use rg_cmd::{AdminCommand, AdminReply, Ask, Rule, State};
+use rg_delegate::authority_fault;
+use rg_facts::Facts;
+use rg_machine::states_are_kept;
+use rg_turn::Machine;
+use rg_validate::first_fault;
+use std::alloc::Global;
+use std::marker::Model;
+
+/// The most entries that are counted.
+const MOST_ENTRIES: u64 = 1 << 62;
+
+/// The administration. Contracts see its state, and one log for each service in the order of the services.
+#[derive(Drop)]
+pub struct Admin {
+    held: Held,
+}
+
+/// A state with the logs of its services.
+#[derive(Drop)]
+struct Held {
+    state: State,
+    logs: Vec<ServiceLog>,
+}
+
+impl Model for Admin {
+    ghost use Rattle.rg_machine.specs.Logs.{Administration};
+    ghost use Rattle.rg_admin.specs.Stepped.{administration_in};
+    ghost use Rattle.rg_admin.specs.Reached.{IsReached};
+
+    ghost Value = { Administration };
+
+    ghost view = { λ a. administration_in a.held };
+
+    ghost invariant = { λ a. IsReached (administration_in a.held) };
+}
+
+/// The first rule that the ask breaks.
+fn fault(alloc: Global, state: &State, ask: &Ask) -> Result<Option<Rule>, NoMemory>
+    requires { IsKept state.now }
+    ensures { IfOk result (λ f. f ≡ fault state.now ask.now) }
+{
+    match first_fault(alloc, state, ask)? {
+        Some(rule) => Ok(Some(rule)),
+        None => authority_fault(alloc, state, ask),
+    }
+}
+
+/// One more entry is counted.
+fn count_entry(state: &mut State)
+    ensures { state.new ≡ counted state.old }
+{
+    state.count = state.count.saturating_add(1).min(MOST_ENTRIES);
+}
+
+/// Changes the state, and then the logs as is due to them, and counts the entry.
+fn make(alloc: Global, held: &mut Held, command: AdminCommand, due: Due) -> Result<(), NoMemory>
+    requires tight { IsTight held.old.state }
+    requires room { HasRoom due (vec_len held.old.logs) (vec_capacity held.old.logs) }
+    ensures state { OnOk result (held.new.state ≡ counted (after_command held.old.state command)) }
+    ensures logs { OnOk result (held.new.logs.items ≡ done due held.old.logs.items) }
+    ensures err_state { OnErr result (held.new.state ≡ held.old.state) }
+    ensures err_logs { OnErr result (held.new.logs.items ≡ held.old.logs.items) }
+{
+    change(alloc, &mut held.state, command)?;
+    settle(&mut held.logs, due);
+    count_entry(&mut held.state);
+    Ok(())
+}
+
+/// Makes the change of a command that passes every rule.
+fn accept(alloc: Global, held: &mut Held, command: AdminCommand) -> Result<(), NoMemory>
+    requires kept { IsKept held.old.state }
+    requires packed { IsPacked held.old.state }
+    ensures ok { OnOk result (IsMade (administration_in held.old) command (administration_in held.new)) }
+    ensures err { OnErr result (administration_in held.new ≡ administration_in held.old) }
+{
+    kept_is_tight();
+    match plan(alloc, &held.state, &command, &mut held.logs) {
+        Ok(due) => make(alloc, held, command, due),
+        Err(refused) => {
+            drop(command);
+            Err(refused)
+        }
+    }
+}
+
+fn command_of(ask: Ask) -> AdminCommand
+    ensures { result ≡ ask.command }
+{
+    ask.command
+}
+
+/// Answers an ask that passes every rule.
+fn answer(alloc: Global, held: &mut Held, ask: Ask) -> Result<AdminReply, NoMemory>
+    requires kept { IsKept held.old.state }
+    requires packed { IsPacked held.old.state }
+    ensures ok { IfOk result (IsAccepted (administration_in held.old) ask (administration_in held.new)) }
+    ensures err { OnErr result (administration_in held.new ≡ administration_in held.old) }
+{
+    match reply_of(alloc, &held.state, &held.logs, &ask) {
+        Ok(reply) => match accept(alloc, held, command_of(ask)) {
+            Ok(()) => Ok(reply),
+            Err(refused) => {
+                drop(reply);
+                Err(refused)
+            }
+        },
+        Err(refused) => {
+            drop(ask);
+            Err(refused)
+        }
+    }
+}
+
+/// Answers an ask.
+fn step_held(alloc: Global, held: &mut Held, ask: Ask) -> Result<AdminReply, NoMemory>
+    requires kept { IsKept held.old.state }
+    requires packed { IsPacked held.old.state }
+    ensures ok { IfOk result (IsStep (administration_in held.old) ask (administration_in held.new)) }
+    ensures err { OnErr result (administration_in held.new ≡ administration_in held.old) }
+{
+    match fault(alloc, &held.state, &ask) {
+        Ok(None) => answer(alloc, held, ask),
+        Ok(Some(rule)) => {
+            drop(ask);
+            count_entry(&mut held.state);
+            Ok(AdminReply::Refused(rule))
+        }
+        Err(refused) => {
+            drop(ask);
+            Err(refused)
+        }
+    }
+}
+
+impl Admin {
+    /// The administration as it starts.
+    pub(crate) fn opened(state: State, logs: Vec<ServiceLog>) -> Admin
+        requires starts { IsStart (administration_of state logs.items) }
+        requires packed { IsPacked state }
+        ensures { result ≡ administration_of state logs.items }
+    {
+        Admin {
+            held: Held { state, logs },
+        }
+    }
+
+    /// Everything that is administered but for the logs. It passes all rules.
+    pub fn state(&self) -> &State
+        ensures state { result.now ≡ self.now.state }
+        ensures kept { IsKept self.now.state }
+    {
+        states_are_kept();
+        &self.held.state
+    }
+
+    /// The facts that the service's plugin sees.
+    pub fn view(&self, alloc: Global, service: &str) -> Result<Facts, NoMemory>
+        requires { list_any (is_service (chars service.now)) self.now.state.services.items ≡ true }
+        ensures { IfOk result (λ facts. view self.now (chars service.now) ≡ Some facts) }
+    {
+        match view_of(alloc, &self.held.state, self.held.logs.as_slice(), service)? {
+            Some(facts) => Ok(facts),
+            None => unreachable!(),
+        }
+    }
+
+    /// Answers the ask: refused by the first rule that it breaks, which changes nothing but the count of entries, or else
+    /// done. Where memory is refused everything stays as it is.
+    pub fn step(&mut self, alloc: Global, ask: Ask) -> Result<AdminReply, NoMemory>
+        ensures ok { IfOk result (λ r. (self.new, r) ≡ step self.old ask) }
+        ensures err { OnErr result (self.new ≡ self.old) }
+    {
+        states_are_kept();
+        step_held(alloc, &mut self.held, ask)
+    }
+}
+
+impl Machine for Admin {
+    ghost use Rattle.rg_machine.specs.Steps.{step};
+
+    type Ask = Ask;
+
+    type Reply = AdminReply;
+
+    type State = Admin;
+
+    ghost state = { λ a. a };
+
+    ghost transition = { step };
+
+    fn step(&mut self, alloc: Global, ask: Ask) -> Result<AdminReply, NoMemory> {
+        Admin::step(self, alloc, ask)
+    }
+}

@@ -1,0 +1,17 @@
+// The administration: what it holds, and how a command changes it.
+#![tactic(auto)]
+
+mod admin;
+mod change;
+mod download;
+mod lists;
+mod logs;
+mod lookups;
+mod numbered;
+mod planning;
+mod reply;
+mod served;
+mod touches;
+mod view;
+
+pub use admin::Admin;
