@@ -59,10 +59,11 @@ fn only_text(alloc: Global, text: &str) -> Result<Seq<Text>, NoMemory> {
     only(alloc, Text::copy_of(alloc, text)?)
 }
 
-/// A definition with one level.
-fn definition(alloc: Global) -> Result<ServiceDef, NoMemory> {
-    let level = Level {
-        name: Text::copy_of(alloc, "path")?,
+/// The only level of the definition.
+fn level(alloc: Global) -> Result<Level, NoMemory> {
+    let name = Text::copy_of(alloc, "path")?;
+    Ok(Level {
+        name,
         level: 10,
         parent: Text::empty(alloc),
         mandatory: true,
@@ -70,15 +71,25 @@ fn definition(alloc: Global) -> Result<ServiceDef, NoMemory> {
         excludes: false,
         wild: true,
         fold: false,
-    };
-    let access = AccessType {
-        name: Text::copy_of(alloc, "read")?,
+    })
+}
+
+fn access_type(alloc: Global) -> Result<AccessType, NoMemory> {
+    let name = Text::copy_of(alloc, "read")?;
+    Ok(AccessType {
+        name,
         implied: Seq::new(alloc),
-    };
+    })
+}
+
+fn definition(alloc: Global) -> Result<ServiceDef, NoMemory> {
+    let name = Text::copy_of(alloc, "hdfs")?;
+    let levels = only(alloc, level(alloc)?)?;
+    let access_types = only(alloc, access_type(alloc)?)?;
     Ok(ServiceDef {
-        name: Text::copy_of(alloc, "hdfs")?,
-        levels: only(alloc, level)?,
-        access_types: only(alloc, access)?,
+        name,
+        levels,
+        access_types,
         conditions: Seq::new(alloc),
         masks: Seq::new(alloc),
         mask_access: Seq::new(alloc),
@@ -88,33 +99,50 @@ fn definition(alloc: Global) -> Result<ServiceDef, NoMemory> {
     })
 }
 
-/// One service, and an administrator.
-fn config(alloc: Global) -> Result<Config, NoMemory> {
-    let service = ServiceRow {
-        name: Text::copy_of(alloc, "cluster")?,
-        def: Text::copy_of(alloc, "hdfs")?,
+fn service(alloc: Global) -> Result<ServiceRow, NoMemory> {
+    let name = Text::copy_of(alloc, "cluster")?;
+    let def = Text::copy_of(alloc, "hdfs")?;
+    Ok(ServiceRow {
+        name,
+        def,
         tag_service: Text::empty(alloc),
         fallback: false,
-    };
-    Ok(Config {
-        admins: only_text(alloc, "admin")?,
-        users: Seq::new(alloc),
-        time_zones: Seq::new(alloc),
-        defs: only(alloc, definition(alloc)?)?,
-        services: only(alloc, service)?,
-        plugin: Text::copy_of(alloc, "cluster")?,
     })
 }
 
-fn item(alloc: Global) -> Result<Item, NoMemory> {
-    let entry = AccessEntry {
-        access: Text::copy_of(alloc, "read")?,
+/// One service, and an administrator.
+fn config(alloc: Global) -> Result<Config, NoMemory> {
+    let admins = only_text(alloc, "admin")?;
+    let defs = only(alloc, definition(alloc)?)?;
+    let services = only(alloc, service(alloc)?)?;
+    let plugin = Text::copy_of(alloc, "cluster")?;
+    Ok(Config {
+        admins,
+        users: Seq::new(alloc),
+        time_zones: Seq::new(alloc),
+        defs,
+        services,
+        plugin,
+    })
+}
+
+fn entry(alloc: Global) -> Result<AccessEntry, NoMemory> {
+    let access = Text::copy_of(alloc, "read")?;
+    Ok(AccessEntry {
+        access,
         allowed: true,
-    };
+    })
+}
+
+/// Lets a user and a group read.
+fn item(alloc: Global) -> Result<Item, NoMemory> {
+    let accesses = only(alloc, entry(alloc)?)?;
+    let users = only_text(alloc, "hive")?;
+    let groups = only_text(alloc, "analysts")?;
     Ok(Item {
-        accesses: only(alloc, entry)?,
-        users: only_text(alloc, "hive")?,
-        groups: only_text(alloc, "analysts")?,
+        accesses,
+        users,
+        groups,
         roles: Seq::new(alloc),
         conditions: Seq::new(alloc),
         delegate: false,
@@ -123,27 +151,37 @@ fn item(alloc: Global) -> Result<Item, NoMemory> {
     })
 }
 
-/// The policy of this id, for a path of its own.
-fn policy(alloc: Global, id: u32) -> Result<Policy, NoMemory> {
-    let path = Text::of(format!(in alloc; "/data/{id}")?);
-    let resource = PolicyResource {
-        level: Text::copy_of(alloc, "path")?,
-        values: only(alloc, path)?,
+/// A path of its own for each number.
+fn resource(alloc: Global, number: u32) -> Result<PolicyResource, NoMemory> {
+    let path = Text::of(format!(in alloc; "/data/{number}")?);
+    let level = Text::copy_of(alloc, "path")?;
+    let values = only(alloc, path)?;
+    Ok(PolicyResource {
+        level,
+        values,
         excludes: false,
         recursive: true,
-    };
+    })
+}
+
+/// The policy of this id.
+fn policy(alloc: Global, id: u32) -> Result<Policy, NoMemory> {
+    let service = Text::copy_of(alloc, "cluster")?;
+    let name = Text::of(format!(in alloc; "policy {id}")?);
+    let resources = only(alloc, resource(alloc, id)?)?;
+    let items = only(alloc, item(alloc)?)?;
     Ok(Policy {
         id: PolicyId(i64::from(id)),
         guid: Text::empty(alloc),
         version: Version(1),
-        service: Text::copy_of(alloc, "cluster")?,
-        name: Text::of(format!(in alloc; "policy {id}")?),
+        service,
+        name,
         policy_type: 0,
         priority: 0,
-        resources: only(alloc, resource)?,
+        resources,
         additional: Seq::new(alloc),
         conditions: Seq::new(alloc),
-        items: only(alloc, item(alloc)?)?,
+        items,
         deny_items: Seq::new(alloc),
         allow_exceptions: Seq::new(alloc),
         deny_exceptions: Seq::new(alloc),
@@ -219,8 +257,9 @@ fn changes_in(download: &Download) -> u64 {
 fn downloaded(alloc: Global, admin: &mut Admin, load: Load, version: u64) -> Result<u64, NoMemory> {
     let mut count = 0u64;
     for _ in 0..load.downloads {
+        let service = Text::copy_of(alloc, "cluster")?;
         let command = AdminCommand::Download {
-            service: Text::copy_of(alloc, "cluster")?,
+            service,
             policies_from: Some(Version(version.saturating_sub(BEHIND))),
             tags_from: Some(Version(1)),
             roles_from: Some(Version(1)),
