@@ -23,7 +23,8 @@ use Rattle.rg_machine.specs.Views.{view}
 use Rattle.rg_machine.proofs.Histories.{always_orderly}
 use Rattle.rg_machine.proofs.Lawful.{service_viewed, start_orderly}
 use Rattle.rg_machine.proofs.Orderly.{IsOrderly}
-use Rattle.rg_admin.specs.Reached.{IsPacked, IsReached}
+use Rattle.rg_admin.specs.Reached.{IsPacked, IsReached, Origin}
+use Rattle.rg_admin.specs.Stepped.{IsStep}
 
 -- ---- no spare room
 
@@ -57,8 +58,8 @@ step_packed a ask p = go (fault a.state ask)
 
 -- ---- a step
 
-step_reached : (a : Administration) (ask : Ask) → IsReached a → IsReached (step a ask).0
-step_reached a ask r =
+step_origin : (a : Administration) (ask : Ask) → Origin a → Origin (step a ask).0
+step_origin a ask r =
     let entry : Entry Ask AdminReply = record { ask = ask; reply = (step a ask).1 } in
     record {
       start = r.start;
@@ -68,25 +69,37 @@ step_reached a ask r =
       packed = step_packed a ask r.packed;
     }
 
+step_reached : (a : Administration) (ask : Ask) → IsReached a → IsReached (step a ask).0
+unfolding IsReached
+step_reached a ask r = step_origin a ask r
+
 -- after a step, and where memory was refused
 pub reached_after : (a b : Administration) (ask : Ask) (result : Result AdminReply NoMemory) → IsReached a
-    → IfOk result (λ r. (b, r) ≡ step a ask) → OnErr result (b ≡ a) → IsReached b
+    → IfOk result (IsStep a ask b) → OnErr result (b ≡ a) → IsReached b
+unfolding IsStep
 reached_after a b ask (Ok r) reached ok err = subst IsReached (sym (ap (λ (t : Administration × AdminReply). t.0) ok)) (step_reached a ask reached)
 reached_after a b ask (Err refused) reached ok err = subst IsReached (sym err) reached
 
 pub reached_start : (a : Administration) → IsStart a → IsPacked a.state → IsReached a
+unfolding IsReached
 reached_start a starts packed = record { start = a; starts = starts; history = []; now = refl; packed = packed }
 
 -- ---- what is true of it
+
+pub reached_packed : (a : Administration) → IsReached a → IsPacked a.state
+unfolding IsReached
+reached_packed a r = r.packed
 
 -- every state of a history passes the rules
 abbrev pub AreKept : Type 0
 AreKept = (start : Administration) (h : List (Entry Ask AdminReply)) → IsStart start → (k : ℕ) → IsKept (state_at step start h k).state
 
 pub reached_kept : AreKept → (a : Administration) → IsReached a → IsKept a.state
+unfolding IsReached
 reached_kept kept a r =
     subst (λ (b : Administration). IsKept b.state) (ap (state_after step r.start) (take_all (length r.history) r.history refl) ∙ r.now) (kept r.start r.history r.starts (length r.history))
 
 -- each of its services has a view
 pub reached_viewed : (a : Administration) → IsReached a → (service : List ℕ) → list_any (is_service service) a.state.services.items ≡ true → (f : Facts) × (view a service ≡ Some f)
+unfolding IsReached
 reached_viewed a r = service_viewed a (subst IsOrderly r.now (always_orderly r.start r.history (start_orderly r.start r.starts)))

@@ -1,12 +1,14 @@
 -- For proofs alone: what becomes of the logs while a change is planned and settled.
 use Rattle.std.proofs.Common.{arith, ◌≡◌, ℕ, zero, suc, Bool, true, false, not, cond, List, [], ◌∷◌, ◌++◌, length, map, filter, take, drop, set, get_or, refl, ap, ◌∙◌, sym}
+use Rattle.std.proofs.lemmas.Bool.{false≢true}
 use Rattle.std.proofs.lemmas.List.{append-nil, take_all}
 use Rattle.std.proofs.Math.ListN.{drop_of_length-le}
 use Rattle.rg_cmd.specs.Lists.{without}
 use Rattle.rg_cmd.specs.declared.ask.AdminCommand.{AdminCommand}
+use Rattle.rg_cmd.specs.declared.ask.AdminCommand.TheVariants.{CreateService, DeleteService}
 use Rattle.rg_cmd.specs.declared.changes.Log.{Log}
 use Rattle.rg_cmd.specs.declared.state.State.{State}
-use Rattle.rg_machine.specs.Logs.{is_log_of, touched_log}
+use Rattle.rg_machine.specs.Logs.{is_log_of, logs_after, touched_log}
 use Rattle.rg_machine.proofs.Lists.{case}
 use Rattle.rg_admin.specs.Held.{Planned, logs_of, plan_for, settled}
 
@@ -42,3 +44,14 @@ logs_left service (p ∷ ps) =
   where
     left : List Planned
     left = filter (λ (q : Planned). not (is_log_of service q.log)) ps
+
+-- the commands that add a log or take one away
+abbrev pub changes_list : AdminCommand → Bool
+changes_list (CreateService row) = true
+changes_list (DeleteService name) = true
+changes_list c = false
+
+pub each_touched : (s : State) (c : AdminCommand) (logs : List Log) → changes_list c ≡ false → logs_after s c logs ≡ map (touched_log s c) logs
+each_touched s (CreateService row) logs h = absurd (false≢true (sym h))
+each_touched s (DeleteService name) logs h = absurd (false≢true (sym h))
+each_touched s c logs h = refl

@@ -19,10 +19,14 @@ pub record IsPacked (s : State) : Type 0 where
   pub roles : s.roles.spare ≡ 0
   pub tag_rows : s.tag_rows.spare ≡ 0
 
--- some history from a start led to it
-pub record IsReached (a : Administration) : Type 0 where
+-- a history from a start that led to it
+pub record Origin (a : Administration) : Type 0 where
   pub start : Administration
   pub starts : IsStart start
   pub history : List (Entry Ask AdminReply)
   pub now : state_after step start history ≡ a
   pub packed : IsPacked a.state
+
+-- some history led to it
+unfoldable pub IsReached : Administration → Type 0
+IsReached a = Origin a

@@ -1,14 +1,18 @@
 // The administration machine.
-ghost use Rattle.std.specs.Prelude.{◌≡◌, IfOk, OnErr, OnOk};
+ghost use Rattle.std.specs.Prelude.{◌≡◌, IfOk, OnErr, OnOk, vec_capacity, vec_len};
+ghost use Rattle.rg_machine.specs.Changes.{after_command};
 ghost use Rattle.rg_machine.specs.Starts.{IsStart};
-ghost use Rattle.rg_machine.specs.Steps.{accepted, counted, fault, step};
+ghost use Rattle.rg_machine.specs.Steps.{counted, fault, step};
 ghost use Rattle.rg_validate.specs.Valid.{IsKept};
-ghost use Rattle.rg_admin.specs.Held.{administration_of, logs_of};
+ghost use Rattle.rg_admin.specs.Due.{HasRoom, done};
+ghost use Rattle.rg_admin.specs.Held.{administration_of};
+ghost use Rattle.rg_admin.specs.Tight.{IsTight};
 ghost use Rattle.rg_admin.specs.Reached.{IsPacked};
+ghost use Rattle.rg_admin.specs.Stepped.{IsAccepted, IsMade, IsStep, administration_in};
 
 use crate::change::{change, kept_is_tight};
 use crate::logs::ServiceLog;
-use crate::planning::{plan, settle};
+use crate::planning::{Due, plan, settle};
 use crate::stand_ins::reply_of;
 use rg_base::NoMemory;
 use rg_cmd::{AdminCommand, AdminReply, Ask, Rule, State};
@@ -25,20 +29,26 @@ const MOST_ENTRIES: u64 = 1 << 62;
 /// The administration. Contracts see its state, and one log for each service in the order of the services.
 #[derive(Drop)]
 pub struct Admin {
+    held: Held,
+}
+
+/// A state with the logs of its services.
+#[derive(Drop)]
+struct Held {
     state: State,
     logs: Vec<ServiceLog>,
 }
 
 impl Model for Admin {
     ghost use Rattle.rg_machine.specs.Logs.{Administration};
-    ghost use Rattle.rg_admin.specs.Held.{administration_of};
+    ghost use Rattle.rg_admin.specs.Stepped.{administration_in};
     ghost use Rattle.rg_admin.specs.Reached.{IsReached};
 
     ghost Value = { Administration };
 
-    ghost view = { λ a. administration_of a.state a.logs.items };
+    ghost view = { λ a. administration_in a.held };
 
-    ghost invariant = { λ a. IsReached (administration_of a.state a.logs.items) };
+    ghost invariant = { λ a. IsReached (administration_in a.held) };
 }
 
 /// The first rule that the ask breaks.
@@ -59,44 +69,87 @@ fn count_entry(state: &mut State)
     state.count = state.count.saturating_add(1).min(MOST_ENTRIES);
 }
 
-/// Makes the change of a command that passes every rule.
-fn accept(
-    alloc: Global,
-    state: &mut State,
-    logs: &mut Vec<ServiceLog>,
-    command: AdminCommand,
-) -> Result<(), NoMemory>
-    requires kept { IsKept state.old }
-    requires packed { IsPacked state.old }
-    ensures ok { OnOk result (administration_of state.new logs.new.items ≡ accepted (administration_of state.old logs.old.items) command) }
-    ensures err { OnErr result (administration_of state.new logs.new.items ≡ administration_of state.old logs.old.items) }
+/// Changes the state, and then the logs as is due to them, and counts the entry.
+fn make(alloc: Global, held: &mut Held, command: AdminCommand, due: Due) -> Result<(), NoMemory>
+    requires tight { IsTight held.old.state }
+    requires room { HasRoom due (vec_len held.old.logs) (vec_capacity held.old.logs) }
+    ensures state { OnOk result (held.new.state ≡ counted (after_command held.old.state command)) }
+    ensures logs { OnOk result (held.new.logs.items ≡ done due held.old.logs.items) }
+    ensures err_state { OnErr result (held.new.state ≡ held.old.state) }
+    ensures err_logs { OnErr result (held.new.logs.items ≡ held.old.logs.items) }
 {
-    kept_is_tight();
-    let due = plan(alloc, state, &command, logs)?;
-    change(alloc, state, command)?;
-    settle(logs, due);
-    count_entry(state);
+    change(alloc, &mut held.state, command)?;
+    settle(&mut held.logs, due);
+    count_entry(&mut held.state);
     Ok(())
 }
 
-fn step_held(
-    alloc: Global,
-    state: &mut State,
-    logs: &mut Vec<ServiceLog>,
-    ask: Ask,
-) -> Result<AdminReply, NoMemory>
-    requires kept { IsKept state.old }
-    requires packed { IsPacked state.old }
-    ensures ok { IfOk result (λ r. (administration_of state.new logs.new.items, r) ≡ step (administration_of state.old logs.old.items) ask) }
-    ensures err { OnErr result (administration_of state.new logs.new.items ≡ administration_of state.old logs.old.items) }
+/// Makes the change of a command that passes every rule.
+fn accept(alloc: Global, held: &mut Held, command: AdminCommand) -> Result<(), NoMemory>
+    requires kept { IsKept held.old.state }
+    requires packed { IsPacked held.old.state }
+    ensures ok { OnOk result (IsMade (administration_in held.old) command (administration_in held.new)) }
+    ensures err { OnErr result (administration_in held.new ≡ administration_in held.old) }
 {
-    if let Some(rule) = fault(alloc, state, &ask)? {
-        count_entry(state);
-        return Ok(AdminReply::Refused(rule));
+    kept_is_tight();
+    match plan(alloc, &held.state, &command, &mut held.logs) {
+        Ok(due) => make(alloc, held, command, due),
+        Err(refused) => {
+            drop(command);
+            Err(refused)
+        }
     }
-    let reply = reply_of(alloc, state, logs, &ask)?;
-    accept(alloc, state, logs, ask.command)?;
-    Ok(reply)
+}
+
+fn command_of(ask: Ask) -> AdminCommand
+    ensures { result ≡ ask.command }
+{
+    ask.command
+}
+
+/// Answers an ask that passes every rule.
+#[tactic(none)]
+fn answer(alloc: Global, held: &mut Held, ask: Ask) -> Result<AdminReply, NoMemory>
+    requires kept { IsKept held.old.state }
+    requires packed { IsPacked held.old.state }
+    ensures ok { IfOk result (IsAccepted (administration_in held.old) ask (administration_in held.new)) }
+    ensures err { OnErr result (administration_in held.new ≡ administration_in held.old) }
+{
+    match reply_of(alloc, &held.state, &held.logs, &ask) {
+        Ok(reply) => match accept(alloc, held, command_of(ask)) {
+            Ok(()) => Ok(reply),
+            Err(refused) => {
+                drop(reply);
+                Err(refused)
+            }
+        },
+        Err(refused) => {
+            drop(ask);
+            Err(refused)
+        }
+    }
+}
+
+/// Answers an ask.
+#[tactic(none)]
+fn step_held(alloc: Global, held: &mut Held, ask: Ask) -> Result<AdminReply, NoMemory>
+    requires kept { IsKept held.old.state }
+    requires packed { IsPacked held.old.state }
+    ensures ok { IfOk result (IsStep (administration_in held.old) ask (administration_in held.new)) }
+    ensures err { OnErr result (administration_in held.new ≡ administration_in held.old) }
+{
+    match fault(alloc, &held.state, &ask) {
+        Ok(None) => answer(alloc, held, ask),
+        Ok(Some(rule)) => {
+            drop(ask);
+            count_entry(&mut held.state);
+            Ok(AdminReply::Refused(rule))
+        }
+        Err(refused) => {
+            drop(ask);
+            Err(refused)
+        }
+    }
 }
 
 impl Admin {
@@ -106,7 +159,9 @@ impl Admin {
         requires packed { IsPacked state }
         ensures { result ≡ administration_of state logs.items }
     {
-        Admin { state, logs }
+        Admin {
+            held: Held { state, logs },
+        }
     }
 
     /// Everything that is administered but for the logs. It passes all rules.
@@ -115,17 +170,17 @@ impl Admin {
         ensures kept { IsKept self.now.state }
     {
         states_are_kept();
-        &self.state
+        &self.held.state
     }
 
     /// Answers the ask: refused by the first rule that it breaks, which changes nothing but the count of entries, or else
     /// done. Where memory is refused everything stays as it is.
     pub fn step(&mut self, alloc: Global, ask: Ask) -> Result<AdminReply, NoMemory>
-        ensures ok { IfOk result (λ r. (self.new, r) ≡ step self.old ask) }
+        ensures ok { IfOk result (IsStep self.old ask self.new) }
         ensures err { OnErr result (self.new ≡ self.old) }
     {
         states_are_kept();
-        step_held(alloc, &mut self.state, &mut self.logs, ask)
+        step_held(alloc, &mut self.held, ask)
     }
 }
 

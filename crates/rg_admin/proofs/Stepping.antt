@@ -1,0 +1,46 @@
+-- For proofs alone: how an answered ask is put together.
+use Rattle.std.proofs.Common.{◌≡◌, List, Option, Some, None, Result, Ok, Err, OnOk, OnErr, ap, ◌∙◌, sym, subst}
+use Rattle.rg_cmd.specs.declared.ask.AdminCommand.{AdminCommand}
+use Rattle.rg_cmd.specs.declared.ask.AdminReply.{AdminReply}
+use Rattle.rg_cmd.specs.declared.ask.AdminReply.TheVariants.{Refused}
+use Rattle.rg_cmd.specs.declared.ask.Ask.{Ask}
+use Rattle.rg_cmd.specs.declared.changes.Log.{Log}
+use Rattle.rg_cmd.specs.declared.rule.Rule.{Rule}
+use Rattle.rg_cmd.specs.declared.state.State.{State}
+use Rattle.rg_machine.specs.Changes.{after_command}
+use Rattle.rg_machine.specs.Logs.{Administration, logs_after}
+use Rattle.rg_machine.specs.Steps.{accepted, counted, fault, refused, reply_to, step_by}
+use Rattle.rg_admin.specs.Due.{done}
+use Rattle.rg_admin.specs.Held.{Planned, logs_of}
+use Rattle.rg_admin.specs.declared.planning.Due.{Due}
+use Rattle.rg_admin.specs.Stepped.{IsAccepted, IsMade, IsStep}
+
+abbrev of : State → List Log → Administration
+of s logs = record { state = s; logs = logs }
+
+pub made : (s t : State) (before after : List Log) (c : AdminCommand) → t ≡ counted (after_command s c) → after ≡ logs_after s c before → IsMade (of s before) c (of t after)
+unfolding IsMade
+made s t before after c state logs = λ i. record { state = state i; logs = logs i }
+
+-- the same of a result, with the logs as they are held
+pub made_on : {X E : Type 0} (r : Result X E) (s t : State) (ps qs : List Planned) (due : Due) (before : List Log) (c : AdminCommand)
+    → OnOk r (t ≡ counted (after_command s c)) → OnOk r (qs ≡ done due ps) → logs_of (done due ps) ≡ logs_after s c before → OnOk r (IsMade (of s before) c (of t (logs_of qs)))
+made_on (Ok x) s t ps qs due before c state logs is = made s t before (logs_of qs) c state (ap logs_of logs ∙ is)
+made_on (Err e) s t ps qs due before c state logs is = tt
+
+pub unmade_on : {X E : Type 0} (r : Result X E) (s t : State) (ps qs : List Planned) (before : List Log)
+    → OnErr r (t ≡ s) → OnErr r (qs ≡ ps) → logs_of ps ≡ before → OnErr r (of t (logs_of qs) ≡ of s before)
+unmade_on (Ok x) s t ps qs before state logs is = tt
+unmade_on (Err e) s t ps qs before state logs is = λ i. of (state i) ((ap logs_of logs ∙ is) i)
+
+pub answered : (before after : Administration) (ask : Ask) (c : AdminCommand) (reply : AdminReply) → c ≡ ask.command → IsMade before c after → reply ≡ reply_to before ask.actor ask.command → IsAccepted before ask after reply
+unfolding IsAccepted IsMade
+answered before after ask c reply same made is = λ i. ((made ∙ ap (accepted before) same) i, is i)
+
+pub stepped : (before after : Administration) (ask : Ask) (reply : AdminReply) → None ≡ fault before.state ask → IsAccepted before ask after reply → IsStep before ask after reply
+unfolding IsAccepted IsStep
+stepped before after ask reply none accepts = accepts ∙ ap (λ (r : Option Rule). step_by r before ask) none
+
+pub refused_step : (s t : State) (logs : List Log) (ask : Ask) (rule : Rule) → Some rule ≡ fault s ask → t ≡ counted s → IsStep (of s logs) ask (of t logs) (Refused rule)
+unfolding IsStep
+refused_step s t logs ask rule some count = (λ i. (of (count i) logs, Refused rule)) ∙ ap (λ (r : Option Rule). step_by r (of s logs) ask) some
