@@ -4,3 +4,5 @@ pub mod Reaching
 pub mod Settling
 pub mod Stepping
 pub mod Tightness
+pub mod Placing
+pub mod Serving

@@ -1,5 +1,5 @@
 -- For proofs alone: every step leads to an administration that is reached.
-use Rattle.std.proofs.Common.{◌≡◌, ℕ, List, [], ◌∷◌, ◌++◌, length, take, Option, Some, None, Result, Ok, Err, IfOk, OnErr, refl, ap, sym, ◌∙◌, subst}
+use Rattle.std.proofs.Common.{arith, ◌≡◌, ℕ, true, List, [], ◌∷◌, ◌++◌, length, take, Option, Some, None, Result, Ok, Err, IfOk, OnErr, refl, ap, sym, ◌∙◌, subst}
 use Rattle.std.specs.List.{list_any}
 use Rattle.std.proofs.lemmas.List.{take_all}
 use Rattle.rg_base.specs.declared.numbers.NoMemory.{NoMemory}
@@ -97,7 +97,7 @@ AreKept = (start : Administration) (h : List (Entry Ask AdminReply)) → IsStart
 pub reached_kept : AreKept → (a : Administration) → IsReached a → IsKept a.state
 unfolding IsReached
 reached_kept kept a r =
-    subst (λ (b : Administration). IsKept b.state) (ap (state_after step r.start) (take_all (length r.history) r.history refl) ∙ r.now) (kept r.start r.history r.starts (length r.history))
+    subst (λ (b : Administration). IsKept b.state) (ap (state_after step r.start) (take_all (length r.history) r.history (omega arith)) ∙ r.now) (kept r.start r.history r.starts (length r.history))
 
 -- each of its services has a view
 pub reached_viewed : (a : Administration) → IsReached a → (service : List ℕ) → list_any (is_service service) a.state.services.items ≡ true → (f : Facts) × (view a service ≡ Some f)

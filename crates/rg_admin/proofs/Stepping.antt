@@ -1,5 +1,5 @@
 -- For proofs alone: how an answered ask is put together.
-use Rattle.std.proofs.Common.{◌≡◌, List, Option, Some, None, Result, Ok, Err, OnOk, OnErr, ap, ◌∙◌, sym, subst}
+use Rattle.std.proofs.Common.{◌≡◌, List, Option, Some, None, Result, Ok, Err, IfOk, OnOk, OnErr, ap, ◌∙◌, sym, subst}
 use Rattle.rg_cmd.specs.declared.ask.AdminCommand.{AdminCommand}
 use Rattle.rg_cmd.specs.declared.ask.AdminReply.{AdminReply}
 use Rattle.rg_cmd.specs.declared.ask.AdminReply.TheVariants.{Refused}
@@ -9,7 +9,7 @@ use Rattle.rg_cmd.specs.declared.rule.Rule.{Rule}
 use Rattle.rg_cmd.specs.declared.state.State.{State}
 use Rattle.rg_machine.specs.Changes.{after_command}
 use Rattle.rg_machine.specs.Logs.{Administration, logs_after}
-use Rattle.rg_machine.specs.Steps.{accepted, counted, fault, refused, reply_to, step_by}
+use Rattle.rg_machine.specs.Steps.{accepted, counted, fault, refused, reply_to, step, step_by}
 use Rattle.rg_admin.specs.Due.{done}
 use Rattle.rg_admin.specs.Held.{Planned, logs_of}
 use Rattle.rg_admin.specs.declared.planning.Due.{Due}
@@ -41,6 +41,18 @@ pub stepped : (before after : Administration) (ask : Ask) (reply : AdminReply) �
 unfolding IsAccepted IsStep
 stepped before after ask reply none accepts = accepts ∙ ap (λ (r : Option Rule). step_by r before ask) none
 
+pub stepped_on : {E : Type 0} (r : Result AdminReply E) (before after : Administration) (ask : Ask) → None ≡ fault before.state ask
+    → IfOk r (IsAccepted before ask after) → IfOk r (IsStep before ask after)
+stepped_on (Ok reply) before after ask none accepts = stepped before after ask reply none accepts
+stepped_on (Err e) before after ask none accepts = tt
+
 pub refused_step : (s t : State) (logs : List Log) (ask : Ask) (rule : Rule) → Some rule ≡ fault s ask → t ≡ counted s → IsStep (of s logs) ask (of t logs) (Refused rule)
 unfolding IsStep
 refused_step s t logs ask rule some count = (λ i. (of (count i) logs, Refused rule)) ∙ ap (λ (r : Option Rule). step_by r (of s logs) ask) some
+
+-- the step of the administration as its callers see it
+pub opened : {E : Type 0} (r : Result AdminReply E) (before : Administration) {seen : Administration} → before ≡ seen → (ask : Ask) (after : Administration)
+    → IfOk r (IsStep before ask after) → IfOk r (λ reply. (after, reply) ≡ step seen ask)
+unfolding IsStep
+opened (Ok reply) before same ask after steps = steps ∙ ap (λ (a : Administration). step a ask) same
+opened (Err e) before same ask after steps = tt

@@ -1,8 +1,12 @@
 // The administration machine.
-ghost use Rattle.std.specs.Prelude.{◌≡◌, IfOk, OnErr, OnOk, vec_capacity, vec_len};
+ghost use Rattle.std.specs.Prelude.{◌≡◌, IfOk, OnErr, OnOk, Some, true, vec_capacity, vec_len};
+ghost use Rattle.std.specs.List.{list_any};
+ghost use Rattle.std.specs.Str.{chars};
+ghost use Rattle.rg_cmd.specs.Lookups.{is_service};
 ghost use Rattle.rg_machine.specs.Changes.{after_command};
 ghost use Rattle.rg_machine.specs.Starts.{IsStart};
 ghost use Rattle.rg_machine.specs.Steps.{counted, fault, step};
+ghost use Rattle.rg_machine.specs.Views.{view};
 ghost use Rattle.rg_validate.specs.Valid.{IsKept};
 ghost use Rattle.rg_admin.specs.Due.{HasRoom, done};
 ghost use Rattle.rg_admin.specs.Held.{administration_of};
@@ -13,10 +17,12 @@ ghost use Rattle.rg_admin.specs.Stepped.{IsAccepted, IsMade, IsStep, administrat
 use crate::change::{change, kept_is_tight};
 use crate::logs::ServiceLog;
 use crate::planning::{Due, plan, settle};
-use crate::stand_ins::reply_of;
+use crate::reply::reply_of;
+use crate::view::view_of;
 use rg_base::NoMemory;
 use rg_cmd::{AdminCommand, AdminReply, Ask, Rule, State};
 use rg_delegate::authority_fault;
+use rg_facts::Facts;
 use rg_machine::states_are_kept;
 use rg_turn::Machine;
 use rg_validate::first_fault;
@@ -108,7 +114,6 @@ fn command_of(ask: Ask) -> AdminCommand
 }
 
 /// Answers an ask that passes every rule.
-#[tactic(none)]
 fn answer(alloc: Global, held: &mut Held, ask: Ask) -> Result<AdminReply, NoMemory>
     requires kept { IsKept held.old.state }
     requires packed { IsPacked held.old.state }
@@ -131,7 +136,6 @@ fn answer(alloc: Global, held: &mut Held, ask: Ask) -> Result<AdminReply, NoMemo
 }
 
 /// Answers an ask.
-#[tactic(none)]
 fn step_held(alloc: Global, held: &mut Held, ask: Ask) -> Result<AdminReply, NoMemory>
     requires kept { IsKept held.old.state }
     requires packed { IsPacked held.old.state }
@@ -173,10 +177,21 @@ impl Admin {
         &self.held.state
     }
 
+    /// The facts that the service's plugin sees.
+    pub fn view(&self, alloc: Global, service: &str) -> Result<Facts, NoMemory>
+        requires { list_any (is_service (chars service.now)) self.now.state.services.items ≡ true }
+        ensures { IfOk result (λ facts. view self.now (chars service.now) ≡ Some facts) }
+    {
+        match view_of(alloc, &self.held.state, self.held.logs.as_slice(), service)? {
+            Some(facts) => Ok(facts),
+            None => unreachable!(),
+        }
+    }
+
     /// Answers the ask: refused by the first rule that it breaks, which changes nothing but the count of entries, or else
     /// done. Where memory is refused everything stays as it is.
     pub fn step(&mut self, alloc: Global, ask: Ask) -> Result<AdminReply, NoMemory>
-        ensures ok { IfOk result (IsStep self.old ask self.new) }
+        ensures ok { IfOk result (λ r. (self.new, r) ≡ step self.old ask) }
         ensures err { OnErr result (self.new ≡ self.old) }
     {
         states_are_kept();

@@ -3,12 +3,15 @@
 
 mod admin;
 mod change;
+mod download;
 mod lists;
 mod logs;
 mod lookups;
 mod numbered;
 mod planning;
-mod stand_ins;
+mod reply;
+mod served;
 mod touches;
+mod view;
 
 pub use admin::Admin;

@@ -14,7 +14,8 @@ pub(crate) fn service_at<'a>(state: &'a State, name: &Text) -> Option<&'a Servic
     find_named(state.services.as_slice(), name.as_str())
 }
 
-fn tag_service_in(row: &ServiceRow) -> Option<&Text>
+/// The name of the row's tag service, if it has one.
+pub(crate) fn tag_service_in(row: &ServiceRow) -> Option<&Text>
     ensures { option_map (λ t. t.now) result ≡ tag_service_in row.now }
 {
     if is_empty(row.tag_service.as_str()) {
