@@ -4,4 +4,5 @@ pub mod Reaching
 pub mod Settling
 pub mod Tightness
 pub mod Placing
+pub mod Putting
 pub mod Serving

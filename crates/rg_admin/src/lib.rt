@@ -11,7 +11,12 @@ mod numbered;
 mod planning;
 mod reply;
 mod served;
+mod start;
 mod touches;
 mod view;
 
 pub use admin::Admin;
+pub use start::StartFault;
+
+#[cfg(test)]
+mod start_tests;
