@@ -1,10 +1,15 @@
 // Why a line of a script is bad.
 ghost use Rattle.std.specs.Prelude.{◌≡◌, IfOk, is_none};
+ghost use Rattle.rg_cmd.specs.declared.ask.Ask.{Ask};
+ghost use Rattle.rg_policy.specs.declared.request.AccessRequest.{AccessRequest};
 ghost use Rattle.rg_script.specs.Causes.{cause_of, is_unread, place_cause};
 ghost use Rattle.rg_script.specs.Line.{line_of};
 
 use crate::line::{Line, Unread, line_or_cause};
+use rg_admin::{Admin, StartFault};
 use rg_base::{Moment, NoMemory, Text};
+use rg_cmd::{Config, Rule};
+use rg_facts::Facts;
 use rg_sound::{Unsound, unsound_cause};
 use rg_wire::WireKind;
 use std::alloc::Global;
@@ -21,6 +26,8 @@ pub enum Cause {
     OutOfPlace,
     /// Its facts aren't sound: what makes them so first.
     Unsound(Unsound),
+    /// Its configuration starts no administration: the first rule that it breaks.
+    Refused(Rule),
 }
 
 /// Where a line stands.
@@ -30,21 +37,69 @@ pub enum Place {
     Start,
     /// Facts are published.
     Facts,
+    /// An administration is started.
+    Config,
 }
 
-/// Why a line that is read is bad where it stands; None where it isn't.
-fn place_cause(alloc: Global, place: Place, line: &Line) -> Result<Option<Cause>, NoMemory>
-    ensures { IfOk result (λ cause. cause ≡ place_cause place line.now) }
+/// Why facts are bad where they stand.
+fn facts_cause(alloc: Global, place: Place, facts: &Facts) -> Result<Option<Cause>, NoMemory>
+    ensures { IfOk result (λ cause. cause ≡ place_cause place (Line.Facts facts.now)) }
 {
-    match (place, line) {
-        (_, Line::Blank) | (Place::Facts, Line::Decide(_)) => Ok(None),
-        (Place::Start, Line::Facts(facts)) => match unsound_cause(alloc, facts)? {
+    match place {
+        Place::Start => match unsound_cause(alloc, facts)? {
             Some(unsound) => Ok(Some(Cause::Unsound(unsound))),
             None => Ok(None),
         },
-        (Place::Facts, Line::Facts(_)) | (Place::Start, Line::Decide(_)) => {
-            Ok(Some(Cause::OutOfPlace))
-        }
+        Place::Facts | Place::Config => Ok(Some(Cause::OutOfPlace)),
+    }
+}
+
+/// Why a configuration is bad where it stands.
+fn config_cause(alloc: Global, place: Place, config: Config) -> Result<Option<Cause>, NoMemory>
+    ensures { IfOk result (λ cause. cause ≡ place_cause place (Line.Config config)) }
+{
+    match place {
+        Place::Start => match Admin::start(alloc, config) {
+            Ok(_) => Ok(None),
+            Err(StartFault::Rule(rule)) => Ok(Some(Cause::Refused(rule))),
+            Err(StartFault::NoMemory) => Err(NoMemory),
+        },
+        Place::Facts | Place::Config => Ok(Some(Cause::OutOfPlace)),
+    }
+}
+
+/// Why a command or a refresh is bad where it stands.
+fn change_cause(place: Place) -> Option<Cause>
+    ensures admin { (ask : Ask) → result ≡ place_cause place (Line.Admin ask) }
+    ensures refresh { result ≡ place_cause place Line.Refresh }
+{
+    match place {
+        Place::Start | Place::Facts => Some(Cause::OutOfPlace),
+        Place::Config => None,
+    }
+}
+
+/// Why a request is bad where it stands.
+fn request_cause(place: Place) -> Option<Cause>
+    ensures { (q : AccessRequest) → result ≡ place_cause place (Line.Decide q) }
+{
+    match place {
+        Place::Start => Some(Cause::OutOfPlace),
+        Place::Facts | Place::Config => None,
+    }
+}
+
+/// Why a line that is read is bad where it stands; None where it isn't.
+fn place_cause(alloc: Global, place: Place, line: Line) -> Result<Option<Cause>, NoMemory>
+    ensures { IfOk result (λ cause. cause ≡ place_cause place line) }
+{
+    match line {
+        Line::Blank => Ok(None),
+        Line::Facts(facts) => facts_cause(alloc, place, &facts),
+        Line::Config(config) => config_cause(alloc, place, config),
+        Line::Admin(_) => Ok(change_cause(place)),
+        Line::Refresh => Ok(change_cause(place)),
+        Line::Decide(_) => Ok(request_cause(place)),
     }
 }
 
@@ -59,7 +114,7 @@ pub fn explain_line(
     ensures unread { IfOk result (λ cause. is_unread cause ≡ is_none (line_of line.now now)) }
 {
     match line_or_cause(alloc, line, now) {
-        Ok(read) => place_cause(alloc, place, &read),
+        Ok(read) => place_cause(alloc, place, read),
         Err(unread) => match unread {
             Unread::Bad(cause) => Ok(Some(cause)),
             Unread::NoMemory => Err(NoMemory),

@@ -1,11 +1,15 @@
 // The lines of a script, read.
 ghost use Rattle.std.specs.Prelude.{◌≡◌, Some, None, IfOk, option_map};
-ghost use Rattle.rg_script.specs.Line.{Reads, facts_read, is_blank, line_of, line_read, request_read, worded};
+ghost use Rattle.rg_script.specs.Line.{Reads, actor_of, ask_read, asked_by, config_read, facts_read, is_blank, line_from, line_of, line_read, request_read, worded};
+ghost use Rattle.rg_script.specs.Words.{behind_space, front_word};
+ghost use Rattle.rg_cmd_wire.specs.Reading.{command_reading};
 
 use crate::cause::Cause;
 use crate::lines::split_word;
 use crate::word::Word;
-use rg_base::Moment;
+use rg_base::{Moment, NoMemory, Text, is_name};
+use rg_cmd::{Ask, Config};
+use rg_cmd_wire::{read_command, read_config};
 use rg_facts::Facts;
 use rg_policy::AccessRequest;
 use rg_wire::{WireFault, read_facts, read_request};
@@ -18,6 +22,12 @@ pub enum Line {
     Blank,
     /// `facts JSON`.
     Facts(Facts),
+    /// `config JSON`.
+    Config(Config),
+    /// `admin ACTOR JSON`.
+    Admin(Ask),
+    /// `refresh`.
+    Refresh,
     /// `decide JSON`.
     Decide(AccessRequest),
 }
@@ -56,6 +66,59 @@ fn facts_line(alloc: Global, json: &[u8]) -> Result<Line, Unread>
     }
 }
 
+fn config_line(alloc: Global, json: &[u8]) -> Result<Line, Unread>
+    ensures { Reads result (config_read json.now) }
+{
+    match read_config(alloc, json) {
+        Ok(config) => Ok(Line::Config(config)),
+        Err(WireFault::Bad { path, kind }) => Err(Unread::Bad(Cause::Json { path, kind })),
+        Err(WireFault::NoMemory) => Err(Unread::NoMemory),
+    }
+}
+
+/// The text, where it is 1 to 256 characters of UTF-8.
+#[tactic(auto, unfolding(crate::specs::Line::actor_of))]
+fn actor_of(alloc: Global, text: &[u8]) -> Result<Option<Text>, NoMemory>
+    ensures { IfOk result (λ actor. actor ≡ actor_of text.now) }
+{
+    let Ok(actor) = str::from_utf8(text) else {
+        return Ok(None);
+    };
+    if !is_name(actor) {
+        return Ok(None);
+    }
+    match Text::copy_of(alloc, actor) {
+        Ok(actor) => Ok(Some(actor)),
+        Err(NoMemory) => Err(NoMemory),
+    }
+}
+
+/// What this actor asks.
+fn command_line(alloc: Global, actor: Text, json: &[u8]) -> Result<Line, Unread>
+    ensures { Reads result (line_from (asked_by actor) (command_reading json.now)) }
+{
+    match read_command(alloc, json) {
+        Ok(command) => Ok(Line::Admin(Ask { actor, command })),
+        Err(WireFault::Bad { path, kind }) => Err(Unread::Bad(Cause::Json { path, kind })),
+        Err(WireFault::NoMemory) => Err(Unread::NoMemory),
+    }
+}
+
+/// What an actor asks whose name stands before the first space.
+fn admin_line(alloc: Global, rest: &[u8]) -> Result<Line, Unread>
+    ensures { Reads result (ask_read (actor_of (front_word rest.now)) (behind_space rest.now)) }
+{
+    let (word, json) = split_word(rest);
+    let actor = match actor_of(alloc, word) {
+        Ok(actor) => actor,
+        Err(_) => return Err(Unread::NoMemory),
+    };
+    match (actor, json) {
+        (Some(actor), Some(json)) => command_line(alloc, actor, json),
+        (_, _) => Err(Unread::Bad(Cause::NoWord)),
+    }
+}
+
 fn decide_line(alloc: Global, json: &[u8], now: Moment) -> Result<Line, Unread>
     ensures { Reads result (request_read now json.now) }
 {
@@ -75,10 +138,21 @@ fn worded_line(
 ) -> Result<Line, Unread>
     ensures { Reads result (worded now word (option_map (λ rest. rest.now) rest.entry)) }
 {
-    match (word, rest) {
-        (Some(Word::Facts), Some(json)) => facts_line(alloc, json),
-        (Some(Word::Decide), Some(json)) => decide_line(alloc, json, now),
-        (_, _) => Err(Unread::Bad(Cause::NoWord)),
+    let Some(word) = word else {
+        return Err(Unread::Bad(Cause::NoWord));
+    };
+    match rest {
+        Some(rest) => match word {
+            Word::Facts => facts_line(alloc, rest),
+            Word::Config => config_line(alloc, rest),
+            Word::Admin => admin_line(alloc, rest),
+            Word::Refresh => Err(Unread::Bad(Cause::NoWord)),
+            Word::Decide => decide_line(alloc, rest, now),
+        },
+        None => match word {
+            Word::Refresh => Ok(Line::Refresh),
+            _ => Err(Unread::Bad(Cause::NoWord)),
+        },
     }
 }
 
