@@ -24,6 +24,7 @@ fn work_script<W: Worker, S: Source, K: Sink, C: Clock>(
     sink: &mut K,
     clock: &mut C,
 ) -> Status
+    requires { W.entries worker.old ≡ 0 }
     ensures run { IsRun (Stands _ (worked W.step worker.old 1))
         (ports (S.left source.old) (S.ended source.old) (S.faults source.old) (C.given clock.old) (K.held sink.old) (K.faults sink.old))
         (ports (S.left source.new) (S.ended source.new) (S.faults source.new) (C.given clock.new) (K.held sink.new) (K.faults sink.new)) result }

@@ -1,53 +1,37 @@
-// The command `replay`: decisions from one line of facts.
-ghost use Rattle.std.specs.Prelude.{◌≡◌, ◌++◌, [], None, IfOk, OnOk, string_bytes};
-ghost use Rattle.rg_facts.specs.Sound.{sound};
+// The command `replay`: a script of facts, or of an administration and its plugin.
+ghost use Rattle.std.specs.Prelude.{◌≡◌, ◌++◌, ◌<◌, ◌≤◌, ◌+◌, ◌^◌, [], None, IfOk, OnOk, option_map, string_bytes};
+ghost use Rattle.rg_run.specs.Entries.{entries};
 ghost use Rattle.rg_run.specs.Follow.{IsWorked};
-ghost use Rattle.rg_run.specs.Replay.{decide_work, decision_line, facts_work, publication_of, replay_step};
+ghost use Rattle.rg_run.specs.Replay.{admin_work, config_work, decide_work, facts_work, newest_of, refresh_line, refresh_work, reply_line};
 
 use crate::follow::Worker;
+use crate::publication::Publication;
+use crate::running::Running;
 use rg_base::{Moment, NoMemory, Serial};
-use rg_facts::{Decision, Facts, Plain};
+use rg_cmd::{AdminReply, Ask, Config};
+use rg_cmd_wire::print_reply;
+use rg_facts::Facts;
 use rg_policy::AccessRequest;
 use rg_script::{Line, LineFault, read_line};
-use rg_sound::is_sound;
-use rg_wire::print_decision;
 use std::alloc::Global;
 
-/// What decisions are made by: an engine over the facts of one publication.
-#[derive(Drop)]
-pub(crate) struct Publication {
-    pub serial: Serial,
-    pub engine: Plain,
-}
-
-/// What is published so far.
+/// How far a script has come.
 #[derive(Drop)]
 pub(crate) enum State {
+    /// There were only blank lines.
     Empty,
+    /// Facts are published.
     Facts(Publication),
+    /// An administration is running.
+    Config(Running),
 }
 
-/// The publication of sound facts; None for facts that are not sound.
-#[tactic(auto, unfolding(crate::specs::Replay::publication_of))]
-fn publication_of(alloc: Global, facts: Facts) -> Result<Option<Publication>, NoMemory>
-    ensures { IfOk result (λ publication. publication ≡ publication_of facts) }
+/// Adds the line of a reply.
+#[tactic(auto, unfolding(crate::specs::Replay::reply_line))]
+fn add_reply(alloc: Global, text: &mut String, reply: &AdminReply) -> Result<(), NoMemory>
+    ensures { OnOk result (string_bytes text.new ≡ string_bytes text.old ++ reply_line reply.now) }
 {
-    if !is_sound(alloc, &facts)? {
-        return Ok(None);
-    }
-    let engine = Plain::build(alloc, facts)?;
-    Ok(Some(Publication {
-        serial: Serial(1),
-        engine,
-    }))
-}
-
-/// Adds the decision line.
-#[tactic(auto, unfolding(crate::specs::Replay::decision_line))]
-fn add_decision(alloc: Global, text: &mut String, decision: &Decision) -> Result<(), NoMemory>
-    ensures { OnOk result (string_bytes text.new ≡ string_bytes text.old ++ decision_line decision.now) }
-{
-    let printed = print_decision(alloc, decision)?;
+    let printed = print_reply(alloc, reply)?;
     let line = printed.as_str();
     match writeln!(text, "{line}") {
         Ok(()) => Ok(()),
@@ -55,18 +39,45 @@ fn add_decision(alloc: Global, text: &mut String, decision: &Decision) -> Result
     }
 }
 
+/// Adds the line of a refresh.
+#[tactic(auto, unfolding(crate::specs::Replay::refresh_line))]
+fn add_refresh(text: &mut String, published: Option<Serial>) -> Result<(), NoMemory>
+    ensures { OnOk result (string_bytes text.new ≡ string_bytes text.old ++ refresh_line published) }
+{
+    let written = match published {
+        Some(Serial(serial)) => writeln!(text, "{{\"published\":{serial}}}"),
+        None => writeln!(text, "{{\"unchanged\":true}}"),
+    };
+    match written {
+        Ok(()) => Ok(()),
+        Err(_) => Err(NoMemory),
+    }
+}
+
 impl State {
-    /// Publishes the facts, where none are published and they are sound.
+    /// What is published last.
+    fn newest(&self) -> Option<&Publication>
+        ensures { option_map (λ p. p.now) result ≡ newest_of self.now }
+    {
+        match self {
+            State::Empty => None,
+            State::Facts(publication) => Some(publication),
+            State::Config(running) => Some(running.newest()),
+        }
+    }
+
+    /// Publishes the facts, where the script begins with them and they are sound.
     #[tactic(auto, unfolding(crate::specs::Replay::facts_work))]
     fn publish(&mut self, alloc: Global, facts: Facts) -> Result<(), LineFault>
         ensures worked { OnOk result (IsWorked (facts_work self.old facts) self.new [] []) }
         ensures bad { result ≡ Err LineFault.Bad → (facts_work self.old facts ≡ None) × (self.new ≡ self.old) }
+        ensures entries { OnOk result (entries self.new ≤ entries self.old + 1) }
     {
         match self {
-            State::Facts(_) => return Err(LineFault::Bad),
             State::Empty => {}
+            _ => return Err(LineFault::Bad),
         }
-        match publication_of(alloc, facts) {
+        match Publication::of(alloc, facts) {
             Ok(None) => Err(LineFault::Bad),
             Ok(Some(publication)) => {
                 *self = State::Facts(publication);
@@ -76,7 +87,69 @@ impl State {
         }
     }
 
-    /// Prints the decision, where facts are published.
+    /// Starts the administration, where the script begins with its configuration, which breaks no rule.
+    #[tactic(auto, unfolding(crate::specs::Replay::config_work))]
+    fn start(&mut self, alloc: Global, config: Config) -> Result<(), LineFault>
+        ensures worked { OnOk result (IsWorked (config_work self.old config) self.new [] []) }
+        ensures bad { result ≡ Err LineFault.Bad → (config_work self.old config ≡ None) × (self.new ≡ self.old) }
+        ensures entries { OnOk result (entries self.new ≤ entries self.old + 1) }
+    {
+        match self {
+            State::Empty => {}
+            _ => return Err(LineFault::Bad),
+        }
+        match Running::start(alloc, config) {
+            Ok(None) => Err(LineFault::Bad),
+            Ok(Some(running)) => {
+                *self = State::Config(running);
+                Ok(())
+            }
+            Err(_) => Err(LineFault::NoMemory),
+        }
+    }
+
+    /// Asks the administration, and prints its reply.
+    #[tactic(auto, unfolding(crate::specs::Replay::admin_work))]
+    fn ask(&mut self, alloc: Global, ask: Ask, text: &mut String) -> Result<(), LineFault>
+        ensures worked { OnOk result (IsWorked (admin_work self.old ask) self.new (string_bytes text.old) (string_bytes text.new)) }
+        ensures bad { result ≡ Err LineFault.Bad → (admin_work self.old ask ≡ None) × (self.new ≡ self.old) }
+        ensures unwritten { result ≡ Err LineFault.Bad → string_bytes text.new ≡ string_bytes text.old }
+        ensures entries { OnOk result (entries self.new ≤ entries self.old + 1) }
+    {
+        let State::Config(running) = self else {
+            return Err(LineFault::Bad);
+        };
+        match running.ask(alloc, ask) {
+            Ok(reply) => match add_reply(alloc, text, &reply) {
+                Ok(()) => Ok(()),
+                Err(_) => Err(LineFault::NoMemory),
+            },
+            Err(_) => Err(LineFault::NoMemory),
+        }
+    }
+
+    /// Refreshes the plugin, and prints what was published.
+    #[tactic(auto, unfolding(crate::specs::Replay::refresh_work))]
+    fn refresh(&mut self, alloc: Global, text: &mut String) -> Result<(), LineFault>
+        requires { entries self.old < 2 ^ 62 }
+        ensures worked { OnOk result (IsWorked (refresh_work self.old) self.new (string_bytes text.old) (string_bytes text.new)) }
+        ensures bad { result ≡ Err LineFault.Bad → (refresh_work self.old ≡ None) × (self.new ≡ self.old) }
+        ensures unwritten { result ≡ Err LineFault.Bad → string_bytes text.new ≡ string_bytes text.old }
+        ensures entries { OnOk result (entries self.new ≤ entries self.old + 1) }
+    {
+        let State::Config(running) = self else {
+            return Err(LineFault::Bad);
+        };
+        match running.refresh(alloc) {
+            Ok(published) => match add_refresh(text, published) {
+                Ok(()) => Ok(()),
+                Err(_) => Err(LineFault::NoMemory),
+            },
+            Err(_) => Err(LineFault::NoMemory),
+        }
+    }
+
+    /// Prints the decision by what is published last.
     #[tactic(auto, unfolding(crate::specs::Replay::decide_work))]
     fn decide(
         &self,
@@ -87,26 +160,23 @@ impl State {
         ensures worked { OnOk result (IsWorked (decide_work self.now request.now) self.now (string_bytes text.old) (string_bytes text.new)) }
         ensures bad { result ≡ Err LineFault.Bad → (decide_work self.now request.now ≡ None) × (string_bytes text.new ≡ string_bytes text.old) }
     {
-        let State::Facts(publication) = self else {
+        let Some(publication) = self.newest() else {
             return Err(LineFault::Bad);
         };
-        match publication
-            .engine
-            .decide(alloc, request, publication.serial)
-        {
-            Ok(decision) => match add_decision(alloc, text, &decision) {
-                Ok(()) => Ok(()),
-                Err(_) => Err(LineFault::NoMemory),
-            },
+        match publication.decide(alloc, request, text) {
+            Ok(()) => Ok(()),
             Err(_) => Err(LineFault::NoMemory),
         }
     }
 }
 
 impl Worker for State {
+    ghost use Rattle.rg_run.specs.Entries.{entries};
     ghost use Rattle.rg_run.specs.Replay.{replay_step};
 
     ghost step = { replay_step };
+
+    ghost entries = { entries };
 
     fn work(
         &mut self,
@@ -118,6 +188,9 @@ impl Worker for State {
         match read_line(alloc, line, now) {
             Ok(Line::Blank) => Ok(()),
             Ok(Line::Facts(facts)) => self.publish(alloc, facts),
+            Ok(Line::Config(config)) => self.start(alloc, config),
+            Ok(Line::Admin(ask)) => self.ask(alloc, ask, text),
+            Ok(Line::Refresh) => self.refresh(alloc, text),
             Ok(Line::Decide(request)) => self.decide(alloc, &request, text),
             Err(fault) => Err(fault),
         }

@@ -1,8 +1,9 @@
 -- Why a line is bad where it stands.
 use Rattle.std.specs.Prelude.{ℕ, Bool, true, false, List, Option, Some, None, option_map, Result, Ok, Err}
 use Rattle.rg_base.specs.declared.numbers.Moment.{Moment}
+use Rattle.rg_admin.specs.Starting.{start_fault}
 use Rattle.rg_script.specs.declared.cause.Cause.{Cause}
-use Rattle.rg_script.specs.declared.cause.Cause.TheVariants.{NoWord, Json, OutOfPlace, Unsound}
+use Rattle.rg_script.specs.declared.cause.Cause.TheVariants.{NoWord, Json, OutOfPlace, Unsound, Refused}
 use Rattle.rg_script.specs.declared.cause.Place.{Place}
 use Rattle.rg_script.specs.declared.cause.Place.TheVariants as place
 use Rattle.rg_script.specs.declared.line.Line.{Line}
@@ -10,13 +11,18 @@ use Rattle.rg_script.specs.declared.line.Line.TheVariants as line
 use Rattle.rg_script.specs.Line.{line_read}
 use Rattle.rg_sound.specs.Causes.{first_cause}
 
--- facts come once, at the start, and are sound; requests come after them
+-- a script begins with facts, which are sound, or with a configuration that breaks no rule; requests come after either, commands and
+-- refreshes after a configuration
 abbrev pub place_cause : Place → Line → Option Cause
 place_cause place line.Blank = None
 place_cause place.Start (line.Facts facts) = option_map Unsound (first_cause facts)
-place_cause place.Facts (line.Facts facts) = Some OutOfPlace
-place_cause place.Start (line.Decide q) = Some OutOfPlace
+place_cause place.Start (line.Config config) = option_map Refused (start_fault config)
+place_cause place.Start _ = Some OutOfPlace
 place_cause place.Facts (line.Decide q) = None
+place_cause place.Facts _ = Some OutOfPlace
+place_cause place.Config (line.Facts facts) = Some OutOfPlace
+place_cause place.Config (line.Config config) = Some OutOfPlace
+place_cause place.Config _ = None
 
 abbrev pub cause_from : Place → Result Line Cause → Option Cause
 cause_from place (Ok line) = place_cause place line

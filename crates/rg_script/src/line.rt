@@ -1,11 +1,15 @@
 // The lines of a script, read.
 ghost use Rattle.std.specs.Prelude.{◌≡◌, Some, None, IfOk, option_map};
-ghost use Rattle.rg_script.specs.Line.{Reads, facts_read, is_blank, line_of, line_read, request_read, worded};
+ghost use Rattle.rg_script.specs.Line.{Reads, actor_of, ask_read, asked_by, config_read, facts_read, is_blank, line_from, line_of, line_read, request_read, worded};
+ghost use Rattle.rg_script.specs.Words.{behind_space, front_word};
+ghost use Rattle.rg_cmd_wire.specs.Reading.{command_reading};
 
 use crate::cause::Cause;
 use crate::lines::split_word;
 use crate::word::Word;
-use rg_base::Moment;
+use rg_base::{Moment, NoMemory, Text, is_name};
+use rg_cmd::{Ask, Config};
+use rg_cmd_wire::{read_command, read_config};
 use rg_facts::Facts;
 use rg_policy::AccessRequest;
 use rg_wire::{WireFault, read_facts, read_request};
@@ -18,6 +22,12 @@ pub enum Line {
     Blank,
     /// `facts JSON`.
     Facts(Facts),
+    /// `config JSON`.
+    Config(Config),
+    /// `admin ACTOR JSON`.
+    Admin(Ask),
+    /// `refresh`.
+    Refresh,
     /// `decide JSON`.
     Decide(AccessRequest),
 }
@@ -56,6 +66,50 @@ fn facts_line(alloc: Global, json: &[u8]) -> Result<Line, Unread>
     }
 }
 
+fn config_line(alloc: Global, json: &[u8]) -> Result<Line, Unread>
+    ensures { Reads result (config_read json.now) }
+{
+    match read_config(alloc, json) {
+        Ok(config) => Ok(Line::Config(config)),
+        Err(WireFault::Bad { path, kind }) => Err(Unread::Bad(Cause::Json { path, kind })),
+        Err(WireFault::NoMemory) => Err(Unread::NoMemory),
+    }
+}
+
+/// The text, where it is 1 to 256 characters of UTF-8.
+#[tactic(auto, unfolding(crate::specs::Line::actor_of))]
+fn actor_of(alloc: Global, text: &[u8]) -> Result<Option<Text>, NoMemory>
+    ensures { IfOk result (λ actor. actor ≡ actor_of text.now) }
+{
+    match str::from_utf8(text) {
+        Ok(actor) if is_name(actor) => Ok(Some(Text::copy_of(alloc, actor)?)),
+        _ => Ok(None),
+    }
+}
+
+/// What this actor asks.
+fn command_line(alloc: Global, actor: Text, json: &[u8]) -> Result<Line, Unread>
+    ensures { Reads result (line_from (asked_by actor) (command_reading json.now)) }
+{
+    match read_command(alloc, json) {
+        Ok(command) => Ok(Line::Admin(Ask { actor, command })),
+        Err(WireFault::Bad { path, kind }) => Err(Unread::Bad(Cause::Json { path, kind })),
+        Err(WireFault::NoMemory) => Err(Unread::NoMemory),
+    }
+}
+
+/// What an actor asks whose name stands before the first space.
+fn admin_line(alloc: Global, rest: &[u8]) -> Result<Line, Unread>
+    ensures { Reads result (ask_read (actor_of (front_word rest.now)) (behind_space rest.now)) }
+{
+    let (word, json) = split_word(rest);
+    match (actor_of(alloc, word), json) {
+        (Err(_), _) => Err(Unread::NoMemory),
+        (Ok(Some(actor)), Some(json)) => command_line(alloc, actor, json),
+        (Ok(_), _) => Err(Unread::Bad(Cause::NoWord)),
+    }
+}
+
 fn decide_line(alloc: Global, json: &[u8], now: Moment) -> Result<Line, Unread>
     ensures { Reads result (request_read now json.now) }
 {
@@ -77,6 +131,9 @@ fn worded_line(
 {
     match (word, rest) {
         (Some(Word::Facts), Some(json)) => facts_line(alloc, json),
+        (Some(Word::Config), Some(json)) => config_line(alloc, json),
+        (Some(Word::Admin), Some(rest)) => admin_line(alloc, rest),
+        (Some(Word::Refresh), None) => Ok(Line::Refresh),
         (Some(Word::Decide), Some(json)) => decide_line(alloc, json, now),
         (_, _) => Err(Unread::Bad(Cause::NoWord)),
     }

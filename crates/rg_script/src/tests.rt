@@ -13,6 +13,10 @@ const UNSOUND: &str =
 
 const DECIDE: &str = r#"decide {"user":"ann","resource":{"elements":{}},"accessType":"select"}"#;
 
+const CONFIG: &str = r#"config {"plugin":"s","serviceDefs":[{"name":"d","resources":[{"name":"database"}],"accessTypes":[{"name":"select"}]}],"services":[{"name":"s","type":"d"}]}"#;
+
+const ASK: &str = r#"admin root {"command":"getPolicy","id":1}"#;
+
 /// The cause of a line in a few words; the empty text where there is none.
 fn cause_of(alloc: Global, place: Place, line: &str) -> Result<String, Fail> {
     Ok(
@@ -25,6 +29,7 @@ fn cause_of(alloc: Global, place: Place, line: &str) -> Result<String, Fail> {
             }
             Some(Cause::OutOfPlace) => String::from_str(alloc, "out of place")?,
             Some(Cause::Unsound(unsound)) => format!(in alloc; "{unsound:?}")?,
+            Some(Cause::Refused(rule)) => format!(in alloc; "{rule:?}")?,
         },
     )
 }
@@ -35,10 +40,18 @@ const LINES: &str = r#"|
 hello|no word
 facts|no word
  facts {}|no word
-refresh|no word
+admin|no word
+admin root|no word
+admin  root {}|no word
+refresh |no word
+refresh|out of place
 facts {|Syntax
 facts  {}|/service Missing
 facts {"service":1}|/service Mistyped
+config {}|/plugin Missing
+config {"plugin":"s"}|E1
+admin root {"command":"getPolicy"}|/id Missing
+admin root {"command":"getPolicy","id":1}|out of place
 decide |Syntax
 decide {"user":""}|/user Range"#;
 
@@ -67,11 +80,30 @@ fn why_lines_are_bad(rt: HostRuntime) -> Result<(), Fail> {
     Ok(())
 }
 
+#[test]
+fn what_follows_a_configuration(rt: HostRuntime) -> Result<(), Fail> {
+    let alloc = rt.alloc();
+    for line in ["", "refresh", DECIDE, ASK] {
+        assert_eq!(rt; cause_of(alloc, Place::Config, line)?.as_str(), "");
+    }
+    for line in [FACTS, CONFIG] {
+        assert_eq!(rt;
+            cause_of(alloc, Place::Config, line)?.as_str(),
+            "out of place"
+        );
+    }
+    assert_eq!(rt; cause_of(alloc, Place::Start, CONFIG)?.as_str(), "");
+    Ok(())
+}
+
 /// What a line asks, in one word.
 fn kind_of(alloc: Global, line: &str) -> &'static str {
     match read_line(alloc, line.as_bytes(), Moment(7)) {
         Ok(Line::Blank) => "blank",
         Ok(Line::Facts(_facts)) => "facts",
+        Ok(Line::Config(_config)) => "config",
+        Ok(Line::Admin(_ask)) => "admin",
+        Ok(Line::Refresh) => "refresh",
         Ok(Line::Decide(_request)) => "decide",
         Err(LineFault::Bad) => "bad",
         Err(LineFault::NoMemory) => "no memory",
@@ -83,6 +115,9 @@ fn lines_are_read(rt: HostRuntime) {
     let alloc = rt.alloc();
     assert_eq!(rt; kind_of(alloc, "#"), "blank");
     assert_eq!(rt; kind_of(alloc, FACTS), "facts");
+    assert_eq!(rt; kind_of(alloc, CONFIG), "config");
+    assert_eq!(rt; kind_of(alloc, ASK), "admin");
+    assert_eq!(rt; kind_of(alloc, "refresh"), "refresh");
     assert_eq!(rt; kind_of(alloc, DECIDE), "decide");
     assert_eq!(rt; kind_of(alloc, "hello"), "bad");
 }

@@ -6,11 +6,20 @@ ghost use Rattle.rg_script.specs.Words.{word_of, word_text};
 #[derive(Clone, Copy, Debug, PartialEq, Eq)]
 pub(crate) enum Word {
     Facts,
+    Config,
+    Admin,
+    Refresh,
     Decide,
 }
 
 impl Word {
-    const ALL: [Word; 2] = [Word::Facts, Word::Decide];
+    const ALL: [Word; 5] = [
+        Word::Facts,
+        Word::Config,
+        Word::Admin,
+        Word::Refresh,
+        Word::Decide,
+    ];
 
     #[tactic(auto, unfolding(crate::specs::Words::word_text))]
     fn text(self) -> &'static [u8]
@@ -18,6 +27,9 @@ impl Word {
     {
         match self {
             Word::Facts => b"facts",
+            Word::Config => b"config",
+            Word::Admin => b"admin",
+            Word::Refresh => b"refresh",
             Word::Decide => b"decide",
         }
     }

@@ -1,0 +1,107 @@
+// An administration that is running, with the newest publication to its plugin.
+ghost use Rattle.std.specs.Prelude.{◌≡◌, ◌<◌, ◌≤◌, ◌+◌, ◌^◌, Some, IfOk, IfSome, option_map};
+ghost use Rattle.rg_admin.specs.Starting.{start_fault};
+ghost use Rattle.rg_machine.specs.Logs.{Administration};
+ghost use Rattle.rg_machine.specs.Steps.{step};
+ghost use Rattle.rg_run.specs.Replay.{asked, opened_unless, refresh_ask, refresh_publishes, refreshed};
+
+use crate::publication::Publication;
+use rg_admin::{Admin, StartFault};
+use rg_base::{NoMemory, Serial, Text, TryCopy};
+use rg_cmd::{AdminCommand, AdminReply, Ask, Config};
+use rg_facts::Plain;
+use rg_machine::{views_are_sound, world};
+use std::alloc::Global;
+use std::marker::Model;
+
+/// An administration that is running, and the newest publication to its plugin.
+#[derive(Drop)]
+pub(crate) struct Running {
+    admin: Admin,
+    newest: Publication,
+}
+
+impl Model for Running {
+    ghost use Rattle.rg_run.specs.Running as the;
+
+    ghost Value = { the.Running };
+
+    ghost use Rattle.rg_run.specs.Shown.{IsShown};
+
+    ghost view = { λ r. record { admin = r.admin; newest = r.newest } };
+
+    ghost invariant = { λ r. IsShown (record { admin = r.admin; newest = r.newest }) };
+}
+
+impl Running {
+    /// What the configuration starts; None where it breaks a rule.
+    pub fn start(alloc: Global, config: Config) -> Result<Option<Running>, NoMemory>
+        ensures opened { IfOk result (λ r. r ≡ opened_unless (start_fault config) config) }
+        ensures new { IfOk result (λ r. IfSome r (λ r. r.admin.state.count ≡ 0)) }
+    {
+        let admin = match Admin::start(alloc, config) {
+            Ok(admin) => admin,
+            Err(StartFault::Rule(_)) => return Ok(None),
+            Err(StartFault::NoMemory) => return Err(NoMemory),
+        };
+        views_are_sound();
+        let facts = admin.view(alloc, admin.state().plugin.as_str())?;
+        let engine = Plain::build(alloc, facts)?;
+        let newest = Publication {
+            serial: Serial(1),
+            engine,
+        };
+        Ok(Some(Running { admin, newest }))
+    }
+
+    /// The newest publication.
+    pub fn newest(&self) -> &Publication
+        ensures { result.now ≡ self.now.newest }
+    {
+        &self.newest
+    }
+
+    /// Asks the administration.
+    pub fn ask(&mut self, alloc: Global, ask: Ask) -> Result<AdminReply, NoMemory>
+        ensures asked { IfOk result (λ reply. self.new ≡ asked self.old ask) }
+        ensures reply { IfOk result (λ reply. reply ≡ (step self.old.admin ask).1) }
+        ensures count { IfOk result (λ reply. self.new.admin.state.count ≤ self.old.admin.state.count + 1) }
+    {
+        self.admin.step(alloc, ask)
+    }
+
+    /// What a refresh asks for.
+    fn refresh_ask(&self, alloc: Global) -> Result<Ask, NoMemory>
+        ensures { IfOk result (λ ask. ask ≡ refresh_ask self.now) }
+    {
+        let facts = self.newest.engine.facts();
+        Ok(Ask {
+            actor: Text::empty(alloc),
+            command: AdminCommand::Download {
+                service: self.admin.state().plugin.try_copy(alloc)?,
+                policies_from: Some(facts.policy_version),
+                tags_from: Some(facts.tag_version),
+                roles_from: Some(facts.role_version),
+            },
+        })
+    }
+
+    /// Publishes what has changed since the newest publication, and gives its serial; None where nothing has.
+    pub fn refresh(&mut self, alloc: Global) -> Result<Option<Serial>, NoMemory>
+        requires { self.old.admin.state.count < 2 ^ 62 }
+        ensures refreshed { IfOk result (λ serial. self.new ≡ refreshed self.old) }
+        ensures published { IfOk result (λ serial. serial ≡ option_map (λ p. p.serial) (refresh_publishes self.old)) }
+        ensures count { IfOk result (λ serial. self.new.admin.state.count ≤ self.old.admin.state.count + 1) }
+    {
+        world();
+        views_are_sound();
+        let ask = self.refresh_ask(alloc)?;
+        let reply = self.admin.step(alloc, ask)?;
+        let Some(next) = self.newest.next_by(alloc, reply)? else {
+            return Ok(None);
+        };
+        let serial = next.serial;
+        self.newest = next;
+        Ok(Some(serial))
+    }
+}
