@@ -53,7 +53,7 @@ seq_of : (a : Administration) (plugin : List ℕ) (v : Versions) (d : Download) 
 seq_of a plugin v d = go (fault a.state (download_ask plugin v))
   where
     go : (r : Option Rule) → (step_by r a (download_ask plugin v)).1 ≡ Downloaded d → d.seq ≡ a.state.count
-    go None is = seq_in a.state.count _ (log_at a.logs plugin) (view a plugin) d is
+    go None is = seq_in a.state.count (record { policies = Some v.policies; tags = Some v.tags; roles = Some v.roles }) (log_at a.logs plugin) (view a plugin) d is
     go (Some rule) is = cc
 
 -- the serial rises at most as the count does

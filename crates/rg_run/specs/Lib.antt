@@ -1,6 +1,7 @@
 pub mod CommandLine
 pub mod Commands
 pub mod Entries
+pub mod Events
 pub mod Follow
 pub mod Leading
 pub mod Limits
