@@ -19,6 +19,6 @@ pub use fields::{
 pub use lists::{MemberReader, Reader, list_at, list_in, map_at, map_in, optional_at, record_at};
 pub use members::{ToJson, put, put_value, text_of};
 pub use name::Name;
-pub use read::read_as;
+pub use read::{judge, read_as};
 pub use shape::{Field, Form, Keys, Kind, Need, Table};
 pub use texts::json_of;

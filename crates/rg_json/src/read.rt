@@ -1,21 +1,48 @@
 // Texts to records.
 ghost use Rattle.std.specs.Prelude.{◌≡◌, IfOk, IfErr, Some, None};
 ghost use Rattle.serde_json.specs.View.{view};
+ghost use Rattle.rg_json.specs.Faults.{fault_of};
+ghost use Rattle.rg_json.specs.Kinds.{fields_from};
 ghost use Rattle.rg_json.specs.Reading.{Answers, Refuses, reading, text_fault};
+ghost use Rattle.rg_json.specs.Shape.{record_of};
 ghost use Rattle.rg_json.specs.Texts.{data_of};
 
 use crate::fault::{WireFault, WireKind};
 use crate::lists::Reader;
 use crate::name::Name;
-use crate::shape::{Kind, Table};
+use crate::shape::{Field, Table};
 use crate::texts::{ParseFault, parse};
-use crate::walk::fault_in;
+use crate::walk::fields_fault;
 use rg_base::Text;
 use serde_json::Value;
 use std::alloc::Global;
 
+/// Judges a value that is to be a map with these fields. Those that are not among them are passed over.
+pub fn judge<K: Name, R: Table<K>>(
+    alloc: Global,
+    fields: &[Field<K, R>],
+    value: &Value,
+) -> Result<(), WireFault>
+    ensures right { IfOk result (λ u. fault_of (record_of (fields_from K.name_of R.record_shape fields.now)) (view value.now) ≡ None) }
+    ensures wrong { IfErr result (λ e. Refuses e (fault_of (record_of (fields_from K.name_of R.record_shape fields.now)) (view value.now))) }
+{
+    if !value.is_object() {
+        return Err(WireFault::Bad {
+            path: Text::empty(alloc),
+            kind: WireKind::Mistyped,
+        });
+    }
+    match fields_fault(alloc, fields, value) {
+        Err(_) => Err(WireFault::NoMemory),
+        Ok(Some(fault)) => Err(WireFault::Bad {
+            path: fault.path,
+            kind: fault.kind,
+        }),
+        Ok(None) => Ok(()),
+    }
+}
+
 /// The JSON of a text that has no fault.
-#[tactic(auto, unfolding(crate::specs::Kinds::shape_of))]
 fn judged<K: Name, R: Table<K>>(alloc: Global, table: R, text: &[u8]) -> Result<Value, WireFault>
     ensures json { IfOk result (λ v. data_of text.now ≡ Some (view v)) }
     ensures right { IfOk result (λ v. text_fault (R.record_shape table) (data_of text.now) ≡ None) }
@@ -31,14 +58,8 @@ fn judged<K: Name, R: Table<K>>(alloc: Global, table: R, text: &[u8]) -> Result<
             });
         }
     };
-    match fault_in::<K, R>(alloc, Kind::Record(table), &value) {
-        Err(_) => Err(WireFault::NoMemory),
-        Ok(Some(fault)) => Err(WireFault::Bad {
-            path: fault.path,
-            kind: fault.kind,
-        }),
-        Ok(None) => Ok(value),
-    }
+    judge::<K, R>(alloc, table.fields(), &value)?;
+    Ok(value)
 }
 
 /// Reads the text as a record of this table: the record, or else the first fault of the text.

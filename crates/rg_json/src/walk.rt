@@ -241,7 +241,7 @@ fn field_fault<K: Name, R: Table<K>>(
 
 /// The fields in their order.
 #[cycle(walk)]
-fn fields_fault<K: Name, R: Table<K>>(
+pub(crate) fn fields_fault<K: Name, R: Table<K>>(
     alloc: Global,
     fields: &[Field<K, R>],
     value: &Value,

@@ -2,11 +2,11 @@
 use Rattle.std.proofs.Common.{◌≡◌, ℕ, List, Bool, true, false, cond, Option, Some, None, Result, Ok, Err, refl, is_none}
 use Rattle.rg_base.specs.declared.numbers.Moment.{Moment}
 use Rattle.rg_cmd_wire.specs.Reading.{command_reading}
-use Rattle.rg_cmd_wire.specs.Rows.{config_of, config_shape}
+use Rattle.rg_cmd_wire.specs.Rows.{config_of}
 use Rattle.rg_json.specs.declared.fault.Fault.{Fault}
 use Rattle.rg_json.specs.Reading.{reading}
 use Rattle.rg_wire.specs.Records.{facts_of, request_of}
-use Rattle.rg_wire.specs.Shapes.{facts_shape, request_shape}
+use Rattle.rg_wire.specs.Shapes.{config_shape, facts_shape, request_shape}
 use Rattle.rg_script.specs.declared.cause.Cause.{Cause}
 use Rattle.rg_script.specs.declared.line.Line.{Line}
 use Rattle.rg_script.specs.declared.line.Line.TheVariants as line

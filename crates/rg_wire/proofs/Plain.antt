@@ -80,7 +80,7 @@ level_members_plain : (rs : List PolicyResource) → PlainMembers 2 (level_membe
 level_members_plain [] = none_plain 2
 level_members_plain (r ∷ rs) = put_plain 2 _ _ _ (resource_plain r) (level_members_plain rs)
 
-resources_plain : (n : ℕ) (rs : Listed PolicyResource) → 3 ≤ n → Plain n (resources_data rs)
+pub resources_plain : (n : ℕ) (rs : Listed PolicyResource) → 3 ≤ n → Plain n (resources_data rs)
 unfolding resources_data
 resources_plain n rs h = let q = level_members_plain rs.items in (q.0, omega (arith, q.1, h))
 
@@ -91,7 +91,7 @@ map_plain m = resources_plain 4 m.levels (omega arith)
 items_of_policy : (is : Listed Item) → Plain 5 (list_data item_data is)
 items_of_policy is = list_plain 4 5 item_data is (omega arith) item_plain
 
-policy_plain : (p : Policy) → Plain 6 (policy_data p)
+pub policy_plain : (p : Policy) → Plain 6 (policy_data p)
 unfolding policy_data
 policy_plain p = object_plain name_of 5 6 (policy_members p) (omega arith) (
   integer_plain 5 p.id.0,

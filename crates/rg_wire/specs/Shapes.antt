@@ -246,6 +246,30 @@ facts_shape = record_of (fields (
     may key.TagVersion count ∷
     may key.RoleVersion count ∷ []))
 
+-- a service
+abbrev pub service_shape : Shape
+service_shape = record_of (fields (
+    must key.Name text ∷
+    must key.Type text ∷
+    may key.TagService text ∷
+    may key.Fallback truth ∷ []))
+
+-- a user
+abbrev pub user_shape : Shape
+user_shape = record_of (fields (
+    must key.Name text ∷
+    may key.Groups (list_of text) ∷ []))
+
+-- what an administration starts from
+abbrev pub config_shape : Shape
+config_shape = record_of (fields (
+    may key.Admins (list_of text) ∷
+    may key.Users (list_of user_shape) ∷
+    may key.TimeZones (list_of time_zone_shape) ∷
+    may key.ServiceDefs (list_of service_def_shape) ∷
+    may key.Services (list_of service_shape) ∷
+    must key.Plugin text ∷ []))
+
 -- the shape of a record
 unfoldable pub record_shape : Record → Shape
 record_shape the.Entry = entry_shape
@@ -275,3 +299,6 @@ record_shape the.TagRow = tag_row_shape
 record_shape the.FactsTagRow = facts_tag_row_shape
 record_shape the.TimeZone = time_zone_shape
 record_shape the.Facts = facts_shape
+record_shape the.Service = service_shape
+record_shape the.User = user_shape
+record_shape the.Config = config_shape

@@ -112,6 +112,19 @@ pub enum Key {
     ResourceElements,
     Tags,
     Attributes,
+    // Of commands, services and configurations.
+    Command,
+    Def,
+    Role,
+    Zone,
+    Row,
+    PoliciesFrom,
+    TagsFrom,
+    RolesFrom,
+    TagService,
+    Admins,
+    ServiceDefs,
+    Plugin,
 }
 
 impl Name for Key {
@@ -224,6 +237,18 @@ impl Name for Key {
             Key::ResourceElements => "resourceElements",
             Key::Tags => "tags",
             Key::Attributes => "attributes",
+            Key::Command => "command",
+            Key::Def => "def",
+            Key::Role => "role",
+            Key::Zone => "zone",
+            Key::Row => "row",
+            Key::PoliciesFrom => "policiesFrom",
+            Key::TagsFrom => "tagsFrom",
+            Key::RolesFrom => "rolesFrom",
+            Key::TagService => "tagService",
+            Key::Admins => "admins",
+            Key::ServiceDefs => "serviceDefs",
+            Key::Plugin => "plugin",
         }
     }
 }

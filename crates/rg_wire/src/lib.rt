@@ -18,9 +18,12 @@ mod wire;
 
 pub use audit_text::print_audit;
 pub use decision_text::print_decision;
+pub use key::Key;
 pub use law::read_again;
-pub use policy_text::print_policy;
+pub use policy_text::{print_policy, resources_json};
 pub use read::{
     read_def, read_facts, read_policy, read_request, read_role, read_tag_row, read_zone,
 };
+pub use record::Record;
 pub use rg_json::{WireFault, WireKind, json_of};
+pub use wire::Wire;

@@ -159,8 +159,9 @@ fn level_members(
     Ok(members)
 }
 
+/// The resources as a map of their levels. Of equal levels the first stays.
 #[tactic(auto, unfolding(crate::specs::Printing::resources_data))]
-fn resources_json(alloc: Global, resources: &Seq<PolicyResource>) -> Result<Value, NoMemory>
+pub fn resources_json(alloc: Global, resources: &Seq<PolicyResource>) -> Result<Value, NoMemory>
     ensures { IfOk result (λ v. view v ≡ resources_data resources.now) }
 {
     Ok(Value::Object(level_members(alloc, resources.as_slice())?))

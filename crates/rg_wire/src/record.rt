@@ -35,6 +35,9 @@ pub enum Record {
     FactsTagRow,
     TimeZone,
     Facts,
+    Service,
+    User,
+    Config,
 }
 
 impl Table<Key> for Record {
@@ -72,6 +75,9 @@ impl Table<Key> for Record {
             Record::FactsTagRow => tables::facts_tag_row(),
             Record::TimeZone => tables::time_zone(),
             Record::Facts => tables::facts(),
+            Record::Service => tables::service(),
+            Record::User => tables::user(),
+            Record::Config => tables::config(),
         }
     }
 }

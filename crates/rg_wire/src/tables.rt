@@ -5,7 +5,7 @@ ghost use Rattle.std.specs.Prelude.{◌≡◌};
 ghost use Rattle.rg_json.specs.Kinds.{fields_from};
 ghost use Rattle.rg_json.specs.Shape.{record_of};
 ghost use Rattle.rg_wire.specs.Names.{name_of};
-ghost use Rattle.rg_wire.specs.Shapes.{record_shape, entry_shape, condition_shape, mask_shape, filter_info_shape, item_shape, policy_resource_shape, schedule_shape, policy_shape, resource_shape, request_shape, options_shape, level_shape, access_type_shape, condition_def_shape, mask_type_shape, named_shape, mask_part_shape, filter_part_shape, service_def_shape, role_shape, zone_service_shape, zone_shape, tag_shape, tag_row_shape, facts_tag_row_shape, time_zone_shape, facts_shape};
+ghost use Rattle.rg_wire.specs.Shapes.{record_shape, entry_shape, condition_shape, mask_shape, filter_info_shape, item_shape, policy_resource_shape, schedule_shape, policy_shape, resource_shape, request_shape, options_shape, level_shape, access_type_shape, condition_def_shape, mask_type_shape, named_shape, mask_part_shape, filter_part_shape, service_def_shape, role_shape, zone_service_shape, zone_shape, tag_shape, tag_row_shape, facts_tag_row_shape, time_zone_shape, facts_shape, service_shape, user_shape, config_shape};
 
 use crate::key::Key;
 use crate::record::Record;
@@ -354,5 +354,41 @@ pub(crate) fn facts() -> Fields
         Field(Key::PolicyVersion, May, Kind::Count),
         Field(Key::TagVersion, May, Kind::Count),
         Field(Key::RoleVersion, May, Kind::Count),
+    ]
+}
+
+/// A service.
+pub(crate) fn service() -> Fields
+    ensures { record_of (fields_from name_of record_shape result.now) ≡ service_shape }
+{
+    &[
+        Field(Key::Name, Must, Kind::Text),
+        Field(Key::Type, Must, Kind::Text),
+        Field(Key::TagService, May, Kind::Text),
+        Field(Key::Fallback, May, Kind::Truth),
+    ]
+}
+
+/// A user.
+pub(crate) fn user() -> Fields
+    ensures { record_of (fields_from name_of record_shape result.now) ≡ user_shape }
+{
+    &[
+        Field(Key::Name, Must, Kind::Text),
+        Field(Key::Groups, May, Kind::Texts),
+    ]
+}
+
+/// What an administration starts from.
+pub(crate) fn config() -> Fields
+    ensures { record_of (fields_from name_of record_shape result.now) ≡ config_shape }
+{
+    &[
+        Field(Key::Admins, May, Kind::Texts),
+        Field(Key::Users, May, Kind::List(Record::User)),
+        Field(Key::TimeZones, May, Kind::List(Record::TimeZone)),
+        Field(Key::ServiceDefs, May, Kind::List(Record::ServiceDef)),
+        Field(Key::Services, May, Kind::List(Record::Service)),
+        Field(Key::Plugin, Must, Kind::Text),
     ]
 }

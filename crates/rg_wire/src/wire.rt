@@ -7,7 +7,7 @@ use std::alloc::Global;
 
 /// Reads each record as the format has it.
 #[derive(Clone, Copy)]
-pub(crate) struct Wire;
+pub struct Wire;
 
 /// Reads the members of a list that are kept by their names.
 #[derive(Clone, Copy)]
