@@ -5,3 +5,4 @@ pub mod Runs
 pub mod Scripts
 pub mod Showing
 pub mod Streams
+pub mod WorldRuns

@@ -1,14 +1,18 @@
 -- A running administration goes on as its world does, and leads to sound facts.
-use Rattle.std.proofs.Common.{◌≡◌, ◌∙◌, ◌+◌, ◌≤◌, ◌<◌, ◌^◌, ◌++◌, ◌∷◌, not, min, ℕ, suc, [], List, Bool, true, false, cond, length, Option, Some, None, slice_get, refl, ap, ap₂, sym, subst, arith, eq-eqb}
+use Rattle.std.proofs.Common.{◌≡◌, ◌∙◌, ◌+◌, ◌≤◌, ◌<◌, ◌^◌, ◌++◌, ◌∷◌, not, min, ℕ, suc, [], List, Bool, true, false, cond, length, Option, Some, None, Result, Ok, Err, IfOk, OnErr, slice_get, refl, ap, ap₂, sym, subst, arith, eq-eqb, lit<, option_map}
+use Rattle.std.specs.List.{list_any}
 use Rattle.std.specs.Option.{unwrap_or}
 use Rattle.std.proofs.Math.Seq.{get_or-append_seam}
+use Rattle.std.proofs.lemmas.Bool.{and_parts}
 use Rattle.std.proofs.lemmas.Option.{slice_get_read}
 use Rattle.rg_turn.specs.History.{state_at}
 use Rattle.rg_turn.specs.View.{entry}
 use Rattle.rg_turn.specs.declared.rule.Entry.{Entry}
 use Rattle.rg_turn.proofs.Histories.{length_snoc, state_after_snoc}
+use Rattle.rg_base.specs.declared.numbers.NoMemory.{NoMemory}
 use Rattle.rg_facts.specs.Sound.{sound}
 use Rattle.rg_facts.specs.declared.facts.Facts.{Facts}
+use Rattle.rg_cmd.specs.Lookups.{is_service}
 use Rattle.rg_cmd.specs.declared.ask.AdminReply.{AdminReply}
 use Rattle.rg_cmd.specs.declared.ask.AdminReply.TheVariants.{Done, Kept, Found, Listed, Downloaded, Refused}
 use Rattle.rg_cmd.specs.declared.ask.Ask.{Ask}
@@ -29,7 +33,7 @@ use Rattle.rg_machine.proofs.Lawful.{plugin_after}
 use Rattle.rg_machine.proofs.Orderly.{count_of}
 use Rattle.rg_run.specs.declared.publication.Publication.{Publication}
 use Rattle.rg_run.specs.Leading.{HasSoundEnd}
-use Rattle.rg_run.specs.Replay.{asked, next_by, publication, refresh_ask, refreshed}
+use Rattle.rg_run.specs.Replay.{asked, next_by, opened, publication, refresh_ask, refresh_publishes, refreshed}
 use Rattle.rg_run.specs.Running.{Running}
 use Rattle.rg_run.specs.Shown.{IsShown, shown}
 
@@ -73,16 +77,16 @@ same_self : (v : Versions) → same_versions v v ≡ true
 same_self v = rw (eq-eqb v.policies.0 v.policies.0 refl, eq-eqb v.tags.0 v.tags.0 refl, eq-eqb v.roles.0 v.roles.0 refl) refl
 
 module _ (start : Administration) where
-  abbrev P : Parts
+  abbrev pub P : Parts
   P = administration start.state.plugin
 
-  abbrev W : Type 0
+  abbrev pub W : Type 0
   W = world.World P
 
-  abbrev newest_in : W → Publication
+  abbrev pub newest_in : W → Publication
   newest_in w = publication w.newest.serial w.newest.facts
 
-  abbrev running : Administration → Publication → Running
+  abbrev pub running : Administration → Publication → Running
   running a p = record { admin = a; newest = p }
 
   -- an entry more
@@ -93,43 +97,46 @@ module _ (start : Administration) where
   asked_shown w ask = entered_by w ask (newest_in w)
 
   -- what a refresh asks, and the administration after it
-  abbrev from : W → Versions
+  abbrev pub from : W → Versions
   from w = versions w.newest.facts
 
-  abbrev ask_of : W → Ask
+  abbrev pub ask_of : W → Ask
   ask_of w = download_ask start.state.plugin (from w)
 
-  abbrev went_on : W → Administration
+  abbrev pub went_on : W → Administration
   went_on w = (step (world.present P w) (ask_of w)).0
 
-  abbrev answer_of : W → AdminReply
+  pub asks_so : (w : W) → w.start ≡ start → refresh_ask (shown start w) ≡ ask_of w
+  asks_so w begins = ap (λ p. download_ask p (from w)) (plugin_after w.start w.history ∙ ap (λ (a : Administration). a.state.plugin) begins)
+
+  abbrev pub answer_of : W → AdminReply
   answer_of w = (step (world.present P w) (ask_of w)).1
 
   -- the world after the download of this document
-  abbrev sent_after : W → Option Download → W
+  abbrev pub sent_after : W → Option Download → W
   sent_after w o = world.asked P (world.sent_with P w (from w) o) (ask_of w)
 
   sent_shown : (w : W) (o : Option Download) → running (went_on w) (newest_in w) ≡ shown start (sent_after w o)
   sent_shown w None = entered_by w (ask_of w) (newest_in w)
   sent_shown w (Some d) = entered_by w (ask_of w) (newest_in w)
 
-  abbrev sent_of : W → Download → world.Sent P
+  abbrev pub sent_of : W → Download → world.Sent P
   sent_of w d = record { from = from w; document = d }
 
   -- and after its publication
-  abbrev published_after : W → Download → W
+  abbrev pub published_after : W → Download → W
   published_after w d = world.published P (sent_after w (Some d)) 0 (sent_of w d)
 
   fits_where : (w : W) (d : Download) (b : Bool) → is_unchanged d ≡ b → world.fits P (sent_after w (Some d)) (sent_of w d) ≡ not b
   fits_where w d b is = rw (same_self (from w), is) refl
 
-  abbrev after_publish : W → Download → W
+  abbrev pub after_publish : W → Download → W
   after_publish w d = world.happens P (sent_after w (Some d)) (world.Event.Publish 0)
 
-  published_where : (w : W) (d : Download) → is_unchanged d ≡ false → after_publish w d ≡ published_after w d
+  pub published_where : (w : W) (d : Download) → is_unchanged d ≡ false → after_publish w d ≡ published_after w d
   published_where w d is = ap (λ b. cond b (published_after w d) (sent_after w (Some d))) (fits_where w d false is)
 
-  kept_where : (w : W) (d : Download) → is_unchanged d ≡ true → after_publish w d ≡ sent_after w (Some d)
+  pub kept_where : (w : W) (d : Download) → is_unchanged d ≡ true → after_publish w d ≡ sent_after w (Some d)
   kept_where w d is = ap (λ b. cond b (published_after w d) (sent_after w (Some d))) (fits_where w d true is)
 
   abbrev next_in : W → Download → Bool → Publication
@@ -141,20 +148,20 @@ module _ (start : Administration) where
 
   -- ---- a refresh
 
-  abbrev refresh_events : AdminReply → List (world.Event P)
+  abbrev pub refresh_events : AdminReply → List (world.Event P)
   refresh_events (Downloaded d) = world.Event.Download ∷ world.Event.Publish 0 ∷ []
   refresh_events reply = world.Event.Download ∷ []
 
-  abbrev gone_by : W → AdminReply → Running
+  abbrev pub gone_by : W → AdminReply → Running
   gone_by w reply = running (went_on w) (unwrap_or (next_by (newest_in w) reply) (newest_in w))
 
-  abbrev Goes : W → AdminReply → Type 0
+  abbrev pub Goes : W → AdminReply → Type 0
   Goes w reply = gone_by w reply ≡ shown start (world.run P (refresh_events reply) w)
 
   only_sent : (w : W) (reply : AdminReply) → answer_of w ≡ reply → document_of reply ≡ None → running (went_on w) (newest_in w) ≡ shown start (world.happens P w world.Event.Download)
   only_sent w reply is none = sent_shown w None ∙ ap (λ o. shown start (sent_after w o)) (sym (ap document_of is ∙ none))
 
-  refreshed_shown : (w : W) (reply : AdminReply) → answer_of w ≡ reply → Goes w reply
+  pub refreshed_shown : (w : W) (reply : AdminReply) → answer_of w ≡ reply → Goes w reply
   refreshed_shown w (Downloaded d) is =
       published_shown w d (is_unchanged d) refl ∙ ap (λ o. shown start (world.happens P (sent_after w o) (world.Event.Publish 0))) (sym (ap document_of is))
   refreshed_shown w Done is = only_sent w Done is refl
@@ -165,6 +172,10 @@ module _ (start : Administration) where
 
 -- ---- from one state to the next
 
+-- as a refresh, by whatever is asked
+abbrev pub gone : Running → Ask → Running
+gone r ask = record { admin = (step r.admin ask).0; newest = unwrap_or (next_by r.newest (step r.admin ask).1) r.newest }
+
 abbrev world_of : (r : Running) (s : IsShown r) → world.World (administration s.start.state.plugin)
 world_of r s = after_events s.start s.facts s.events
 
@@ -174,14 +185,7 @@ StartStays = (start : Administration) (facts : Facts) (events : Events start) �
 
 module _ (stays : StartStays) where
   asks : (r : Running) (s : IsShown r) → refresh_ask r ≡ ask_of s.start (world_of r s)
-  asks r s =
-      let w = world_of r s in
-      ap refresh_ask s.shows
-      ∙ ap (λ p. download_ask p (versions w.newest.facts)) (plugin_after w.start w.history ∙ ap (λ (a : Administration). a.state.plugin) (stays s.start s.facts s.events s.opened))
-
-  -- by an ask of whatever plugin
-  abbrev gone : Running → Ask → Running
-  gone r ask = record { admin = (step r.admin ask).0; newest = unwrap_or (next_by r.newest (step r.admin ask).1) r.newest }
+  asks r s = ap refresh_ask s.shows ∙ asks_so s.start (world_of r s) (stays s.start s.facts s.events s.opened)
 
   pub after_refresh : (r : Running) → IsShown r → r.admin.state.count < 2 ^ 62 → IsShown (refreshed r)
   after_refresh r s low =
@@ -293,3 +297,71 @@ shown_first a facts start viewed = record {
   count = let none = start.count in omega (arith, none);
   serial = omega arith;
 }
+
+-- ---- what a step of the program makes of it
+
+module _ (admin a : Administration) (newest : Publication) (ask : Ask) (reply : AdminReply) (stepped : (a, reply) ≡ step admin ask) where
+  abbrev before : Running
+  before = record { admin = admin; newest = newest }
+
+  abbrev with_newest : Administration → Publication → Running
+  with_newest b p = record { admin = b; newest = p }
+
+  pub asked_is : with_newest a newest ≡ asked before ask
+  asked_is = ap (λ (p : Administration × AdminReply). with_newest p.0 newest) stepped
+
+  pub asked_shows : IsShown before → IsShown (with_newest a newest)
+  asked_shows s = subst IsShown (sym asked_is) (after_ask before ask s)
+
+  pub reply_is : reply ≡ (step admin ask).1
+  reply_is = ap (λ (p : Administration × AdminReply). p.1) stepped
+
+  pub count_grows : a.state.count ≤ admin.state.count + 1
+  count_grows =
+      let same = ap (λ (p : Administration × AdminReply). p.0.state.count) stepped in
+      let count = count_after admin ask in
+      omega (arith, same, count)
+
+  module _ (is_refresh : ask ≡ refresh_ask before) where
+    answer_is : reply ≡ (step admin (refresh_ask before)).1
+    answer_is = reply_is ∙ ap (λ x. (step admin x).1) is_refresh
+
+    pub published_is : (o : Option Publication) → o ≡ next_by newest reply → o ≡ refresh_publishes before
+    published_is o is = is ∙ ap (next_by newest) answer_is
+
+    pub refreshed_is : (o : Option Publication) → o ≡ next_by newest reply → with_newest a (unwrap_or o newest) ≡ refreshed before
+    refreshed_is o is =
+        ap₂ (λ b p. with_newest b (unwrap_or p newest)) (ap (λ (p : Administration × AdminReply). p.0) stepped ∙ ap (λ x. (step admin x).0) is_refresh) (published_is o is)
+
+    pub refreshed_shows : StartStays → (o : Option Publication) → o ≡ next_by newest reply → IsShown before → admin.state.count < 2 ^ 62 → IsShown (with_newest a (unwrap_or o newest))
+    refreshed_shows stays o is s low = subst IsShown (sym (refreshed_is o is)) (after_refresh stays before s low)
+
+    pub ends_soundly : StartStays → PublicationsRight → ViewsSound → IsShown before → admin.state.count < 2 ^ 62 → HasSoundEnd newest reply
+    ends_soundly stays right views_sound s low = subst (HasSoundEnd newest) (sym answer_is) (refresh_is_sound stays right views_sound before s low)
+
+-- an ask, whatever came of it
+abbrev before_at : Administration → Publication → Running
+before_at b p = record { admin = b; newest = p }
+
+pub asked_anyway : (admin a : Administration) (newest : Publication) (ask : Ask) (result : Result AdminReply NoMemory) → IsShown (before_at admin newest)
+    → IfOk result (λ reply. (a, reply) ≡ step admin ask) → OnErr result (a ≡ admin) → IsShown (before_at a newest)
+asked_anyway admin a newest ask (Ok reply) s ok err = asked_shows admin a newest ask reply ok s
+asked_anyway admin a newest ask (Err e) s ok err = subst (λ b. IsShown (before_at b newest)) (sym err) s
+
+-- the plugin's service is there, and its view is sound
+pub plugin_there : (a : Administration) (plugin : List ℕ) → IsStart a → plugin ≡ a.state.plugin → list_any (is_service plugin) a.state.services.items ≡ true
+plugin_there a plugin start is =
+    subst (λ p. list_any (is_service p) a.state.services.items ≡ true) (sym is)
+    (and_parts (list_any (is_service a.state.plugin) a.state.services.items) _ start.valid.plugin).0
+
+pub first_sound : ViewsSound → (a : Administration) (plugin : List ℕ) (facts : Facts) → IsStart a → view a plugin ≡ Some facts → sound facts ≡ true
+first_sound views_sound a plugin facts start viewed = views_sound a [] start 0 (omega arith) (lit< tt) plugin facts viewed
+
+pub first_shows : (a : Administration) (plugin : List ℕ) (facts engine : Facts) → IsStart a → plugin ≡ a.state.plugin → view a plugin ≡ Some facts → engine ≡ facts
+    → IsShown (before_at a (publication 1 engine))
+first_shows a plugin facts engine start is viewed made = shown_first a engine start (subst (λ p. view a p ≡ Some engine) is (viewed ∙ ap Some (sym made)))
+
+pub first_opened : (a : Administration) (plugin : List ℕ) (facts engine : Facts) → plugin ≡ a.state.plugin → view a plugin ≡ Some facts → engine ≡ facts
+    → opened a ≡ Some (before_at a (publication 1 engine))
+first_opened a plugin facts engine is viewed made =
+    ap (λ (o : Option Facts). option_map (λ f. before_at a (publication 1 f)) o) (subst (λ p. view a p ≡ Some engine) is (viewed ∙ ap Some (sym made)))

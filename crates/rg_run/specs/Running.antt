@@ -6,3 +6,6 @@ use Rattle.rg_run.specs.declared.publication.Publication.{Publication}
 pub record Running : Type 0 where
   pub admin : Administration
   pub newest : Publication
+
+abbrev pub running : Administration → Publication → Running
+running a p = record { admin = a; newest = p }

@@ -3,6 +3,7 @@
 
 mod command;
 mod follow;
+mod laws;
 mod leading;
 mod machine;
 mod program;
@@ -14,6 +15,7 @@ mod status;
 mod writing;
 
 pub use command::Command;
+pub use laws::scripts_are_runs;
 pub use machine::start;
 pub use program::run;
 pub use status::Status;

@@ -1,9 +1,11 @@
 // An administration that is running, with the newest publication to its plugin.
 ghost use Rattle.std.specs.Prelude.{◌≡◌, ◌<◌, ◌≤◌, ◌+◌, ◌^◌, Some, IfOk, IfSome, option_map};
 ghost use Rattle.rg_admin.specs.Starting.{start_fault};
-ghost use Rattle.rg_machine.specs.Logs.{Administration};
+ghost use Rattle.rg_machine.specs.Starts.{IsStart};
 ghost use Rattle.rg_machine.specs.Steps.{step};
-ghost use Rattle.rg_run.specs.Replay.{asked, opened_unless, refresh_ask, refresh_publishes, refreshed};
+ghost use Rattle.rg_run.specs.Replay.{asked, opened, opened_unless, refresh_ask, refresh_publishes, refreshed};
+ghost use Rattle.rg_run.specs.Running.{running};
+ghost use Rattle.rg_run.specs.Shown.{IsShown};
 
 use crate::publication::Publication;
 use rg_admin::{Admin, StartFault};
@@ -39,19 +41,29 @@ impl Running {
         ensures opened { IfOk result (λ r. r ≡ opened_unless (start_fault config) config) }
         ensures new { IfOk result (λ r. IfSome r (λ r. r.admin.state.count ≡ 0)) }
     {
-        let admin = match Admin::start(alloc, config) {
-            Ok(admin) => admin,
-            Err(StartFault::Rule(_)) => return Ok(None),
-            Err(StartFault::NoMemory) => return Err(NoMemory),
-        };
+        match Admin::start(alloc, config) {
+            Ok(admin) => Ok(Some(Running::opened(alloc, admin)?)),
+            Err(StartFault::Rule(_)) => Ok(None),
+            Err(StartFault::NoMemory) => Err(NoMemory),
+        }
+    }
+
+    /// The administration, with its plugin's view as publication 1.
+    fn opened(alloc: Global, admin: Admin) -> Result<Running, NoMemory>
+        requires { IsStart admin }
+        ensures opened { IfOk result (λ r. opened admin ≡ Some r) }
+        ensures new { IfOk result (λ r. r.admin.state.count ≡ 0) }
+    {
         views_are_sound();
         let facts = admin.view(alloc, admin.state().plugin.as_str())?;
         let engine = Plain::build(alloc, facts)?;
-        let newest = Publication {
-            serial: Serial(1),
-            engine,
-        };
-        Ok(Some(Running { admin, newest }))
+        Ok(Running {
+            admin,
+            newest: Publication {
+                serial: Serial(1),
+                engine,
+            },
+        })
     }
 
     /// The newest publication.
@@ -70,22 +82,6 @@ impl Running {
         self.admin.step(alloc, ask)
     }
 
-    /// What a refresh asks for.
-    fn refresh_ask(&self, alloc: Global) -> Result<Ask, NoMemory>
-        ensures { IfOk result (λ ask. ask ≡ refresh_ask self.now) }
-    {
-        let facts = self.newest.engine.facts();
-        Ok(Ask {
-            actor: Text::empty(alloc),
-            command: AdminCommand::Download {
-                service: self.admin.state().plugin.try_copy(alloc)?,
-                policies_from: Some(facts.policy_version),
-                tags_from: Some(facts.tag_version),
-                roles_from: Some(facts.role_version),
-            },
-        })
-    }
-
     /// Publishes what has changed since the newest publication, and gives its serial; None where nothing has.
     pub fn refresh(&mut self, alloc: Global) -> Result<Option<Serial>, NoMemory>
         requires { self.old.admin.state.count < 2 ^ 62 }
@@ -93,15 +89,47 @@ impl Running {
         ensures published { IfOk result (λ serial. serial ≡ option_map (λ p. p.serial) (refresh_publishes self.old)) }
         ensures count { IfOk result (λ serial. self.new.admin.state.count ≤ self.old.admin.state.count + 1) }
     {
-        world();
-        views_are_sound();
-        let ask = self.refresh_ask(alloc)?;
-        let reply = self.admin.step(alloc, ask)?;
-        let Some(next) = self.newest.next_by(alloc, reply)? else {
-            return Ok(None);
-        };
-        let serial = next.serial;
-        self.newest = next;
-        Ok(Some(serial))
+        refresh(alloc, &mut self.admin, &mut self.newest)
     }
+}
+
+/// What a refresh asks for.
+fn refresh_ask(alloc: Global, admin: &Admin, newest: &Publication) -> Result<Ask, NoMemory>
+    ensures { IfOk result (λ ask. ask ≡ refresh_ask (running admin.now newest.now)) }
+{
+    let facts = newest.engine.facts();
+    Ok(Ask {
+        actor: Text::empty(alloc),
+        command: AdminCommand::Download {
+            service: admin.state().plugin.try_copy(alloc)?,
+            policies_from: Some(facts.policy_version),
+            tags_from: Some(facts.tag_version),
+            roles_from: Some(facts.role_version),
+        },
+    })
+}
+
+/// Publishes what has changed since the newest publication.
+fn refresh(
+    alloc: Global,
+    admin: &mut Admin,
+    newest: &mut Publication,
+) -> Result<Option<Serial>, NoMemory>
+    requires few { admin.old.state.count < 2 ^ 62 }
+    requires shown { IsShown (running admin.old newest.old) }
+    ensures shown { IsShown (running admin.new newest.new) }
+    ensures refreshed { IfOk result (λ serial. running admin.new newest.new ≡ refreshed (running admin.old newest.old)) }
+    ensures published { IfOk result (λ serial. serial ≡ option_map (λ p. p.serial) (refresh_publishes (running admin.old newest.old))) }
+    ensures count { IfOk result (λ serial. admin.new.state.count ≤ admin.old.state.count + 1) }
+{
+    world();
+    views_are_sound();
+    let ask = refresh_ask(alloc, admin, newest)?;
+    let reply = admin.step(alloc, ask)?;
+    let Some(next) = newest.next_by(alloc, reply)? else {
+        return Ok(None);
+    };
+    let serial = next.serial;
+    *newest = next;
+    Ok(Some(serial))
 }

@@ -1,7 +1,7 @@
 // Why a line of a script is bad.
-ghost use Rattle.std.specs.Prelude.{◌≡◌, IfOk, is_none, option_map};
-ghost use Rattle.rg_admin.specs.Starting.{start_fault};
-ghost use Rattle.rg_sound.specs.Causes.{first_cause};
+ghost use Rattle.std.specs.Prelude.{◌≡◌, IfOk, is_none};
+ghost use Rattle.rg_cmd.specs.declared.ask.Ask.{Ask};
+ghost use Rattle.rg_policy.specs.declared.request.AccessRequest.{AccessRequest};
 ghost use Rattle.rg_script.specs.Causes.{cause_of, is_unread, place_cause};
 ghost use Rattle.rg_script.specs.Line.{line_of};
 
@@ -41,22 +41,51 @@ pub enum Place {
     Config,
 }
 
-fn facts_cause(alloc: Global, facts: &Facts) -> Result<Option<Cause>, NoMemory>
-    ensures { IfOk result (λ cause. cause ≡ option_map Cause.Unsound (first_cause facts.now)) }
+/// Why facts are bad where they stand.
+fn facts_cause(alloc: Global, place: Place, facts: &Facts) -> Result<Option<Cause>, NoMemory>
+    ensures { IfOk result (λ cause. cause ≡ place_cause place (Line.Facts facts.now)) }
 {
-    match unsound_cause(alloc, facts)? {
-        Some(unsound) => Ok(Some(Cause::Unsound(unsound))),
-        None => Ok(None),
+    match place {
+        Place::Start => match unsound_cause(alloc, facts)? {
+            Some(unsound) => Ok(Some(Cause::Unsound(unsound))),
+            None => Ok(None),
+        },
+        Place::Facts | Place::Config => Ok(Some(Cause::OutOfPlace)),
     }
 }
 
-fn config_cause(alloc: Global, config: Config) -> Result<Option<Cause>, NoMemory>
-    ensures { IfOk result (λ cause. cause ≡ option_map Cause.Refused (start_fault config)) }
+/// Why a configuration is bad where it stands.
+fn config_cause(alloc: Global, place: Place, config: Config) -> Result<Option<Cause>, NoMemory>
+    ensures { IfOk result (λ cause. cause ≡ place_cause place (Line.Config config)) }
 {
-    match Admin::start(alloc, config) {
-        Ok(_) => Ok(None),
-        Err(StartFault::Rule(rule)) => Ok(Some(Cause::Refused(rule))),
-        Err(StartFault::NoMemory) => Err(NoMemory),
+    match place {
+        Place::Start => match Admin::start(alloc, config) {
+            Ok(_) => Ok(None),
+            Err(StartFault::Rule(rule)) => Ok(Some(Cause::Refused(rule))),
+            Err(StartFault::NoMemory) => Err(NoMemory),
+        },
+        Place::Facts | Place::Config => Ok(Some(Cause::OutOfPlace)),
+    }
+}
+
+/// Why a command or a refresh is bad where it stands.
+fn change_cause(place: Place) -> Option<Cause>
+    ensures admin { (ask : Ask) → result ≡ place_cause place (Line.Admin ask) }
+    ensures refresh { result ≡ place_cause place Line.Refresh }
+{
+    match place {
+        Place::Start | Place::Facts => Some(Cause::OutOfPlace),
+        Place::Config => None,
+    }
+}
+
+/// Why a request is bad where it stands.
+fn request_cause(place: Place) -> Option<Cause>
+    ensures { (q : AccessRequest) → result ≡ place_cause place (Line.Decide q) }
+{
+    match place {
+        Place::Start => Some(Cause::OutOfPlace),
+        Place::Facts | Place::Config => None,
     }
 }
 
@@ -64,13 +93,13 @@ fn config_cause(alloc: Global, config: Config) -> Result<Option<Cause>, NoMemory
 fn place_cause(alloc: Global, place: Place, line: Line) -> Result<Option<Cause>, NoMemory>
     ensures { IfOk result (λ cause. cause ≡ place_cause place line) }
 {
-    match (place, line) {
-        (_, Line::Blank)
-        | (Place::Facts | Place::Config, Line::Decide(_))
-        | (Place::Config, Line::Admin(_) | Line::Refresh) => Ok(None),
-        (Place::Start, Line::Facts(facts)) => facts_cause(alloc, &facts),
-        (Place::Start, Line::Config(config)) => config_cause(alloc, config),
-        (_, _) => Ok(Some(Cause::OutOfPlace)),
+    match line {
+        Line::Blank => Ok(None),
+        Line::Facts(facts) => facts_cause(alloc, place, &facts),
+        Line::Config(config) => config_cause(alloc, place, config),
+        Line::Admin(_) => Ok(change_cause(place)),
+        Line::Refresh => Ok(change_cause(place)),
+        Line::Decide(_) => Ok(request_cause(place)),
     }
 }
 

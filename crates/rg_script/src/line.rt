@@ -103,10 +103,13 @@ fn admin_line(alloc: Global, rest: &[u8]) -> Result<Line, Unread>
     ensures { Reads result (ask_read (actor_of (front_word rest.now)) (behind_space rest.now)) }
 {
     let (word, json) = split_word(rest);
-    match (actor_of(alloc, word), json) {
-        (Err(_), _) => Err(Unread::NoMemory),
-        (Ok(Some(actor)), Some(json)) => command_line(alloc, actor, json),
-        (Ok(_), _) => Err(Unread::Bad(Cause::NoWord)),
+    let actor = match actor_of(alloc, word) {
+        Ok(actor) => actor,
+        Err(_) => return Err(Unread::NoMemory),
+    };
+    match (actor, json) {
+        (Some(actor), Some(json)) => command_line(alloc, actor, json),
+        (_, _) => Err(Unread::Bad(Cause::NoWord)),
     }
 }
 
@@ -129,13 +132,21 @@ fn worded_line(
 ) -> Result<Line, Unread>
     ensures { Reads result (worded now word (option_map (λ rest. rest.now) rest.entry)) }
 {
-    match (word, rest) {
-        (Some(Word::Facts), Some(json)) => facts_line(alloc, json),
-        (Some(Word::Config), Some(json)) => config_line(alloc, json),
-        (Some(Word::Admin), Some(rest)) => admin_line(alloc, rest),
-        (Some(Word::Refresh), None) => Ok(Line::Refresh),
-        (Some(Word::Decide), Some(json)) => decide_line(alloc, json, now),
-        (_, _) => Err(Unread::Bad(Cause::NoWord)),
+    let Some(word) = word else {
+        return Err(Unread::Bad(Cause::NoWord));
+    };
+    match rest {
+        Some(rest) => match word {
+            Word::Facts => facts_line(alloc, rest),
+            Word::Config => config_line(alloc, rest),
+            Word::Admin => admin_line(alloc, rest),
+            Word::Refresh => Err(Unread::Bad(Cause::NoWord)),
+            Word::Decide => decide_line(alloc, rest, now),
+        },
+        None => match word {
+            Word::Refresh => Ok(Line::Refresh),
+            _ => Err(Unread::Bad(Cause::NoWord)),
+        },
     }
 }
 
