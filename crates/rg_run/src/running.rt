@@ -1,5 +1,5 @@
 // An administration that is running, with the newest publication to its plugin.
-ghost use Rattle.std.specs.Prelude.{◌≡◌, ◌<◌, ◌≤◌, ◌+◌, ◌^◌, Some, IfOk, IfSome, option_map};
+ghost use Rattle.std.specs.Prelude.{◌≡◌, ◌<◌, ◌≤◌, ◌+◌, ◌^◌, Some, IfOk, IfSome, option_map, unwrap_or};
 ghost use Rattle.rg_admin.specs.Starting.{start_fault};
 ghost use Rattle.rg_machine.specs.Starts.{IsStart};
 ghost use Rattle.rg_machine.specs.Steps.{step};
@@ -109,6 +109,21 @@ fn refresh_ask(alloc: Global, admin: &Admin, newest: &Publication) -> Result<Ask
     })
 }
 
+/// The next publication takes the place of the newest, and gives its serial, if there is one.
+fn replace(newest: &mut Publication, next: Option<Publication>) -> Option<Serial>
+    ensures newest { newest.new ≡ unwrap_or next newest.old }
+    ensures serial { result ≡ option_map (λ p. p.serial) next }
+{
+    match next {
+        None => None,
+        Some(next) => {
+            let serial = next.serial;
+            *newest = next;
+            Some(serial)
+        }
+    }
+}
+
 /// Publishes what has changed since the newest publication.
 fn refresh(
     alloc: Global,
@@ -126,10 +141,6 @@ fn refresh(
     views_are_sound();
     let ask = refresh_ask(alloc, admin, newest)?;
     let reply = admin.step(alloc, ask)?;
-    let Some(next) = newest.next_by(alloc, reply)? else {
-        return Ok(None);
-    };
-    let serial = next.serial;
-    *newest = next;
-    Ok(Some(serial))
+    let next = newest.next_by(alloc, reply)?;
+    Ok(replace(newest, next))
 }
