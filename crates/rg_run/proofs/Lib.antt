@@ -5,4 +5,5 @@ pub mod Runs
 pub mod Scripts
 pub mod Showing
 pub mod Streams
+pub mod Working
 pub mod WorldRuns

@@ -54,6 +54,36 @@ fn add_refresh(text: &mut String, published: Option<Serial>) -> Result<(), NoMem
     }
 }
 
+/// Asks the administration, and adds the line of its reply.
+fn ask_and_print(
+    alloc: Global,
+    running: &mut Running,
+    ask: Ask,
+    text: &mut String,
+) -> Result<(), NoMemory>
+    ensures worked { OnOk result (IsWorked (admin_work (State.Config running.old) ask) (State.Config running.new) (string_bytes text.old) (string_bytes text.new)) }
+    ensures count { OnOk result (running.new.admin.state.count ≤ running.old.admin.state.count + 1) }
+{
+    let reply = running.ask(alloc, ask)?;
+    add_reply(alloc, text, &reply)?;
+    Ok(())
+}
+
+/// Refreshes the plugin, and adds the line of what was published.
+fn refresh_and_print(
+    alloc: Global,
+    running: &mut Running,
+    text: &mut String,
+) -> Result<(), NoMemory>
+    requires { running.old.admin.state.count < 2 ^ 62 }
+    ensures worked { OnOk result (IsWorked (refresh_work (State.Config running.old)) (State.Config running.new) (string_bytes text.old) (string_bytes text.new)) }
+    ensures count { OnOk result (running.new.admin.state.count ≤ running.old.admin.state.count + 1) }
+{
+    let published = running.refresh(alloc)?;
+    add_refresh(text, published)?;
+    Ok(())
+}
+
 impl State {
     /// What is published last.
     fn newest(&self) -> Option<&Publication>
@@ -116,15 +146,12 @@ impl State {
         ensures unwritten { result ≡ Err LineFault.Bad → string_bytes text.new ≡ string_bytes text.old }
         ensures entries { OnOk result (entries self.new ≤ entries self.old + 1) }
     {
-        let State::Config(running) = self else {
-            return Err(LineFault::Bad);
-        };
-        match running.ask(alloc, ask) {
-            Ok(reply) => match add_reply(alloc, text, &reply) {
+        match self {
+            State::Config(running) => match ask_and_print(alloc, running, ask, text) {
                 Ok(()) => Ok(()),
                 Err(_) => Err(LineFault::NoMemory),
             },
-            Err(_) => Err(LineFault::NoMemory),
+            State::Empty | State::Facts(_) => Err(LineFault::Bad),
         }
     }
 
@@ -137,15 +164,12 @@ impl State {
         ensures unwritten { result ≡ Err LineFault.Bad → string_bytes text.new ≡ string_bytes text.old }
         ensures entries { OnOk result (entries self.new ≤ entries self.old + 1) }
     {
-        let State::Config(running) = self else {
-            return Err(LineFault::Bad);
-        };
-        match running.refresh(alloc) {
-            Ok(published) => match add_refresh(text, published) {
+        match self {
+            State::Config(running) => match refresh_and_print(alloc, running, text) {
                 Ok(()) => Ok(()),
                 Err(_) => Err(LineFault::NoMemory),
             },
-            Err(_) => Err(LineFault::NoMemory),
+            State::Empty | State::Facts(_) => Err(LineFault::Bad),
         }
     }
 
