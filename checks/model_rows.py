@@ -239,7 +239,7 @@ def stored_runs():
     runs = [folder for folder in sorted((TOP / "crates").iterdir()) if (folder / "stdin").exists() and (folder / "stdout").exists()]
     cases = [(run.name, run / "stdin", run / "stdout", run / "status") for run in runs if (run / "args").read_text().split() == ["replay"]]
     cases += [(out.name, out.with_suffix(".script"), out, TOP / "none") for out in sorted((TOP / "examples").glob("*.out"))]
-    assert len(cases) >= 7
+    assert cases
     for name, script, out, status in cases:
         text, number, cause = admin_model.worked(script.read_bytes())
         assert (text, number) == (out.read_text(), int(status.read_text()) if status.exists() else 0), (name, cause)
