@@ -5,4 +5,5 @@ pub mod Settling
 pub mod Stepping
 pub mod Tightness
 pub mod Placing
+pub mod Putting
 pub mod Serving

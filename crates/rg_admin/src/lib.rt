@@ -11,7 +11,9 @@ mod numbered;
 mod planning;
 mod reply;
 mod served;
+mod start;
 mod touches;
 mod view;
 
 pub use admin::Admin;
+pub use start::StartFault;
