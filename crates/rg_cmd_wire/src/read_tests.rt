@@ -1,8 +1,8 @@
 // What is read, and the first faults of texts, with ample memory. A row is a text, `|`, and the path and the kind of its first
 // fault, or nothing where it has none.
 use crate::{read_command, read_config, read_service, read_user};
-use rg_base::Version;
-use rg_cmd::AdminCommand;
+use rg_base::{NoMemory, Version};
+use rg_cmd::{AdminCommand, Config, ServiceRow, UserRow};
 use rg_json::WireFault;
 use std::alloc::Global;
 use std::test::Fail;
@@ -197,12 +197,19 @@ fn held_in<'a>(command: &'a AdminCommand) -> (&'static str, &'a str) {
     }
 }
 
+/// The same in a text.
+fn held_words(alloc: Global, command: &AdminCommand) -> Result<String, NoMemory> {
+    let (kind, held) = held_in(command);
+    Ok(format!(in alloc; "{kind} {held}")?)
+}
+
 /// What is read of a command, in a few words.
 fn command_words(alloc: Global, text: &str) -> Result<String, Fail> {
     match read_command(alloc, text.as_bytes()) {
         Ok(command) => {
-            let (kind, held) = held_in(&command);
-            Ok(format!(in alloc; "{kind} {held}")?)
+            let made = held_words(alloc, &command);
+            drop(command);
+            Ok(made?)
         }
         Err(fault) => words(alloc, fault),
     }
@@ -241,49 +248,64 @@ fn version_in(from: &Option<Version>) -> u64 {
     }
 }
 
-/// What a command is, and the numbers that it holds.
-fn numbers_in(command: &AdminCommand) -> (&'static str, i64, [u64; 3]) {
+/// The versions of a download, in a text.
+fn versions(
+    alloc: Global,
+    policies: &Option<Version>,
+    tags: &Option<Version>,
+    roles: &Option<Version>,
+) -> Result<String, NoMemory> {
+    let policies = version_in(policies);
+    let tags = version_in(tags);
+    let roles = version_in(roles);
+    Ok(format!(in alloc; "download {policies} {tags} {roles}")?)
+}
+
+/// What a command is, and the number that it holds.
+fn number_in(command: &AdminCommand) -> (&'static str, i64) {
     match command {
-        AdminCommand::DeletePolicy { id } => ("delete policy", id.0, [0, 0, 0]),
-        AdminCommand::GetPolicy { id } => ("get policy", id.0, [0, 0, 0]),
-        AdminCommand::PutTags { id, row: _row } => ("put tags", *id, [0, 0, 0]),
-        AdminCommand::DeleteTags { id } => ("delete tags", *id, [0, 0, 0]),
-        AdminCommand::Download {
-            service: _service,
-            policies_from,
-            tags_from,
-            roles_from,
-        } => (
-            "download",
-            0,
-            [
-                version_in(policies_from),
-                version_in(tags_from),
-                version_in(roles_from),
-            ],
-        ),
-        _ => ("another", 0, [0, 0, 0]),
+        AdminCommand::DeletePolicy { id } => ("delete policy", id.0),
+        AdminCommand::GetPolicy { id } => ("get policy", id.0),
+        AdminCommand::PutTags { id, row: _row } => ("put tags", *id),
+        AdminCommand::DeleteTags { id } => ("delete tags", *id),
+        _ => ("another", 0),
     }
 }
 
-/// The numbers of a command in words.
+/// The numbers of a command in a text.
+fn number_words(alloc: Global, command: &AdminCommand) -> Result<String, NoMemory> {
+    if let AdminCommand::Download {
+        service: _service,
+        policies_from,
+        tags_from,
+        roles_from,
+    } = command
+    {
+        return versions(alloc, policies_from, tags_from, roles_from);
+    }
+    let (kind, number) = number_in(command);
+    Ok(format!(in alloc; "{kind} {number}")?)
+}
+
+/// The numbers of a command that is read.
 fn command_numbers(alloc: Global, text: &str) -> Result<String, Fail> {
     match read_command(alloc, text.as_bytes()) {
         Ok(command) => {
-            let (kind, id, [policies, tags, roles]) = numbers_in(&command);
-            Ok(format!(in alloc; "{kind} {id} {policies} {tags} {roles}")?)
+            let made = number_words(alloc, &command);
+            drop(command);
+            Ok(made?)
         }
         Err(fault) => words(alloc, fault),
     }
 }
 
 /// Commands that are read, and their numbers.
-const NUMBERS: &str = r#"{"command":"deletePolicy","id":-7}|delete policy -7 0 0 0
-{"command":"getPolicy","id":9223372036854775807}|get policy 9223372036854775807 0 0 0
-{"command":"putTags","id":3,"row":{"id":4,"serviceName":"s"}}|put tags 3 0 0 0
-{"command":"deleteTags","id":5}|delete tags 5 0 0 0
-{"command":"download","service":"s","policiesFrom":1,"tagsFrom":2,"rolesFrom":3}|download 0 1 2 3
-{"command":"download","service":"s","tagsFrom":18446744073709551615,"rolesFrom":null}|download 0 0 18446744073709551615 0"#;
+const NUMBERS: &str = r#"{"command":"deletePolicy","id":-7}|delete policy -7
+{"command":"getPolicy","id":9223372036854775807}|get policy 9223372036854775807
+{"command":"putTags","id":3,"row":{"id":4,"serviceName":"s"}}|put tags 3
+{"command":"deleteTags","id":5}|delete tags 5
+{"command":"download","service":"s","policiesFrom":1,"tagsFrom":2,"rolesFrom":3}|download 1 2 3
+{"command":"download","service":"s","tagsFrom":18446744073709551615,"rolesFrom":null}|download 0 18446744073709551615 0"#;
 
 #[test]
 fn numbers_of_commands_are_read(rt: HostRuntime) -> Result<(), Fail> {
@@ -295,20 +317,23 @@ fn numbers_of_commands_are_read(rt: HostRuntime) -> Result<(), Fail> {
     Ok(())
 }
 
-/// A service in words, or its first fault.
+/// A service in words.
+fn service_in(alloc: Global, row: &ServiceRow) -> Result<String, NoMemory> {
+    let (name, def) = (row.name.as_str(), row.def.as_str());
+    let (tag_service, fallback) = (row.tag_service.as_str(), row.fallback);
+    Ok(format!(in alloc; "{name}/{def}/{tag_service}/{fallback}")?)
+}
+
+/// A service that is read, or its first fault.
 fn service_words(alloc: Global, text: &str) -> Result<String, Fail> {
-    Ok(match read_service(alloc, text.as_bytes()) {
+    match read_service(alloc, text.as_bytes()) {
         Ok(row) => {
-            let (name, def, tag_service) = (
-                row.name.as_str(),
-                row.def.as_str(),
-                row.tag_service.as_str(),
-            );
-            let fallback = row.fallback;
-            format!(in alloc; "{name}/{def}/{tag_service}/{fallback}")?
+            let made = service_in(alloc, &row);
+            drop(row);
+            Ok(made?)
         }
-        Err(fault) => words(alloc, fault)?,
-    })
+        Err(fault) => words(alloc, fault),
+    }
 }
 
 /// Services, and what is read.
@@ -331,16 +356,22 @@ fn services_are_read(rt: HostRuntime) -> Result<(), Fail> {
     Ok(())
 }
 
-/// A user in words, or its first fault.
+/// A user in words.
+fn user_in(alloc: Global, row: &UserRow) -> Result<String, NoMemory> {
+    let (name, groups) = (row.name.as_str(), row.groups.len());
+    Ok(format!(in alloc; "{name}/{groups}")?)
+}
+
+/// A user that is read, or its first fault.
 fn user_words(alloc: Global, text: &str) -> Result<String, Fail> {
-    Ok(match read_user(alloc, text.as_bytes()) {
+    match read_user(alloc, text.as_bytes()) {
         Ok(row) => {
-            let name = row.name.as_str();
-            let groups = row.groups.len();
-            format!(in alloc; "{name}/{groups}")?
+            let made = user_in(alloc, &row);
+            drop(row);
+            Ok(made?)
         }
-        Err(fault) => words(alloc, fault)?,
-    })
+        Err(fault) => words(alloc, fault),
+    }
 }
 
 /// Users, and what is read.
@@ -362,18 +393,25 @@ fn users_are_read(rt: HostRuntime) -> Result<(), Fail> {
     Ok(())
 }
 
-/// A configuration in words, or its first fault.
+/// A configuration in words: its plugin, and how long its lists are.
+fn config_in(alloc: Global, config: &Config) -> Result<String, NoMemory> {
+    let plugin = config.plugin.as_str();
+    let (admins, users) = (config.admins.len(), config.users.len());
+    let (time_zones, defs) = (config.time_zones.len(), config.defs.len());
+    let services = config.services.len();
+    Ok(format!(in alloc; "{plugin} {admins} {users} {time_zones} {defs} {services}")?)
+}
+
+/// A configuration that is read, or its first fault.
 fn config_words(alloc: Global, text: &str) -> Result<String, Fail> {
-    Ok(match read_config(alloc, text.as_bytes()) {
+    match read_config(alloc, text.as_bytes()) {
         Ok(config) => {
-            let plugin = config.plugin.as_str();
-            let (admins, users) = (config.admins.len(), config.users.len());
-            let (time_zones, defs) = (config.time_zones.len(), config.defs.len());
-            let services = config.services.len();
-            format!(in alloc; "{plugin} {admins} {users} {time_zones} {defs} {services}")?
+            let made = config_in(alloc, &config);
+            drop(config);
+            Ok(made?)
         }
-        Err(fault) => words(alloc, fault)?,
-    })
+        Err(fault) => words(alloc, fault),
+    }
 }
 
 /// Configurations, and what is read.
