@@ -5,12 +5,16 @@
 # exceptions, priorities, conditions and schedules), zones (mix with 100 nested roles and ten zones), or all (zones with
 # 50 tag rows, a tag policy for each ten policies, masks and row filters).
 # Prints the sizes, decide lines per second (best of three runs) and the peak of resident memory.
+# With the case `admin` the script is one of an administration: see bench/replay_admin.py.
 set -eu
 cd "$(dirname "$0")/.."
 case=${1:-plain} policies=${2:-1000} lines=${3:-100000}
 folder=$(mktemp -d)
 trap 'rm -rf "$folder"' EXIT
 bin/rangerd replay </dev/null
+if [ "$case" = admin ]; then
+  exec python3 bench/replay_admin.py crates/rangerd/out/rangerd "${@:2}"
+fi
 
 python3 - "$case" "$policies" "$lines" > "$folder/script" <<'P'
 import json, sys

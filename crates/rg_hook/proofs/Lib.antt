@@ -1,2 +1,3 @@
+pub mod Told
 pub mod Zips
 pub mod Runs

@@ -3,4 +3,5 @@ pub mod Enriching
 pub mod Shown
 pub mod Sinks
 pub mod Tables
+pub mod Told
 pub mod Written

@@ -3,9 +3,6 @@ ghost use Rattle.std.specs.Prelude.{◌≡◌, ◌⊎◌, ◌<◌, ◌≤◌, le
 ghost use mathlib.Core.List.{IsPrefix};
 ghost use Rattle.left_right.specs.Sides.{view as known_by};
 ghost use Rattle.rg_engine.specs.Bounds.{TriesWithin, bound_on};
-ghost use Rattle.rg_facts.specs.Texts.{decide};
-ghost use Rattle.rg_facts.specs.declared.facts.Facts.{Facts};
-ghost use Rattle.rg_policy.specs.declared.request.AccessRequest.{AccessRequest};
 ghost use Rattle.rg_publish.specs.Knowing.{Begins, Knows};
 ghost use Rattle.rg_publish.specs.Passes.{Ends, HasEntered, answer_of, decision_of, new_pass, risen, seeing};
 ghost use Rattle.rg_publish.specs.Publications.{published};
@@ -13,6 +10,7 @@ ghost use Rattle.rg_publish.specs.Publications.{published};
 use crate::shown::{Beginnings, Known, Sees, Shown};
 use left_right::reader::Reader;
 use rg_base::{Ledger, NoMemory, Serial, Steps};
+use rg_engine::numbered;
 use rg_facts::{Answer, Decision};
 use rg_policy::AccessRequest;
 use std::alloc::Global;
@@ -150,7 +148,7 @@ impl Pass {
     {
         let engine = &*self.kept.engine;
         let decision = engine.decide(alloc, request, steps)?;
-        Ok(numbered(decision, self.kept.serial))
+        Ok(numbered(decision, Serial(self.kept.serial)))
     }
 
     /// Finds what was published last, and answers by it. Where the entry, or the copy of the shared pointer, is refused it
@@ -189,15 +187,6 @@ impl Pass {
         self.answered = self.answered.saturating_add(1);
         Ok(decision)
     }
-}
-
-/// The decision as one of the publication of this serial.
-fn numbered(decision: Decision, serial: u64) -> Decision
-    ensures { (facts : Facts) (q : AccessRequest) → decision ≡ decide facts q (record { 0 = 0 }) → result ≡ decide facts q (record { 0 = serial }) }
-{
-    let mut decision = decision;
-    decision.serial = Serial(serial);
-    decision
 }
 
 /// Enters, and finds what is shown where it is no earlier than what is kept.

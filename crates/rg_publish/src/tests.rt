@@ -7,7 +7,7 @@ use rg_delta::apply_plain;
 use rg_engine::{ApplyFault, Engine};
 use rg_facts::{Access, Facts};
 use rg_policy::{AccessEntry, AccessRequest, Element, Item, Policy, PolicyResource, Resource};
-use rg_sound::is_sound;
+use rg_sound::facts_fault;
 use std::alloc::Global;
 use std::sync::Wait;
 
@@ -186,7 +186,7 @@ fn deltas(alloc: Global) -> Result<(PolicyDelta, TagDelta, RoleDelta), NoMemory>
 /// The engine over these facts, which have to be sound.
 fn built(alloc: Global, facts: Facts) -> Result<Engine, NoMemory> {
     let mut steps = Steps::silent();
-    if is_sound(alloc, &facts)? {
+    if !facts_fault(alloc, &facts)? {
         return Engine::build(alloc, facts, &mut steps);
     }
     Err(NoMemory)
@@ -213,7 +213,7 @@ fn moved(
     if roles.from.0 > roles.to.0 {
         return Err(ApplyFault::NoMemory);
     }
-    if !is_sound(alloc, &after)? {
+    if facts_fault(alloc, &after)? {
         return Err(ApplyFault::NoMemory);
     }
     let mut steps = Steps::silent();

@@ -3,6 +3,5 @@ pub mod Limits
 pub mod Numbers
 pub mod Runs
 pub mod Scripts
-pub mod Showing
 pub mod Streams
 pub mod Working

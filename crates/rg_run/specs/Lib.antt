@@ -1,14 +1,10 @@
 pub mod CommandLine
 pub mod Commands
-pub mod Entries
 pub mod Follow
-pub mod Leading
 pub mod Limits
 pub mod Moments
 pub mod Ports
 pub mod Replay
-pub mod Running
 pub mod Runs
-pub mod Shown
 pub mod Statuses
 pub mod Streams

@@ -1,34 +1,32 @@
 -- The command `replay`: a script of facts, or of an administration and its plugin.
-use Rattle.std.specs.Prelude.{ℕ, ◌+◌, ◌++◌, List, [], ◌∷◌, codes, decimal, Option, Some, None, option_map, unwrap_or, if◌then◌else◌}
+use Rattle.std.specs.Prelude.{ℕ, ◌++◌, List, [], ◌∷◌, codes, decimal, Option, Some, None, option_map, if◌then◌else◌}
 use Rattle.rg_base.specs.declared.numbers.Moment.{Moment}
 use Rattle.rg_base.specs.declared.numbers.Serial.{Serial}
 use Rattle.rg_policy.specs.declared.request.AccessRequest.{AccessRequest}
 use Rattle.rg_facts.specs.declared.decision.Decision.{Decision}
 use Rattle.rg_facts.specs.declared.facts.Facts.{Facts}
 use Rattle.rg_facts.specs.Sound.{sound}
-use Rattle.rg_facts.specs.Texts.{decide}
 use Rattle.rg_cmd.specs.declared.ask.AdminReply.{AdminReply}
-use Rattle.rg_cmd.specs.declared.ask.AdminReply.TheVariants.{Downloaded}
 use Rattle.rg_cmd.specs.declared.ask.Ask.{Ask}
 use Rattle.rg_cmd.specs.declared.config.Config.{Config}
-use Rattle.rg_cmd.specs.declared.download.Download.{Download}
-use Rattle.rg_cmd.specs.declared.rule.Rule.{Rule}
-use Rattle.rg_machine.specs.Leading.{led}
-use Rattle.rg_machine.specs.Logs.{Administration}
-use Rattle.rg_machine.specs.Machine.{download_ask, is_unchanged, versions}
 use Rattle.rg_machine.specs.Steps.{step}
-use Rattle.rg_machine.specs.Views.{view}
-use Rattle.rg_admin.specs.Starting.{start_fault, started}
+use Rattle.rg_admin.specs.Starting.{start_fault}
+use Rattle.rg_publish.specs.Passes.{decision_of}
+use Rattle.rg_publish.specs.Publications.{publication}
+use Rattle.rg_publish.specs.declared.history.Publication.{Publication}
+use Rattle.rg_running.specs.Running.{Running, asked, newest, opened_unless, refresh_publishes, refreshed, serial_of}
 use Rattle.rg_wire.specs.Printing.{decision_text}
 use Rattle.rg_cmd_wire.specs.PrintedReplies.{reply_text}
 use Rattle.rg_script.specs.declared.line.Line.{Line}
 use Rattle.rg_script.specs.declared.line.Line.TheVariants as line
 use Rattle.rg_script.specs.Line.{line_of}
-use Rattle.rg_run.specs.declared.publication.Publication.{Publication}
-use Rattle.rg_run.specs.declared.replay.State.{State}
-use Rattle.rg_run.specs.declared.replay.State.TheVariants as state
+use Rattle.rg_run.specs.declared.replay.Stage.{Stage}
+use Rattle.rg_run.specs.declared.replay.Stage.TheVariants as state
 use Rattle.rg_run.specs.Follow.{Output, Work, worked}
-use Rattle.rg_run.specs.Running.{Running}
+
+-- how far a script has come: only blank lines, facts that are published, or an administration that is running
+abbrev pub State : Type 0
+State = Stage Running
 
 -- ---- what is printed, each with an LF
 
@@ -43,51 +41,6 @@ unfoldable pub refresh_line : Option Serial → List ℕ
 refresh_line None = codes "{\"unchanged\":true}\n"
 refresh_line (Some serial) = codes "{\"published\":" ++ (decimal serial.0 ++ codes "}\n")
 
--- ---- publications
-
--- the facts that are published under this serial
-abbrev pub publication : ℕ → Facts → Publication
-publication serial facts = record { serial = record { 0 = serial }; engine = facts }
-
--- sound facts are the one publication, of serial 1
-unfoldable pub publication_of : Facts → Option Publication
-publication_of facts = if sound facts then Some (publication 1 facts) else None
-
--- a decision is the written flow over the publication, with its texts
-abbrev pub decision_by : Publication → AccessRequest → Decision
-decision_by p q = decide p.engine q p.serial
-
--- ---- an administration and its plugin
-
--- the administration starts, and the plugin's view is publication 1
-abbrev pub opened : Administration → Option Running
-opened a = option_map (λ facts. record { admin = a; newest = publication 1 facts }) (view a a.state.plugin)
-
--- what a configuration starts; None where it breaks a rule
-abbrev pub opened_unless : Option Rule → Config → Option Running
-opened_unless None config = opened (started config)
-opened_unless (Some rule) config = None
-
--- the administration after an ask; the newest publication stays
-abbrev pub asked : Running → Ask → Running
-asked r ask = record r { admin = (step r.admin ask).0 }
-
--- a refresh asks for the plugin's download by the empty actor, from the versions of the newest publication
-abbrev pub refresh_ask : Running → Ask
-refresh_ask r = download_ask r.admin.state.plugin (versions r.newest.engine)
-
--- what is published after the newest: unless nothing in the document changed, the facts to which it leads, with the next serial
-abbrev pub next_by : Publication → AdminReply → Option Publication
-next_by p (Downloaded d) = if is_unchanged d then None else Some (publication (p.serial.0 + 1) (led p.engine d))
-next_by p reply = None
-
--- what a refresh publishes
-abbrev pub refresh_publishes : Running → Option Publication
-refresh_publishes r = next_by r.newest (step r.admin (refresh_ask r)).1
-
-abbrev pub refreshed : Running → Running
-refreshed r = record { admin = (step r.admin (refresh_ask r)).0; newest = unwrap_or (refresh_publishes r) r.newest }
-
 -- ---- the work of a line in a state; None for a bad line
 
 -- nothing is printed or decided
@@ -99,8 +52,11 @@ abbrev pub prints : List ℕ → Running → Work State
 prints text r = record { text = text; state = state.Config r; decided = [] }
 
 -- a script may begin with facts, which are sound
+unfoldable pub published_facts : Facts → Option Facts
+published_facts facts = if sound facts then Some facts else None
+
 unfoldable pub facts_work : State → Facts → Option (Work State)
-facts_work state.Empty facts = option_map (λ p. quiet (state.Facts p)) (publication_of facts)
+facts_work state.Empty facts = option_map (λ f. quiet (state.Facts f)) (published_facts facts)
 facts_work _ facts = None
 
 -- or with a configuration, which breaks no rule
@@ -113,23 +69,29 @@ unfoldable pub admin_work : State → Ask → Option (Work State)
 admin_work (state.Config r) ask = Some (prints (reply_line (step r.admin ask).1) (asked r ask))
 admin_work _ ask = None
 
--- and the plugin is refreshed
+-- and the plugin is refreshed from its newest publication
+abbrev pub refreshed_from : Running → Publication → Work State
+refreshed_from r p = prints (refresh_line (option_map serial_of (refresh_publishes r p))) (refreshed r p)
+
 unfoldable pub refresh_work : State → Option (Work State)
-refresh_work (state.Config r) = Some (prints (refresh_line (option_map (λ p. p.serial) (refresh_publishes r))) (refreshed r))
+refresh_work (state.Config r) = option_map (refreshed_from r) (newest r)
 refresh_work _ = None
 
--- what is published last
+-- what is published last; facts are the one publication of their script
 abbrev pub newest_of : State → Option Publication
 newest_of state.Empty = None
-newest_of (state.Facts p) = Some p
-newest_of (state.Config r) = Some r.newest
-
-abbrev pub decided_by : State → AccessRequest → Publication → Work State
-decided_by s q p = record { text = decision_line (decision_by p q); state = s; decided = record { request = q; decision = decision_by p q } ∷ [] }
+newest_of (state.Facts facts) = Some (publication 1 0 facts)
+newest_of (state.Config r) = newest r
 
 -- requests come after either, and are decided by what is published last
+abbrev pub decision_by_newest : State → AccessRequest → Option Decision
+decision_by_newest s q = option_map (λ p. decision_of p q) (newest_of s)
+
+abbrev pub deciding : State → AccessRequest → Decision → Work State
+deciding s q d = record { text = decision_line d; state = s; decided = record { request = q; decision = d } ∷ [] }
+
 unfoldable pub decide_work : State → AccessRequest → Option (Work State)
-decide_work s q = option_map (decided_by s q) (newest_of s)
+decide_work s q = option_map (deciding s q) (decision_by_newest s q)
 
 abbrev pub line_work : State → Option Line → Option (Work State)
 line_work s None = None

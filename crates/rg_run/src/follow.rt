@@ -18,9 +18,6 @@ pub(crate) trait Worker {
     /// The work of a line in a state at its moment; None for a bad line.
     ghost step: { Self → List ℕ → Moment → Option (Work Self) };
 
-    /// How many entries its history has.
-    ghost entries: { Self → ℕ };
-
     /// Works a line, and puts what it prints behind the text.
     fn work(
         &mut self,
@@ -29,11 +26,9 @@ pub(crate) trait Worker {
         now: Moment,
         text: &mut String,
     ) -> Result<(), LineFault>
-        requires { entries self.old < 2 ^ 62 }
         ensures worked { OnOk result (IsWorked (step self.old line.now now) self.new (string_bytes text.old) (string_bytes text.new)) }
         ensures bad { result ≡ Err LineFault.Bad → step self.old line.now now ≡ None }
-        ensures unchanged { result ≡ Err LineFault.Bad → (self.new ≡ self.old) × (string_bytes text.new ≡ string_bytes text.old) }
-        ensures entries { OnOk result (entries self.new ≤ entries self.old + 1) };
+        ensures unchanged { result ≡ Err LineFault.Bad → (self.new ≡ self.old) × (string_bytes text.new ≡ string_bytes text.old) };
 }
 
 /// What a script printed, and how it ended.
@@ -64,8 +59,7 @@ pub(crate) fn follow<W: Worker, C: Clock>(
     bytes: &[u8],
     clock: &mut C,
 ) -> Result<Worked, NoMemory>
-    requires size { length bytes.now < 2 ^ 32 }
-    requires new { W.entries worker.old ≡ 0 }
+    requires { length bytes.now < 2 ^ 32 }
     ensures done { IfOk result (λ w. (decided : List Decided) × Comes _ (worked W.step worker.old 1) bytes.now (C.given clock.old) (C.given clock.new) []
         (record { text = string_bytes w.text; status = w.status; state = worker.new; decided = decided })) }
     ensures ends { IfOk result (λ w. (w.status ≡ Status.Done) ⊎ (w.status ≡ Status.BadLine)) }

@@ -3,13 +3,10 @@
 
 mod command;
 mod follow;
-mod leading;
 mod machine;
 mod program;
-mod publication;
 mod reading;
 mod replay;
-mod running;
 mod status;
 mod writing;
 

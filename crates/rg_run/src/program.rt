@@ -10,11 +10,12 @@ ghost use Rattle.rg_run.specs.Runs.{Answers, IsRun, OfStatus, Stands};
 use crate::command::{Command, command_of};
 use crate::follow::{Worker, follow};
 use crate::reading::{Stop, read_all};
-use crate::replay::State;
+use crate::replay::{Replay, Stage};
 use crate::status::Status;
 use crate::writing::write_all;
 use rg_ports::{Clock, Sink, Source};
 use std::alloc::Global;
+use std::sync::Wait;
 
 /// Reads a script to its end, and then works it.
 fn work_script<W: Worker, S: Source, K: Sink, C: Clock>(
@@ -24,7 +25,6 @@ fn work_script<W: Worker, S: Source, K: Sink, C: Clock>(
     sink: &mut K,
     clock: &mut C,
 ) -> Status
-    requires { W.entries worker.old ≡ 0 }
     ensures run { IsRun (Stands _ (worked W.step worker.old 1))
         (ports (S.left source.old) (S.ended source.old) (S.faults source.old) (C.given clock.old) (K.held sink.old) (K.faults sink.old))
         (ports (S.left source.new) (S.ended source.new) (S.faults source.new) (C.given clock.new) (K.held sink.new) (K.faults sink.new)) result }
@@ -51,7 +51,8 @@ fn work_script<W: Worker, S: Source, K: Sink, C: Clock>(
 }
 
 /// Answers a command; None is that of words that ask for none.
-fn answer<S: Source, K: Sink, C: Clock>(
+fn answer<R: Wait, S: Source, K: Sink, C: Clock>(
+    rt: &R,
     alloc: Global,
     command: Option<Command>,
     source: &mut S,
@@ -65,7 +66,13 @@ fn answer<S: Source, K: Sink, C: Clock>(
     ensures untouched { only_built command ≡ None → (source.new ≡ source.old) × (clock.new ≡ clock.old) }
 {
     match command {
-        Some(Command::Replay) => work_script(alloc, &mut State::Empty, source, sink, clock),
+        Some(Command::Replay) => {
+            let mut replay = Replay {
+                rt,
+                stage: Stage::Empty,
+            };
+            work_script(alloc, &mut replay, source, sink, clock)
+        }
         // The other commands aren't built yet.
         _ => match write_all(
             sink,
@@ -79,7 +86,7 @@ fn answer<S: Source, K: Sink, C: Clock>(
 
 /// Runs the command that the words ask for, and answers the number of its status.
 pub fn run<S: Source, K: Sink, C: Clock>(
-    _rt: &impl Sized,
+    rt: &impl Wait,
     alloc: Global,
     words: &[String],
     source: &mut S,
@@ -103,7 +110,7 @@ pub fn run<S: Source, K: Sink, C: Clock>(
         (bytes : List ℕ) → S.left source.old ≡ Some bytes → is_too_long bytes ≡ false → (result ≡ 0) ⊎ ((result ≡ 2) ⊎ (result ≡ 9)) }
 {
     match command_of(alloc, words) {
-        Ok(command) => answer(alloc, command, source, sink, clock).number(),
+        Ok(command) => answer(rt, alloc, command, source, sink, clock).number(),
         Err(_) => Status::NoMemory.number(),
     }
 }

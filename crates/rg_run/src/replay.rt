@@ -1,31 +1,65 @@
 // The command `replay`: a script of facts, or of an administration and its plugin.
-ghost use Rattle.std.specs.Prelude.{◌≡◌, ◌++◌, ◌<◌, ◌≤◌, ◌+◌, ◌^◌, [], None, IfOk, OnOk, option_map, string_bytes};
+ghost use Rattle.std.specs.Prelude.{◌≡◌, ◌++◌, [], Err, None, Some, true, IfOk, OnOk, string_bytes};
 ghost use Rattle.std.specs.Str.{encode_utf8_all};
 ghost use Rattle.rg_cmd_wire.specs.PrintedReplies.{reply_text};
-ghost use Rattle.rg_run.specs.Entries.{entries};
+ghost use Rattle.rg_facts.specs.Sound.{sound};
 ghost use Rattle.rg_run.specs.Follow.{IsWorked};
-ghost use Rattle.rg_run.specs.Replay.{admin_work, config_work, decide_work, facts_work, newest_of, refresh_line, refresh_work, reply_line};
+ghost use Rattle.rg_run.specs.Replay.{admin_work, config_work, decide_work, decision_by_newest, decision_line, facts_work, published_facts, refresh_line, refresh_work, reply_line};
 
 use crate::follow::Worker;
-use crate::publication::Publication;
-use crate::running::Running;
-use rg_base::{Moment, NoMemory, Serial, Text};
+use rg_base::{Moment, NoMemory, Serial, Steps, Text};
 use rg_cmd::{AdminReply, Ask, Config};
 use rg_cmd_wire::print_reply;
-use rg_facts::Facts;
+use rg_engine::{Engine, numbered};
+use rg_facts::{Decision, Facts};
 use rg_policy::AccessRequest;
+use rg_running::Running;
 use rg_script::{Line, LineFault, read_line};
+use rg_sound::facts_fault;
+use rg_wire::print_decision;
 use std::alloc::Global;
+use std::marker::Model;
+use std::sync::Wait;
 
 /// How far a script has come.
 #[derive(Drop)]
-pub(crate) enum State {
+pub(crate) enum Stage<A> {
     /// There were only blank lines.
     Empty,
     /// Facts are published.
-    Facts(Publication),
+    Facts(Engine),
     /// An administration is running.
-    Config(Running),
+    Config(A),
+}
+
+/// A script that is worked. Contracts see how far it has come.
+#[derive(Drop)]
+pub(crate) struct Replay<'a, R: Wait> {
+    pub rt: &'a R,
+    pub stage: Stage<Running<&'a R>>,
+}
+
+impl<'a, R: Wait> Model for Replay<'a, R> {
+    ghost use Rattle.rg_run.specs.Replay.{State};
+
+    ghost Value = { State };
+
+    ghost view = { λ r. r.stage };
+}
+
+// ---- printed lines
+
+/// Adds the decision line.
+#[tactic(auto, unfolding(crate::specs::Replay::decision_line))]
+fn add_decision(alloc: Global, text: &mut String, decision: &Decision) -> Result<(), NoMemory>
+    ensures { OnOk result (string_bytes text.new ≡ string_bytes text.old ++ decision_line decision.now) }
+{
+    let printed = print_decision(alloc, decision)?;
+    let line = printed.as_str();
+    match writeln!(text, "{line}") {
+        Ok(()) => Ok(()),
+        Err(_) => Err(NoMemory),
+    }
 }
 
 /// The text of a reply, which is let go.
@@ -63,18 +97,61 @@ fn add_refresh(text: &mut String, published: Option<Serial>) -> Result<(), NoMem
     }
 }
 
+// ---- the work of a line
+
+/// The engine over facts that are sound.
+fn build(alloc: Global, facts: Facts) -> Result<Option<Engine>, NoMemory>
+    requires { sound facts ≡ true }
+    ensures { IfOk result (λ engine. engine ≡ Some facts) }
+{
+    match Engine::build(alloc, facts, &mut Steps::silent()) {
+        Ok(engine) => return Ok(Some(engine)),
+        Err(refused) => return Err(refused),
+    }
+}
+
+/// The engine over facts that are sound; None for facts that aren't.
+fn publish(alloc: Global, facts: Facts) -> Result<Option<Engine>, NoMemory>
+    ensures { IfOk result (λ engine. engine ≡ published_facts facts) }
+{
+    match facts_fault(alloc, &facts) {
+        Ok(false) => build(alloc, facts),
+        Ok(true) => {
+            drop(facts);
+            Ok(None)
+        }
+        Err(refused) => {
+            drop(facts);
+            Err(refused)
+        }
+    }
+}
+
 /// Asks the administration, and adds the line of its reply.
-fn ask_and_print(
+fn ask_and_print<R: Wait>(
+    rt: &R,
     alloc: Global,
-    running: &mut Running,
+    running: &mut Running<&R>,
     ask: Ask,
     text: &mut String,
 ) -> Result<(), NoMemory>
-    ensures worked { OnOk result (IsWorked (admin_work (State.Config running.old) ask) (State.Config running.new) (string_bytes text.old) (string_bytes text.new)) }
-    ensures count { OnOk result (running.new.admin.state.count ≤ running.old.admin.state.count + 1) }
+    ensures { OnOk result (IsWorked (admin_work (Stage.Config running.old) ask) (Stage.Config running.new) (string_bytes text.old) (string_bytes text.new)) }
 {
-    let reply = running.ask(alloc, ask)?;
+    let reply = running.ask(rt, alloc, ask)?;
     add_reply(alloc, text, reply)
+}
+
+/// Refreshes the plugin, and adds the line of what was published.
+fn refresh_and_print<R: Wait>(
+    rt: &R,
+    alloc: Global,
+    running: &mut Running<&R>,
+    text: &mut String,
+) -> Result<(), NoMemory>
+    ensures { OnOk result (IsWorked (refresh_work (Stage.Config running.old)) (Stage.Config running.new) (string_bytes text.old) (string_bytes text.new)) }
+{
+    let published = running.refresh(rt, alloc)?;
+    add_refresh(text, published)
 }
 
 /// An ask that stands out of place is let go.
@@ -84,47 +161,21 @@ fn refuse(_ask: Ask) -> LineFault
     LineFault::Bad
 }
 
-/// Refreshes the plugin, and adds the line of what was published.
-fn refresh_and_print(
-    alloc: Global,
-    running: &mut Running,
-    text: &mut String,
-) -> Result<(), NoMemory>
-    requires { running.old.admin.state.count < 2 ^ 62 }
-    ensures worked { OnOk result (IsWorked (refresh_work (State.Config running.old)) (State.Config running.new) (string_bytes text.old) (string_bytes text.new)) }
-    ensures count { OnOk result (running.new.admin.state.count ≤ running.old.admin.state.count + 1) }
-{
-    let published = running.refresh(alloc)?;
-    add_refresh(text, published)
-}
-
-impl State {
-    /// What is published last.
-    fn newest(&self) -> Option<&Publication>
-        ensures { option_map (λ p. p.now) result ≡ newest_of self.now }
-    {
-        match self {
-            State::Empty => None,
-            State::Facts(publication) => Some(publication),
-            State::Config(running) => Some(running.newest()),
-        }
-    }
-
+impl<'a, R: Wait> Replay<'a, R> {
     /// Publishes the facts, where the script begins with them and they are sound.
     #[tactic(auto, unfolding(crate::specs::Replay::facts_work))]
-    fn publish(&mut self, alloc: Global, facts: Facts) -> Result<(), LineFault>
+    fn begin(&mut self, alloc: Global, facts: Facts) -> Result<(), LineFault>
         ensures worked { OnOk result (IsWorked (facts_work self.old facts) self.new [] []) }
         ensures bad { result ≡ Err LineFault.Bad → (facts_work self.old facts ≡ None) × (self.new ≡ self.old) }
-        ensures entries { OnOk result (entries self.new ≤ entries self.old + 1) }
     {
-        match self {
-            State::Empty => {}
+        match self.stage {
+            Stage::Empty => {}
             _ => return Err(LineFault::Bad),
         }
-        match Publication::of(alloc, facts) {
+        match publish(alloc, facts) {
             Ok(None) => Err(LineFault::Bad),
-            Ok(Some(publication)) => {
-                *self = State::Facts(publication);
+            Ok(Some(engine)) => {
+                self.stage = Stage::Facts(engine);
                 Ok(())
             }
             Err(_) => Err(LineFault::NoMemory),
@@ -136,16 +187,15 @@ impl State {
     fn start(&mut self, alloc: Global, config: Config) -> Result<(), LineFault>
         ensures worked { OnOk result (IsWorked (config_work self.old config) self.new [] []) }
         ensures bad { result ≡ Err LineFault.Bad → (config_work self.old config ≡ None) × (self.new ≡ self.old) }
-        ensures entries { OnOk result (entries self.new ≤ entries self.old + 1) }
     {
-        match self {
-            State::Empty => {}
+        match self.stage {
+            Stage::Empty => {}
             _ => return Err(LineFault::Bad),
         }
-        match Running::start(alloc, config) {
+        match Running::start(self.rt, alloc, config) {
             Ok(None) => Err(LineFault::Bad),
             Ok(Some(running)) => {
-                *self = State::Config(running);
+                self.stage = Stage::Config(running);
                 Ok(())
             }
             Err(_) => Err(LineFault::NoMemory),
@@ -158,63 +208,78 @@ impl State {
         ensures worked { OnOk result (IsWorked (admin_work self.old ask) self.new (string_bytes text.old) (string_bytes text.new)) }
         ensures bad { result ≡ Err LineFault.Bad → (admin_work self.old ask ≡ None) × (self.new ≡ self.old) }
         ensures unwritten { result ≡ Err LineFault.Bad → string_bytes text.new ≡ string_bytes text.old }
-        ensures entries { OnOk result (entries self.new ≤ entries self.old + 1) }
     {
-        match self {
-            State::Config(running) => match ask_and_print(alloc, running, ask, text) {
+        match &mut self.stage {
+            Stage::Config(running) => match ask_and_print(self.rt, alloc, running, ask, text) {
                 Ok(()) => Ok(()),
                 Err(_) => Err(LineFault::NoMemory),
             },
-            State::Empty | State::Facts(_) => Err(refuse(ask)),
+            Stage::Empty | Stage::Facts(_) => Err(refuse(ask)),
         }
     }
 
     /// Refreshes the plugin, and prints what was published.
     #[tactic(auto, unfolding(crate::specs::Replay::refresh_work))]
     fn refresh(&mut self, alloc: Global, text: &mut String) -> Result<(), LineFault>
-        requires { entries self.old < 2 ^ 62 }
         ensures worked { OnOk result (IsWorked (refresh_work self.old) self.new (string_bytes text.old) (string_bytes text.new)) }
         ensures bad { result ≡ Err LineFault.Bad → (refresh_work self.old ≡ None) × (self.new ≡ self.old) }
         ensures unwritten { result ≡ Err LineFault.Bad → string_bytes text.new ≡ string_bytes text.old }
-        ensures entries { OnOk result (entries self.new ≤ entries self.old + 1) }
     {
-        match self {
-            State::Config(running) => match refresh_and_print(alloc, running, text) {
+        match &mut self.stage {
+            Stage::Config(running) => match refresh_and_print(self.rt, alloc, running, text) {
                 Ok(()) => Ok(()),
                 Err(_) => Err(LineFault::NoMemory),
             },
-            State::Empty | State::Facts(_) => Err(LineFault::Bad),
+            Stage::Empty | Stage::Facts(_) => Err(LineFault::Bad),
+        }
+    }
+
+    /// The decision by what is published last; None before anything is.
+    fn decided(
+        &mut self,
+        alloc: Global,
+        request: &AccessRequest,
+    ) -> Result<Option<Decision>, NoMemory>
+        ensures same { self.new ≡ self.old }
+        ensures decision { IfOk result (λ d. d ≡ decision_by_newest self.old request.now) }
+    {
+        match &mut self.stage {
+            Stage::Empty => Ok(None),
+            Stage::Facts(engine) => {
+                let decision = engine.decide(alloc, request, &mut Steps::silent())?;
+                Ok(Some(numbered(decision, Serial(1))))
+            }
+            Stage::Config(running) => Ok(Some(running.decide(alloc, request)?)),
         }
     }
 
     /// Prints the decision by what is published last.
     #[tactic(auto, unfolding(crate::specs::Replay::decide_work))]
     fn decide(
-        &self,
+        &mut self,
         alloc: Global,
         request: &AccessRequest,
         text: &mut String,
     ) -> Result<(), LineFault>
-        ensures worked { OnOk result (IsWorked (decide_work self.now request.now) self.now (string_bytes text.old) (string_bytes text.new)) }
-        ensures bad { result ≡ Err LineFault.Bad → (decide_work self.now request.now ≡ None) × (string_bytes text.new ≡ string_bytes text.old) }
+        ensures worked { OnOk result (IsWorked (decide_work self.old request.now) self.new (string_bytes text.old) (string_bytes text.new)) }
+        ensures bad { result ≡ Err LineFault.Bad → (decide_work self.old request.now ≡ None) × (self.new ≡ self.old) × (string_bytes text.new ≡ string_bytes text.old) }
     {
-        let Some(publication) = self.newest() else {
-            return Err(LineFault::Bad);
+        let decision = match self.decided(alloc, request) {
+            Ok(Some(decision)) => decision,
+            Ok(None) => return Err(LineFault::Bad),
+            Err(_) => return Err(LineFault::NoMemory),
         };
-        match publication.decide(alloc, request, text) {
+        match add_decision(alloc, text, &decision) {
             Ok(()) => Ok(()),
             Err(_) => Err(LineFault::NoMemory),
         }
     }
 }
 
-impl Worker for State {
-    ghost use Rattle.rg_run.specs.Entries.{entries};
+impl<'a, R: Wait> Worker for Replay<'a, R> {
     ghost use Rattle.rg_run.specs.Replay.{replay_step};
 
     ghost step = { replay_step };
-
-    ghost entries = { entries };
 
     fn work(
         &mut self,
@@ -225,7 +290,7 @@ impl Worker for State {
     ) -> Result<(), LineFault> {
         match read_line(alloc, line, now) {
             Ok(Line::Blank) => Ok(()),
-            Ok(Line::Facts(facts)) => self.publish(alloc, facts),
+            Ok(Line::Facts(facts)) => self.begin(alloc, facts),
             Ok(Line::Config(config)) => self.start(alloc, config),
             Ok(Line::Admin(ask)) => self.ask(alloc, ask, text),
             Ok(Line::Refresh) => self.refresh(alloc, text),

@@ -5,5 +5,5 @@ mod ids;
 mod sound;
 mod unsound;
 
-pub use sound::{is_sound, sound_without_cause, unsound_cause};
+pub use sound::{facts_fault, sound_without_cause, unsound_cause};
 pub use unsound::Unsound;

@@ -500,10 +500,10 @@ pub fn sound_without_cause()
     ensures { (facts : Facts) → is_none (first_cause facts) ≡ sound facts }
 {}
 
-/// Whether the facts are sound.
-pub fn is_sound(alloc: Global, facts: &Facts) -> Result<bool, NoMemory>
-    ensures { IfOk result (λ is_sound. is_sound ≡ sound facts.now) }
+/// Whether the facts break a rule of soundness.
+pub fn facts_fault(alloc: Global, facts: &Facts) -> Result<bool, NoMemory>
+    ensures { IfOk result (λ fault. fault ≡ not (sound facts.now)) }
 {
     sound_without_cause();
-    Ok(unsound_cause(alloc, facts)?.is_none())
+    Ok(unsound_cause(alloc, facts)?.is_some())
 }

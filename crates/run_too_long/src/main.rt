@@ -6,5 +6,5 @@ use std::{env, io};
 
 fn main(rt: HostRuntime) -> io::Result<ExitCode> {
     let words: Vec<String> = env::args(&rt)?.skip(1).collect(rt.alloc())?;
-    rg_run::start(&rt, words.as_slice())
+    rg_run::start(&rt, &rt, words.as_slice())
 }

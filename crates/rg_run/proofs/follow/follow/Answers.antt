@@ -7,13 +7,12 @@ use Rattle.rg_run.proofs.Scripts.{begun, cut_off, finished, stepped, stopped}
 use Rattle.rg_run.proofs.follow.follow.Goals as goal
 
 pub lines-init : goal.lines-init
-lines-init g c = record { followed = rw c.new-text.ensures.bytes (begun g.W.Worker.step c.args.worker.now (g.C.Clock.given c.args.clock.now) c.args.bytes.now); bound = omega arith; entries = omega (arith, c.requires.new) }
+lines-init g c = record { followed = rw c.new-text.ensures.bytes (begun g.W.Worker.step c.args.worker.now (g.C.Clock.given c.args.clock.now) c.args.bytes.now); bound = omega arith }
 
 pub lines-preserved : goal.lines-preserved
 lines-preserved g c = record {
   followed = stepped _ _ _ _ _ _ _ _ _ _ _ _ _ c.lines.invariant.followed c.split_line.ensures.lines c.now-now.ensures _ _ c.in-Ok.ensures.worked;
   bound = omega (arith, c.lines.invariant.bound, c.split_line.ensures.shorter);
-  entries = omega (arith, c.lines.invariant.entries, c.in-Ok.ensures.entries);
 }
 
 pub returns-in-Err-Bad-clause-done : goal.returns-in-Err-Bad-clause-done

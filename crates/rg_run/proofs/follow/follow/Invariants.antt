@@ -6,7 +6,6 @@ abbrev pub invariant-lines : goal.invariant-lines
 invariant-lines g l = record {
   followed : IsFollowed _ g.W.Worker.step l.fn.worker (g.C.Clock.given l.fn.clock) (g.C.Clock.given l.clock) l.bytes (string_bytes l.text) l.worker l.number l.rest;
   bound : l.number + length l.rest ≤ length l.bytes + 1;
-  entries : g.W.Worker.entries l.worker + 1 ≤ l.number;
 }
 
 abbrev pub decreases-lines : goal.decreases-lines

@@ -1,11 +1,8 @@
 use Rattle.std.proofs.Common.{string_bytes}
-use Rattle.rg_run.proofs.Working.{anyway, asked_work, written_so}
+use Rattle.rg_run.proofs.Working.{asked_work, written_so}
 use Rattle.rg_run.proofs.replay.ask_and_print.Goals as goal
 
-pub returns-clause-worked : goal.returns-clause-worked
-returns-clause-worked c = written_so c.add_reply.result _ _
+pub returns : goal.returns
+returns g c = written_so c.add_reply.result _ _
     (asked_work c.args.running.now c.ask.new.self c.args.ask c.in_ok-reply.reply (string_bytes c.args.text.now) (string_bytes c.add_reply.new.text)
     c.in_ok-reply.ensures.asked c.in_ok-reply.ensures.reply) c.add_reply.ensures
-
-pub returns-clause-count : goal.returns-clause-count
-returns-clause-count c = anyway c.add_reply.result _ c.in_ok-reply.ensures.count

@@ -1,11 +1,8 @@
 use Rattle.std.proofs.Common.{string_bytes}
-use Rattle.rg_run.proofs.Working.{anyway, refreshed_work, written_so}
+use Rattle.rg_run.proofs.Working.{refreshed_work, written_so}
 use Rattle.rg_run.proofs.replay.refresh_and_print.Goals as goal
 
-pub returns-clause-worked : goal.returns-clause-worked
-returns-clause-worked c = written_so c.add_refresh.result _ _
+pub returns : goal.returns
+returns g c = written_so c.add_refresh.result _ _
     (refreshed_work c.args.running.now c.refresh.new.self c.in_ok-published.published (string_bytes c.args.text.now) (string_bytes c.add_refresh.new.text)
-    c.in_ok-published.ensures.refreshed c.in_ok-published.ensures.published) c.add_refresh.ensures
-
-pub returns-clause-count : goal.returns-clause-count
-returns-clause-count c = anyway c.add_refresh.result _ c.in_ok-published.ensures.count
+    c.in_ok-published.ensures) c.add_refresh.ensures

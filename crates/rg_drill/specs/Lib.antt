@@ -1,0 +1,4 @@
+pub mod Draws
+pub mod Hive
+pub mod Words
+pub mod Workload

@@ -1,0 +1,7 @@
+pub mod Actors
+pub mod Alike
+pub mod Ends
+pub mod Faults
+pub mod Held
+pub mod Once
+pub mod Steps

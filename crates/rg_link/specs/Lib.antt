@@ -1,0 +1,5 @@
+pub mod Answers
+pub mod Audits
+pub mod Loop
+pub mod Sessions
+pub mod Workers

@@ -1,0 +1,168 @@
+// A call of the administration, answered.
+ghost use Rattle.std.specs.Prelude.{◌≡◌, ◌⊎◌, [], true, Bool, IfOk, OnOk, OnErr, MatchResult, List, ℕ};
+ghost use mathlib.Core.List.{IsPrefix};
+ghost use Rattle.http.specs.StatusCode.{IsStatusCode};
+ghost use Rattle.rg_http.specs.declared.message.Response.{Response};
+ghost use Rattle.rg_http.specs.Print.{response_text};
+ghost use Rattle.rg_cmd.specs.declared.ask.AdminReply.{AdminReply};
+ghost use Rattle.rg_rest.specs.Responses.{is_command, response_of};
+ghost use Rattle.rg_turn.specs.Values.{IsCalled};
+ghost use Rattle.rg_link.specs.Answers.{actor_of, ask_of};
+ghost use Rattle.rg_link.specs.Loop.{IsCall, IsUncalled};
+ghost use Rattle.rg_link.specs.Sessions.{Counts, Wrote};
+
+use crate::report::LinkFault;
+use crate::writing::send;
+use rg_admin::Admin;
+use rg_base::{NoMemory, Text};
+use rg_cmd::{AdminCommand, AdminReply, Ask, Part};
+use rg_http::{Message, Response};
+use rg_ports::Link;
+use rg_rest::{Call, response_of};
+use rg_session::Bell;
+use rg_turn::{Seat, Turn};
+use std::alloc::Global;
+use std::str;
+use std::sync::Wait;
+
+/// Who asks: the characters of the field `x-user`, if they are any.
+fn actor_of(alloc: Global, message: &Message) -> Result<Text, NoMemory>
+    ensures { IfOk result (λ actor. actor ≡ actor_of message.now.user) }
+{
+    match &message.user {
+        None => Ok(Text::empty(alloc)),
+        Some(user) => match str::from_utf8(user.as_slice()) {
+            Ok(text) => Text::copy_of(alloc, text),
+            Err(_) => Ok(Text::empty(alloc)),
+        },
+    }
+}
+
+/// A command that is answered as this one is. It takes no memory, so that the command itself can be moved into the turn.
+fn answered_alike(alloc: Global, command: &AdminCommand, part: Part) -> Call
+    ensures command { is_command result ≡ true }
+    ensures alike { (reply : AdminReply) (close : Bool) → response_of result reply close ≡ response_of (Call.Admin command.now part) reply close }
+{
+    let nobody = Text::empty(alloc);
+    match command {
+        AdminCommand::DeleteService { .. }
+        | AdminCommand::DeletePolicy { .. }
+        | AdminCommand::DeleteRole { .. }
+        | AdminCommand::DeleteZone { .. }
+        | AdminCommand::DeleteTags { .. }
+        | AdminCommand::DeleteUser { .. } => {
+            Call::Admin(AdminCommand::DeleteUser { name: nobody }, part)
+        }
+        _ => Call::Admin(AdminCommand::ListPolicies { service: nobody }, part),
+    }
+}
+
+/// Asks the turn's administration what the message's user commands.
+fn call_turn<R: Wait>(
+    rt: &R,
+    alloc: Global,
+    turn: &Turn<Admin>,
+    seat: &mut Seat<Admin>,
+    message: &Message,
+    command: AdminCommand,
+) -> Result<AdminReply, NoMemory>
+    requires { seat.old.turn ≡ turn.now.turn }
+    ensures same { (seat.new.turn ≡ seat.old.turn) × IsPrefix seat.old.history seat.new.history }
+    ensures called { MatchResult result (λ reply. IsCalled seat.old (ask_of message.now command) reply seat.new) (λ _. seat.new.calls ≡ seat.old.calls) }
+{
+    match actor_of(alloc, message) {
+        Ok(actor) => match turn.call(rt, alloc, seat, Ask { actor, command }) {
+            Ok(reply) => return Ok(reply),
+            Err(refused) => return Err(refused),
+        },
+        Err(refused) => {
+            drop(command);
+            return Err(refused);
+        }
+    }
+}
+
+/// Rings the bell where something was changed.
+fn ring_for<R: Wait>(rt: &R, bell: &Bell, reply: &AdminReply) {
+    if matches!(reply, AdminReply::Done | AdminReply::Kept { .. }) {
+        bell.ring(rt);
+    }
+}
+
+/// The answer to the command with this reply.
+fn respond(
+    alloc: Global,
+    answered: Call,
+    reply: AdminReply,
+    close: bool,
+) -> Result<Response, NoMemory>
+    requires { is_command answered ≡ true }
+    ensures answer { IfOk result (λ r. r ≡ response_of answered reply close) }
+    ensures status { IfOk result (λ r. IsStatusCode r.status) }
+{
+    let response = response_of(alloc, &answered, &reply, close);
+    drop(answered);
+    drop(reply);
+    response
+}
+
+/// Calls the administration, and makes the answer. The bell is rung where something was changed.
+fn administer<R: Wait>(
+    rt: &R,
+    alloc: Global,
+    turn: &Turn<Admin>,
+    seat: &mut Seat<Admin>,
+    bell: &Bell,
+    message: &Message,
+    command: AdminCommand,
+    part: Part,
+) -> Result<Response, NoMemory>
+    requires { seat.old.turn ≡ turn.now.turn }
+    ensures called { IfOk result (IsCall seat.old seat.new message.now command part) }
+    ensures status { IfOk result (λ r. IsStatusCode r.status) }
+    ensures uncalled { OnErr result (IsUncalled seat.old seat.new ⊎ ((r : Response) × IsCall seat.old seat.new message.now command part r)) }
+{
+    let answered = answered_alike(alloc, &command, part);
+    match call_turn(rt, alloc, turn, seat, message, command) {
+        Ok(reply) => {
+            ring_for(rt, bell, &reply);
+            match respond(alloc, answered, reply, message.close) {
+                Ok(response) => return Ok(response),
+                Err(refused) => return Err(refused),
+            }
+        }
+        Err(refused) => {
+            drop(answered);
+            return Err(refused);
+        }
+    }
+}
+
+/// Calls the administration, and writes the answer.
+pub(crate) fn serve_call<T: Link, R: Wait>(
+    rt: &R,
+    alloc: Global,
+    link: &mut T,
+    turn: &Turn<Admin>,
+    seat: &mut Seat<Admin>,
+    bell: &Bell,
+    message: &Message,
+    command: AdminCommand,
+    part: Part,
+) -> Result<(), LinkFault>
+    requires { seat.old.turn ≡ turn.now.turn }
+    ensures served { OnOk result ((r : Response) × IsCall seat.old seat.new message.now command part r × Wrote (T.held link.old) (T.held link.new) (response_text r)) }
+    ensures unserved { OnErr result ((IsUncalled seat.old seat.new × Wrote (T.held link.old) (T.held link.new) [])
+        ⊎ ((r : Response) × (begun : List ℕ) × IsCall seat.old seat.new message.now command part r × Wrote (T.held link.old) (T.held link.new) begun × IsPrefix begun (response_text r))) }
+    ensures faults { MatchResult result (λ _. T.faults link.new ≡ T.faults link.old) (λ f. Counts f (T.faults link.old) (T.faults link.new)) }
+    ensures unread { (T.left link.new ≡ T.left link.old) × (T.ended link.new ≡ T.ended link.old) }
+{
+    let response = match administer(rt, alloc, turn, seat, bell, message, command, part) {
+        Ok(response) => response,
+        Err(_) => return Err(LinkFault::NoMemory),
+    };
+    match send(alloc, link, &response) {
+        Ok(()) => Ok(()),
+        Err(fault) => Err(fault),
+    }
+}

@@ -1,0 +1,159 @@
+// The session of one link.
+ghost use Rattle.std.specs.Prelude.{◌≡◌, IfOk, OnErr, MatchResult};
+ghost use mathlib.Core.List.{IsPrefix};
+ghost use Rattle.std.specs.Str.{chars};
+ghost use Rattle.rg_machine.specs.Steps.{step};
+ghost use Rattle.rg_turn.specs.History.{IsLegal};
+ghost use Rattle.rg_link.specs.Sessions.{Broken, Counts, Served, wire};
+ghost use Rattle.rg_link.specs.Workers.{worker_of};
+
+use crate::message::serve_one;
+use crate::report::{LinkFault, Report};
+use crate::writing::refuse;
+use rg_admin::Admin;
+use rg_hook::RequestHooks;
+use rg_http::{End, Framer, Next, judged_stays_judged};
+use rg_ports::{Clock, Gate, Link};
+use rg_publish::Pass;
+use rg_rest::Router;
+use rg_session::Bell;
+use rg_turn::{Seat, Turn};
+use std::alloc::Global;
+use std::sync::Wait;
+
+/// The most messages of a session.
+const MESSAGE_LIMIT: u32 = 10000;
+
+/// Answers the messages of a link, one after another, up to the link's end, a message that asks to close, a bad place, or the
+/// 10,000th message.
+fn serve_messages<T: Link, C: Clock, H: RequestHooks, G: Gate, R: Wait>(
+    rt: &R,
+    alloc: Global,
+    link: &mut T,
+    turn: &Turn<Admin>,
+    seat: &mut Seat<Admin>,
+    pass: &mut Pass,
+    clock: &mut C,
+    hooks: &mut H,
+    gate: &G,
+    bell: &Bell,
+    plugin: &str,
+    worker: u32,
+) -> Result<Report, LinkFault>
+    requires { seat.old.turn ≡ turn.now.turn }
+    ensures served { IfOk result (λ report. Served (chars plugin.now)
+        (worker_of seat.old pass.old (C.given clock.old) (H.sinks hooks.old) (H.enrichers hooks.old))
+        (worker_of seat.new pass.new (C.given clock.new) (H.sinks hooks.new) (H.enrichers hooks.new))
+        (wire (T.left link.old) (T.held link.old) (T.ended link.old)) (wire (T.left link.new) (T.held link.new) (T.ended link.new)) report.end report.messages) }
+    ensures broken { OnErr result (Broken (chars plugin.now)
+        (worker_of seat.old pass.old (C.given clock.old) (H.sinks hooks.old) (H.enrichers hooks.old))
+        (worker_of seat.new pass.new (C.given clock.new) (H.sinks hooks.new) (H.enrichers hooks.new))
+        (wire (T.left link.old) (T.held link.old) (T.ended link.old)) (wire (T.left link.new) (T.held link.new) (T.ended link.new))) }
+    ensures faults { MatchResult result (λ _. T.faults link.new ≡ T.faults link.old) (λ f. Counts f (T.faults link.old) (T.faults link.new)) }
+{
+    judged_stays_judged();
+    let Ok(router) = Router::new(alloc) else {
+        return Err(LinkFault::NoMemory);
+    };
+    let Ok(mut framer) = Framer::new(alloc) else {
+        return Err(LinkFault::NoMemory);
+    };
+    let mut messages: u32 = 0;
+    while messages < MESSAGE_LIMIT {
+        let next = match framer.next(alloc, link) {
+            Ok(next) => next,
+            Err(fault) => return Err(LinkFault::from(fault)),
+        };
+        match next {
+            Next::Ended => {
+                return Ok(Report {
+                    end: End::Ended,
+                    messages,
+                });
+            }
+            Next::Cut => {
+                return Ok(Report {
+                    end: End::Cut,
+                    messages,
+                });
+            }
+            Next::Bad(status) => match refuse(alloc, link, status) {
+                Ok(()) => {
+                    return Ok(Report {
+                        end: End::Bad(status),
+                        messages,
+                    });
+                }
+                Err(fault) => return Err(fault),
+            },
+            Next::Message(message) => {
+                match serve_one(
+                    rt, alloc, link, turn, seat, pass, clock, hooks, gate, bell, plugin, worker,
+                    &router, &message,
+                ) {
+                    Ok(()) => {}
+                    Err(fault) => return Err(fault),
+                }
+                messages += 1;
+                if message.close {
+                    return Ok(Report {
+                        end: End::Ended,
+                        messages,
+                    });
+                }
+            }
+        }
+    }
+    Ok(Report {
+        end: End::Full,
+        messages,
+    })
+}
+
+/// Answers the messages of a link, one after another, each at a moment of the clock. A command is a call of the turn; the bell
+/// is rung after each change, before its answer is written. A decision is enriched, taken by the pass, answered and then audited;
+/// the worker comes to the gate's point 1 before it, and to point 2 after its answer. After the 10,000th message nothing more is
+/// read.
+///
+/// After a fault the link is of no more use. The seat's last entry, or the pass's last decision, may stand unanswered.
+pub fn serve_link<T: Link, C: Clock, H: RequestHooks, G: Gate, R: Wait>(
+    rt: &R,
+    alloc: Global,
+    link: &mut T,
+    turn: &Turn<Admin>,
+    seat: &mut Seat<Admin>,
+    pass: &mut Pass,
+    clock: &mut C,
+    hooks: &mut H,
+    gate: &G,
+    bell: &Bell,
+    plugin: &str,
+    worker: u32,
+) -> Result<Report, LinkFault>
+    requires { seat.old.turn ≡ turn.now.turn }
+    ensures served { IfOk result (λ report. Served (chars plugin.now)
+        (worker_of seat.old pass.old (C.given clock.old) (H.sinks hooks.old) (H.enrichers hooks.old))
+        (worker_of seat.new pass.new (C.given clock.new) (H.sinks hooks.new) (H.enrichers hooks.new))
+        (wire (T.left link.old) (T.held link.old) (T.ended link.old)) (wire (T.left link.new) (T.held link.new) (T.ended link.new)) report.end report.messages) }
+    ensures broken { OnErr result (Broken (chars plugin.now)
+        (worker_of seat.old pass.old (C.given clock.old) (H.sinks hooks.old) (H.enrichers hooks.old))
+        (worker_of seat.new pass.new (C.given clock.new) (H.sinks hooks.new) (H.enrichers hooks.new))
+        (wire (T.left link.old) (T.held link.old) (T.ended link.old)) (wire (T.left link.new) (T.held link.new) (T.ended link.new))) }
+    ensures same { (seat.new.turn ≡ seat.old.turn) × (pass.new.book ≡ pass.old.book) }
+    ensures begins { IsPrefix seat.old.history seat.new.history × IsPrefix pass.old.list pass.new.list }
+    ensures legal { IsLegal step turn.now.start seat.new.history }
+    ensures faults { MatchResult result (λ _. T.faults link.new ≡ T.faults link.old) (λ f. Counts f (T.faults link.old) (T.faults link.new)) }
+{
+    match serve_messages(
+        rt, alloc, link, turn, seat, pass, clock, hooks, gate, bell, plugin, worker,
+    ) {
+        Ok(report) => {
+            turn.knows(seat);
+            return Ok(report);
+        }
+        Err(fault) => {
+            turn.knows(seat);
+            return Err(fault);
+        }
+    }
+}

@@ -1,0 +1,11 @@
+pub mod Both
+pub mod Calls
+pub mod Exclusive
+pub mod Inserts
+pub mod Knowing
+pub mod Numbers
+pub mod Pairs
+pub mod Paths
+pub mod Plain
+pub mod Seek
+pub mod Statuses

@@ -1,0 +1,5 @@
+mod Deltas
+mod Refreshed
+mod Rights
+mod Settled
+mod Told

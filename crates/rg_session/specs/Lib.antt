@@ -1,0 +1,4 @@
+pub mod Closing
+pub mod Documents
+pub mod Refreshing
+pub mod Right

@@ -1,0 +1,21 @@
+// What ties publications to the history: a refresh, the bell that wakes for it, and the end of both.
+#![tactic(auto)]
+
+mod bell;
+mod closing;
+mod document;
+mod laws;
+mod leading;
+mod opening;
+mod refresher;
+mod settling;
+
+pub use bell::Bell;
+pub use closing::{Totals, close};
+pub use laws::{documents_lead, first_is_right, right_lists_stay_right};
+pub use opening::{Service, open};
+pub use refresher::{Refresh, Refresher};
+pub use settling::Ahead;
+
+#[cfg(test)]
+mod tests;
