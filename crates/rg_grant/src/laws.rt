@@ -1,5 +1,5 @@
 // Laws of grants and revokes, each the contract of a function that does nothing.
-ghost use Rattle.std.specs.Prelude.{◌≡◌, ◌↔◌, List, false};
+ghost use Rattle.std.specs.Prelude.{◌≡◌, ◌↔◌, ℕ, List, false};
 ghost use Rattle.rg_policy.specs.declared.policy.Item.{Item};
 ghost use Rattle.rg_grant.specs.Permissions.{IsGiven, Permission, names_both};
 ghost use Rattle.rg_grant.specs.Taking.{items_left};

@@ -1,6 +1,7 @@
 // Accesses granted and revoked: a row becomes the change of one policy, which is one step of the administration.
 #![tactic(auto)]
 
+mod forms;
 mod laws;
 mod row;
 mod taking;
