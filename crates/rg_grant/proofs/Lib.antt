@@ -1,1 +1,13 @@
+mod Again
+pub mod Answered
+mod Apart
+mod Flowing
+mod InForce
+pub mod OneMap
 mod Permitted
+pub mod Refusals
+mod Revoked
+mod SecondGrant
+mod Single
+mod Twice
+mod Verdicts

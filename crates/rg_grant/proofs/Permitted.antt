@@ -1,6 +1,6 @@
 -- What a row leaves of the permissions that items give.
-use Rattle.std.proofs.Common.{◌≡◌, ◌&&◌, ◌||◌, ◌<◌, ℕ, Bool, true, false, not, cond, nat_lt, List, [], ◌∷◌, Contains, length, filter, refl, sym, ap, ◌∙◌, subst, arith, inl, inr}
-use Rattle.std.proofs.lemmas.Bool.{and_from, or_from, false≢true}
+use Rattle.std.proofs.Common.{◌≡◌, ◌&&◌, ◌||◌, ◌<◌, ℕ, Bool, true, false, not, cond, nat_lt, List, [], ◌∷◌, Contains, length, refl, sym, ap, ◌∙◌, subst, arith, inl, inr}
+use Rattle.std.proofs.lemmas.Bool.{and_from, false≢true}
 use Rattle.std.proofs.lemmas.Bool.Decides.{nat_tests}
 use Rattle.rg_base.specs.Listed.{Listed}
 use Rattle.rg_base.specs.Texts.{is_among}
@@ -9,7 +9,7 @@ use Rattle.rg_policy.specs.declared.policy.AccessEntry.{AccessEntry}
 use Rattle.rg_policy.specs.declared.policy.Item.{Item}
 use Rattle.rg_effect.specs.PolicyRules.{has_subject}
 use Rattle.rg_grant.specs.Permissions.{Gives, Group, IsGiven, Permission, Role, Subject, User, item_names, names_both, row_names}
-use Rattle.rg_grant.specs.Taking.{entries_left, items_left, named_part, others_part, parted, parts_left, says_something, with_subjects}
+use Rattle.rg_grant.specs.Taking.{items_left, named_part, others_part, parted, parts_left, says_something, with_subjects}
 use Rattle.rg_grant.specs.declared.row.GrantRow.{GrantRow}
 
 -- whether a text stays among those that are parted

@@ -1,3 +1,8 @@
+pub mod Allowing
 pub mod Forms
+pub mod InForce
 pub mod Permissions
+pub mod Planning
+pub mod Rows
+pub mod Steps
 pub mod Taking
