@@ -1,5 +1,5 @@
 -- After an accepted grant the row's policy has the allow item of the grant.
-use Rattle.std.proofs.Common.{◌≡◌, ◌&&◌, ◌||◌, ◌++◌, ℕ, ℤ, Bool, true, false, cond, List, [], ◌∷◌, Option, Some, None, refl, sym, ap, subst, ◌∙◌}
+use Rattle.std.proofs.Common.{◌≡◌, Contains, ◌&&◌, ◌||◌, ◌++◌, ℕ, ℤ, Bool, true, false, cond, List, [], ◌∷◌, Option, Some, None, refl, sym, ap, subst, ◌∙◌}
 use Rattle.std.specs.List.{find, list_any}
 use Rattle.std.specs.Ordering.{int_eq}
 use Rattle.std.specs.Str.{bytes_eq}
@@ -14,6 +14,10 @@ use Rattle.rg_policy.specs.Kinds.{access_policy, normal}
 use Rattle.rg_policy.specs.Maps.{maps_of}
 use Rattle.rg_policy.specs.declared.policy.Policy.{Policy}
 use Rattle.rg_policy.specs.declared.policy.PolicyResource.{PolicyResource}
+use Rattle.rg_policy.specs.declared.request.AccessRequest.{AccessRequest}
+use Rattle.rg_evalr.specs.declared.frame.Side.TheVariants.{Resource}
+use Rattle.rg_facts.specs.Candidates.{candidate, candidates, frame_of}
+use Rattle.rg_facts.specs.declared.facts.Facts.{Facts}
 use Rattle.rg_cmd.specs.Lists.{put, without}
 use Rattle.rg_cmd.specs.Lookups.{has_id}
 use Rattle.rg_cmd.specs.declared.ask.AdminCommand.{AdminCommand}
@@ -26,6 +30,7 @@ use Rattle.rg_machine.specs.Changes.{created_form, updated_form}
 use Rattle.rg_machine.specs.Laws.{is_refused}
 use Rattle.rg_machine.specs.Logs.{Administration}
 use Rattle.rg_machine.specs.Steps.{fault, step_by}
+use Rattle.rg_machine.specs.Views.{view}
 use Rattle.rg_machine.proofs.Lists.{case, replaced}
 use Rattle.rg_grant.specs.Allowing.{IsGranting}
 use Rattle.rg_grant.specs.InForce.{IsInForce}
@@ -37,6 +42,7 @@ use Rattle.rg_grant.specs.declared.row.GrantRow.{GrantRow}
 use Rattle.rg_grant.proofs.Again.{IsSettled, gives_the_same}
 use Rattle.rg_grant.proofs.Apart.{added_alone, put_alone}
 use Rattle.rg_grant.proofs.Flowing.{is_allowed}
+use Rattle.rg_grant.proofs.Seen.{asked_of}
 use Rattle.rg_grant.proofs.Twice.{left_again}
 
 -- ---- what is found
@@ -155,6 +161,16 @@ updated_alone : (s : State) (g : GrantRow) (old : Policy) → let p = updated_fo
 unfolding granted_form
 updated_alone s g old = put_alone (has_id old.id.0) (updated_form s (granted_form g old)) s.policies.items (id_self old.id.0)
 
+-- a policy that is found for the row is one of the row's service
+found_asked : (a : Administration) (g : GrantRow) (p : Policy) → policy_for a.state g ≡ Some p
+    → (facts : Facts) (q : AccessRequest) → view a g.service ≡ Some facts → Contains (candidates facts q) (candidate (frame_of facts) Resource None p)
+found_asked a g p found =
+    let has = find_contained (is_for g) a.state.policies.items p found in
+    let both = and_parts p.enabled (is_of_kind g p && same_maps (map_of g) (maps_of p)) has.1 in
+    let kind = and_parts (is_of_kind g p) (same_maps (map_of g) (maps_of p)) both.1 in
+    let place = and_parts (bytes_eq p.service g.service && bytes_eq p.zone g.zone) _ kind.0 in
+    asked_of a g.service p has.0 (and_parts (bytes_eq p.service g.service) (bytes_eq p.zone g.zone) place.0).0
+
 in_force_from : (a : Administration) (actor : List ℕ) (g : GrantRow) (o : Option Policy) → policy_for a.state g ≡ o
     → let d = done a actor (grant_of a.state g o) in IsInForce g a d.0 d.1
 in_force_from a actor g None none =
@@ -164,6 +180,7 @@ in_force_from a actor g None none =
       found = find_last (is_for g) p (created_is_for a.state g) a.state.policies.items none;
       replied = refl;
       others = created_alone a.state g;
+      asked = found_asked (done a actor (grant_of a.state g None)).0 g p (find_last (is_for g) p (created_is_for a.state g) a.state.policies.items none);
       allows = λ service facts q c _ is. is_allowed g facts q c (subst (IsGranting g) (sym is) (created_grants a.state g));
       again = gives_the_same g p (created_settled a.state g);
     }
@@ -175,6 +192,7 @@ in_force_from a actor g (Some old) found =
       found = found_updated a.state g old found;
       replied = refl;
       others = updated_alone a.state g old;
+      asked = found_asked (done a actor (grant_of a.state g (Some old))).0 g p (found_updated a.state g old found);
       allows = λ service facts q c _ is. is_allowed g facts q c (subst (IsGranting g) (sym is) (updated_grants a.state g old its));
       again = gives_the_same g p (updated_settled a.state g old);
     }

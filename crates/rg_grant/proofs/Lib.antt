@@ -8,6 +8,7 @@ mod Permitted
 pub mod Refusals
 mod Revoked
 mod SecondGrant
+mod Seen
 mod Single
 mod Twice
 mod Verdicts

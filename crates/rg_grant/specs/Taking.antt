@@ -1,4 +1,5 @@
--- What a row takes from items. To be read first; then Forms, Planning, Steps, Permissions and Allowing. Rows has the JSON of a row.
+-- What a row takes from items. To be read first; then Forms, Planning, Steps, Permissions, Allowing
+-- and InForce. Rows has the JSON of a row.
 use Rattle.std.specs.Prelude.{ℕ, ◌&&◌, not, nat_lt, true, false, Bool, List, [], ◌∷◌, length, filter, flat_map, if◌then◌else◌}
 use Rattle.rg_base.specs.Listed.{listed}
 use Rattle.rg_base.specs.Texts.{is_among}

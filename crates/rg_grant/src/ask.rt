@@ -7,8 +7,8 @@ use rg_cmd::Ask;
 #[derive(Drop)]
 pub enum GrantAsk {
     Plain(Ask),
-    /// The subjects of the row are to have its accesses: nothing that its policy denies them stands against that.
+    /// The row's subjects are to have its accesses by its policy.
     Grant { actor: Text, row: GrantRow },
-    /// The subjects of the row are to have its accesses no longer by its policy.
+    /// The row's subjects are to have its accesses by its policy no longer.
     Revoke { actor: Text, row: GrantRow },
 }
