@@ -46,7 +46,10 @@ fn settle<R: Wait + Drop>(
 {
     let mut seats = seats;
     add(&mut seats, seat)?;
-    close(alloc, publisher, passes, turn, seats)
+    match close(alloc, publisher, passes, turn, seats) {
+        Ok(totals) => Ok(totals),
+        Err(NoMemory) => Err(NoMemory),
+    }
 }
 
 /// Refreshes once more, and ends the service. Want of memory that a worker or a refresh met is answered here.
@@ -66,5 +69,8 @@ pub(crate) fn end<J: Naming, R: Wait + Drop, W: Wait>(
 {
     let (publisher, seat) = following.into_inner().finish(rt, alloc, &turn)?;
     let (seats, passes) = parts_of(alloc, places)?;
-    settle(alloc, turn, publisher, seat, seats, passes)
+    match settle(alloc, turn, publisher, seat, seats, passes) {
+        Ok(totals) => Ok(totals),
+        Err(NoMemory) => Err(NoMemory),
+    }
 }

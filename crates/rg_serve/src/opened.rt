@@ -1,5 +1,5 @@
 // A service before it serves links.
-ghost use Rattle.std.specs.Prelude.{◌≡◌, ◌≤◌, ◌+◌, length, Some, IfOk};
+ghost use Rattle.std.specs.Prelude.{◌≡◌, ◌≤◌, ◌+◌, length, Some, IfOk, IfSome};
 ghost use Rattle.rg_admin.specs.Starting.{start_fault};
 ghost use Rattle.rg_machine.specs.Starts.{IsStart};
 ghost use Rattle.rg_serve.specs.Opened.{IsAsked, IsRefreshed, opened, opened_unless};
@@ -8,7 +8,7 @@ use rg_admin::{Admin, StartFault};
 use rg_base::{NoMemory, Steps};
 use rg_cmd::{AdminReply, Ask, Config};
 use rg_publish::Pass;
-use rg_session::{Refresh, Refresher, Service, open};
+use rg_session::{Refresh, Refresher, Service, open, right_lists_stay_right};
 use rg_turn::laws::one_more_entry;
 use rg_turn::{Seat, Turn};
 use std::alloc::Global;
@@ -49,7 +49,8 @@ impl<R: Wait + Drop> Opened<R> {
         workers: u32,
     ) -> Result<Option<Opened<R>>, NoMemory>
         requires { (1 ≤ workers) × (workers ≤ 64) }
-        ensures { IfOk result (λ o. o ≡ opened_unless workers (start_fault config) config) }
+        ensures opened { IfOk result (λ o. o ≡ opened_unless workers (start_fault config) config) }
+        ensures workers { IfOk result (λ o. IfSome o (λ o. o.workers ≡ workers)) }
     {
         match Admin::start(alloc, config) {
             Ok(admin) => Ok(Some(Opened::over(rt, alloc, admin, workers)?)),
@@ -62,7 +63,8 @@ impl<R: Wait + Drop> Opened<R> {
     fn over(rt: R, alloc: Global, admin: Admin, workers: u32) -> Result<Opened<R>, NoMemory>
         requires start { IsStart admin }
         requires workers { (1 ≤ workers) × (workers ≤ 64) }
-        ensures { IfOk result (λ o. opened workers admin ≡ Some o) }
+        ensures opened { IfOk result (λ o. opened workers admin ≡ Some o) }
+        ensures workers { IfOk result (λ o. o.workers ≡ workers) }
     {
         let Service {
             turn,
@@ -86,8 +88,12 @@ impl<R: Wait + Drop> Opened<R> {
     pub fn ask<W: Wait>(&mut self, rt: &W, alloc: Global, ask: Ask) -> Result<AdminReply, NoMemory>
         ensures { IfOk result (λ reply. IsAsked self.old ask reply self.new) }
     {
+        right_lists_stay_right();
         one_more_entry::<Admin>();
-        self.turn.call(rt, alloc, &mut self.seat, ask)
+        match self.turn.call(rt, alloc, &mut self.seat, ask) {
+            Ok(reply) => return Ok(reply),
+            Err(refused) => return Err(refused),
+        }
     }
 
     /// Downloads what the plugin lacks, and publishes what it sees then, unless its versions are current. Want of memory is also
@@ -105,8 +111,13 @@ impl<R: Wait + Drop> Opened<R> {
             &mut Steps::silent(),
         );
         match refreshed {
-            Ok(refresh) if self.refresher.seq == calls => Ok(refresh),
-            _ => Err(NoMemory),
+            Ok(refresh) => {
+                if self.refresher.seq != calls {
+                    return Err(NoMemory);
+                }
+                return Ok(refresh);
+            }
+            Err(refused) => return Err(refused),
         }
     }
 }

@@ -68,7 +68,7 @@ pub(crate) fn add<T: Drop>(all: &mut Vec<T>, x: T) -> Result<(), NoMemory>
     }
 }
 
-/// A place for each seat, with a pass.
+/// A place for each seat, with a pass. The last comes first.
 pub(crate) fn places_of<J: Naming>(
     alloc: Global,
     seats: Vec<Seat<Admin>>,
@@ -85,7 +85,7 @@ pub(crate) fn places_of<J: Naming>(
         let Some(pass) = passes.pop() else {
             return Err(NoMemory);
         };
-        let number = places.len() as u32;
+        let number = seats.len() as u32;
         add(&mut places, Mutex::new(Parts::new(seat, pass, number)))?;
     }
     Ok(places)
@@ -110,12 +110,13 @@ pub(crate) fn parts_of<J: Naming>(
     Ok((seats, passes))
 }
 
-/// Each of them under a lock, in order.
+/// Each of them under a lock of its own. The last comes first.
 pub(crate) fn under_locks<T: Drop>(alloc: Global, all: Vec<T>) -> Result<Vec<Mutex<T>>, NoMemory>
     ensures { IfOk result (λ v. length v.items ≡ length all.items) }
 {
+    let mut all = all;
     let mut locks = Vec::new(alloc);
-    for x in all {
+    while let Some(x) = all.pop() {
         add(&mut locks, Mutex::new(x))?;
     }
     Ok(locks)
