@@ -74,16 +74,16 @@ module _ (workers : ℕ) (admin : Administration) (turn : TurnNow) (seat : Seate
 
   pub opened_is : (list : List Publication) → ((f : Facts) × (view admin admin.state.plugin ≡ Some f) × (list ≡ publication 1 0 f ∷ [])) → opened workers admin ≡ Some (held turn seat list rest)
   opened_is list (f, viewed, listed) =
-      ap (option_map (λ (facts : Facts). open admin [] 0 (publication 1 0 facts ∷ []) workers)) viewed
+      ap (option_map (λ (facts : Facts). made admin [] 0 (publication 1 0 facts ∷ []) workers)) viewed
       ∙ ap Some (sym (
       ap (λ (s : Seated). held turn s list rest) seat_unused
-      ∙ ap (λ a. open a [] 0 list (length rest)) start
-      ∙ ap (λ l. open admin [] 0 l (length rest)) listed
-      ∙ ap (open admin [] 0 (publication 1 0 f ∷ [])) many
+      ∙ ap (λ a. made a [] 0 list (length rest)) start
+      ∙ ap (λ l. made admin [] 0 l (length rest)) listed
+      ∙ ap (made admin [] 0 (publication 1 0 f ∷ [])) many
       ))
     where
-      abbrev open : Administration → H → ℕ → List Publication → ℕ → Opened
-      open a h n l w = record { start = a; history = h; calls = n; published = l; workers = w }
+      abbrev made : Administration → H → ℕ → List Publication → ℕ → Opened
+      made a h n l w = record { start = a; history = h; calls = n; published = l; workers = w }
 
 -- ---- a call
 
