@@ -35,6 +35,9 @@ H = List (Entry Ask AdminReply)
 abbrev TurnNow : Type 0
 TurnNow = TurnValue Administration
 
+abbrev made : Administration → H → ℕ → List Publication → ℕ → Opened
+made a h n l w = record { start = a; history = h; calls = n; published = l; workers = w }
+
 -- ---- the opening
 
 module _ (workers : ℕ) (admin : Administration) (turn : TurnNow) (seat : Seated) (rest : List Seated) (start : turn.start ≡ admin)
@@ -81,9 +84,6 @@ module _ (workers : ℕ) (admin : Administration) (turn : TurnNow) (seat : Seate
       ∙ ap (λ l. made admin [] 0 l (length rest)) listed
       ∙ ap (made admin [] 0 (publication 1 0 f ∷ [])) many
       ))
-    where
-      abbrev made : Administration → H → ℕ → List Publication → ℕ → Opened
-      made a h n l w = record { start = a; history = h; calls = n; published = l; workers = w }
 
 -- ---- a call
 
