@@ -1,7 +1,7 @@
 -- For proofs alone: how a service is held, before links are served and under locks.
-use Rattle.std.specs.Prelude.{◌≡◌, ℕ, ◌+◌, ◌≤◌, All, List, length, Option, Some}
+use Rattle.std.specs.Prelude.{◌≡◌, ℕ, ◌+◌, ◌≤◌, All, List, length, Some}
+use Rattle.logbook.specs.Pages.{Book}
 use Rattle.rg_turn.specs.Values.{SeatValue, TurnName, TurnValue}
-use Rattle.rg_turn.specs.declared.rule.Entry.{Entry}
 use Rattle.rg_cmd.specs.declared.ask.AdminReply.{AdminReply}
 use Rattle.rg_cmd.specs.declared.ask.Ask.{Ask}
 use Rattle.rg_machine.specs.Logs.{Administration}
@@ -34,10 +34,12 @@ pub record IsHeld (turn : TurnValue Administration) (seat : Seated) (service : L
 
 -- ---- under locks
 
--- the list is right for the history from where the named turn opened
-abbrev pub IsRight : TurnName Administration → List (Entry Ask AdminReply) → List Publication → Type 0
-IsRight turn history list = (x : Administration) → turn.start ≡ Some x → AreRightFor x history list
-
--- the service is the plugin's where the named turn opened
-abbrev pub Serves : TurnName Administration → List ℕ → Type 0
-Serves turn service = (x : Administration) → turn.start ≡ Some x → service ≡ x.state.plugin
+-- the seat is of the named turn, the publisher is the named one, and what is published is right for the seat's history from where the turn
+-- opened. There are as many entries and publications as are named, or more
+pub record IsFollowing (turn : TurnName Administration) (book : Book) (entries publications : ℕ) (seat : Seated) (service : List ℕ) (publisher : Published) : Type 0 where
+  pub seated : seat.turn ≡ turn
+  pub published_by : publisher.book ≡ book
+  pub serves : (x : Administration) → turn.start ≡ Some x → service ≡ x.state.plugin
+  pub right : (x : Administration) → turn.start ≡ Some x → AreRightFor x seat.history publisher.list
+  pub long : entries ≤ length seat.history
+  pub many : publications ≤ length publisher.list

@@ -1,14 +1,11 @@
 -- What serving links leaves.
-use Rattle.std.specs.Prelude.{◌≡◌, ◌≤◌, ◌<◌, ℕ, ◌+◌, List, length, Some}
+use Rattle.std.specs.Prelude.{◌≡◌, ◌≤◌, ◌<◌, ℕ, ◌+◌, List, length}
 use Rattle.rg_cmd.specs.declared.ask.AdminReply.{AdminReply}
 use Rattle.rg_cmd.specs.declared.ask.Ask.{Ask}
-use Rattle.rg_turn.specs.History.{IsLegal, state_after}
-use Rattle.rg_turn.specs.Values.{PastValue}
+use Rattle.rg_turn.specs.declared.rule.Entry.{Entry}
 use Rattle.rg_machine.specs.Logs.{Administration}
-use Rattle.rg_machine.specs.Steps.{step}
 use Rattle.rg_publish.specs.declared.history.Publication.{Publication}
 use Rattle.rg_session.specs.Right.{AreRightFor}
-use Rattle.rg_serve.specs.Opened.{Opened}
 use Rattle.rg_serve.specs.declared.serving.ServeFault.{ServeFault}
 use Rattle.rg_serve.specs.declared.serving.ServeFault.TheVariants.{Failed, NoMemory}
 

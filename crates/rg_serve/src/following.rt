@@ -2,7 +2,7 @@
 ghost use Rattle.std.specs.Prelude.{◌≡◌, ◌≤◌, ◌+◌, length, IfOk};
 ghost use Rattle.rg_machine.specs.Starts.{IsStart};
 ghost use Rattle.rg_session.specs.Right.{AreRightFor};
-ghost use Rattle.rg_serve.specs.Held.{IsRight, Serves};
+ghost use Rattle.rg_serve.specs.Held.{IsFollowing};
 
 use crate::naming::Naming;
 use rg_admin::Admin;
@@ -12,10 +12,10 @@ use rg_session::{Bell, Refresher};
 use rg_threads::Watcher;
 use rg_turn::{Seat, Turn};
 use std::alloc::Global;
-use std::marker::PhantomData;
+use std::marker::{Model, PhantomData};
 use std::sync::{Mutex, Wait};
 
-/// The refresher, with its seat.
+/// The refresher, with its seat. Contracts see nothing of it but the names of its type.
 #[derive(Drop)]
 pub(crate) struct Following<J: Naming, R: Wait + Drop> {
     refresher: Refresher<R>,
@@ -23,20 +23,21 @@ pub(crate) struct Following<J: Naming, R: Wait + Drop> {
     /// Whether a refresh met want of memory.
     is_short: bool,
     of: PhantomData<J>,
-    pub ghost turn_is: { seat.turn ≡ J.turn },
-    pub ghost book_is: { refresher.publisher.book ≡ J.book },
-    pub ghost serves: { Serves J.turn refresher.service },
-    pub ghost right: { IsRight J.turn seat.history refresher.publisher.list },
-    pub ghost entries: { J.entries ≤ length seat.history },
-    pub ghost publications: { J.publications ≤ length refresher.publisher.list },
+}
+
+impl<J: Naming, R: Wait + Drop> Model for Following<J, R> {
+    ghost use Rattle.rg_serve.specs.Held.{IsFollowing};
+
+    ghost Value = { Unit {0} };
+
+    ghost view = { λ f. tt };
+
+    ghost invariant = { λ f. IsFollowing J.turn J.book J.entries J.publications f.seat f.refresher.service f.refresher.publisher };
 }
 
 impl<J: Naming, R: Wait + Drop> Following<J, R> {
     pub fn new(refresher: Refresher<R>, seat: Seat<Admin>) -> Following<J, R>
-        requires names { (seat.turn ≡ J.turn) × (refresher.publisher.book ≡ J.book) }
-        requires serves { Serves J.turn refresher.service }
-        requires right { IsRight J.turn seat.history refresher.publisher.list }
-        requires least { (J.entries ≤ length seat.history) × (J.publications ≤ length refresher.publisher.list) }
+        requires { IsFollowing J.turn J.book J.entries J.publications seat refresher.service refresher.publisher }
     {
         Following {
             refresher,
@@ -52,12 +53,12 @@ impl<J: Naming, R: Wait + Drop> Following<J, R> {
     {
         turn.knows(&self.seat);
         let mut steps = Steps::silent();
-        if self
+        match self
             .refresher
             .refresh(rt, alloc, turn, &mut self.seat, &mut steps)
-            .is_err()
         {
-            self.is_short = true;
+            Ok(_) => {}
+            Err(_) => self.is_short = true,
         }
     }
 
@@ -81,11 +82,11 @@ impl<J: Naming, R: Wait + Drop> Following<J, R> {
         } = self;
         turn.knows(&seat);
         let mut steps = Steps::silent();
-        if refresher
-            .refresh(rt, alloc, turn, &mut seat, &mut steps)
-            .is_err()
-            || is_short
-        {
+        match refresher.refresh(rt, alloc, turn, &mut seat, &mut steps) {
+            Ok(_) => {}
+            Err(refused) => return Err(refused),
+        }
+        if is_short {
             return Err(NoMemory);
         }
         let Refresher {

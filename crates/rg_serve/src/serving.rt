@@ -35,20 +35,22 @@ pub enum ServeFault {
 
 impl From<NoMemory> for ServeFault {
     ghost use Rattle.std.specs.Prelude.{◌≡◌};
+    ghost use Rattle.rg_serve.specs.declared.serving.ServeFault.TheVariants as fault;
 
-    ghost from_gives = { λ refused fault. fault ≡ ServeFault.NoMemory };
+    ghost from_gives = { λ _ f. f ≡ fault.NoMemory };
 
-    fn from(_refused: NoMemory) -> ServeFault {
+    fn from(_: NoMemory) -> ServeFault {
         ServeFault::NoMemory
     }
 }
 
 impl From<Failed> for ServeFault {
     ghost use Rattle.std.specs.Prelude.{◌≡◌};
+    ghost use Rattle.rg_serve.specs.declared.serving.ServeFault.TheVariants as fault;
 
-    ghost from_gives = { λ failed fault. fault ≡ ServeFault.Failed };
+    ghost from_gives = { λ _ f. f ≡ fault.Failed };
 
-    fn from(_failed: Failed) -> ServeFault {
+    fn from(_: Failed) -> ServeFault {
         ServeFault::Failed
     }
 }
@@ -84,7 +86,8 @@ fn attend<
     ensures failed { OnErr result (N.faults net.old < N.faults net.new) }
 {
     let bell = Bell::new();
-    let sessions: Sessions<J, C, G> = Sessions {
+    let sessions: Sessions<J, C, G, R> = Sessions {
+        rt,
         alloc,
         turn,
         clock,

@@ -16,7 +16,8 @@ use std::sync::{Mutex, Wait};
 
 /// What the workers share.
 #[derive(Drop)]
-pub(crate) struct Sessions<'t, 'k, 'c, 'g, 'b, 'p, J: Naming, C, G> {
+pub(crate) struct Sessions<'r, 't, 'k, 'c, 'g, 'b, 'p, J: Naming, C, G, R> {
+    pub rt: &'r R,
     pub alloc: Global,
     pub turn: &'t Turn<Admin>,
     pub clock: &'k Mutex<&'c mut C>,
@@ -27,7 +28,8 @@ pub(crate) struct Sessions<'t, 'k, 'c, 'g, 'b, 'p, J: Naming, C, G> {
     pub of: PhantomData<J>,
 }
 
-impl<'t, 'k, 'c, 'g, 'b, 'p, J: Naming, C: Clock, G: Gate> Sessions<
+impl<'r, 't, 'k, 'c, 'g, 'b, 'p, J: Naming, C: Clock, G: Gate, R: Wait + Sync> Sessions<
+    'r,
     't,
     'k,
     'c,
@@ -37,20 +39,20 @@ impl<'t, 'k, 'c, 'g, 'b, 'p, J: Naming, C: Clock, G: Gate> Sessions<
     J,
     C,
     G,
+    R,
 > {
     /// Serves one link. A fault of the link ends that link alone; want of memory is noted.
-    fn serve_with<T: Link, H: RequestHooks, R: Wait + Sync>(
+    fn serve_with<T: Link, H: RequestHooks>(
         &self,
-        rt: &R,
         parts: &mut Parts<J>,
         hooks: &mut H,
         link: &mut T,
     )
         requires { self.now.turn.now.turn ≡ J.turn }
     {
-        let mut clock = SharedClock::new(rt, self.clock);
+        let mut clock = SharedClock::new(self.rt, self.clock);
         let served = serve_link(
-            rt,
+            self.rt,
             self.alloc,
             link,
             self.turn,
@@ -69,11 +71,21 @@ impl<'t, 'k, 'c, 'g, 'b, 'p, J: Naming, C: Clock, G: Gate> Sessions<
     }
 }
 
-impl<'t, 'k, 'c, 'g, 'b, 'p, J: Naming, C: Clock, G: Gate, T: Link, H: RequestHooks> Worker<
-    T,
-    Place<J>,
-    Mutex<H>,
-> for Sessions<'t, 'k, 'c, 'g, 'b, 'p, J, C, G> {
+impl<
+    'r,
+    't,
+    'k,
+    'c,
+    'g,
+    'b,
+    'p,
+    J: Naming,
+    C: Clock,
+    G: Gate,
+    R: Wait + Sync,
+    T: Link,
+    H: RequestHooks,
+> Worker<T, Place<J>, Mutex<H>> for Sessions<'r, 't, 'k, 'c, 'g, 'b, 'p, J, C, G, R> {
     ghost use Rattle.std.specs.Prelude.{◌≡◌};
 
     ghost is_ready = { λ s. s.turn.now.turn ≡ J.turn };
@@ -81,6 +93,6 @@ impl<'t, 'k, 'c, 'g, 'b, 'p, J: Naming, C: Clock, G: Gate, T: Link, H: RequestHo
     fn serve<W: Wait + Sync>(&self, rt: &W, place: &Place<J>, own: &Mutex<H>, link: &mut T) {
         let mut parts = place.lock(rt);
         let mut hooks = own.lock(rt);
-        self.serve_with(rt, &mut *parts, &mut *hooks, link);
+        self.serve_with(&mut *parts, &mut *hooks, link);
     }
 }
