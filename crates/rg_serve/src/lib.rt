@@ -8,6 +8,7 @@ mod opened;
 mod places;
 mod serving;
 mod sessions;
+mod threads;
 
 pub use ending::Served;
 pub use opened::Opened;

@@ -12,13 +12,14 @@ use crate::naming::Naming;
 use crate::opened::Opened;
 use crate::places::{Place, places_of, under_locks};
 use crate::sessions::Sessions;
+use crate::threads::serve_links;
 use rg_admin::Admin;
 use rg_base::{Failed, NoMemory, Text, TryCopy};
 use rg_hook::RequestHooks;
 use rg_ports::{Clock, Gate, Listener};
 use rg_publish::Pass;
 use rg_session::{Bell, Refresher, Totals};
-use rg_threads::{Queue, serve_links};
+use rg_threads::Queue;
 use rg_turn::{Seat, Turn};
 use std::alloc::Global;
 use std::marker::{Brand, PhantomData};
@@ -86,8 +87,7 @@ fn attend<
     ensures failed { OnErr result (N.faults net.old < N.faults net.new) }
 {
     let bell = Bell::new();
-    let sessions: Sessions<J, C, G, R> = Sessions {
-        rt,
+    let sessions: Sessions<J, C, G> = Sessions {
         alloc,
         turn,
         clock,
