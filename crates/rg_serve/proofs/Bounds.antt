@@ -13,7 +13,7 @@ use Rattle.rg_publish.specs.declared.history.Publication.{Publication}
 use Rattle.rg_session.specs.Right.{AreRightFor, in_world}
 
 stands : {A : Type 0} (xs : List A) (k : ℕ) → k < length xs → (x : A) × (slice_get xs k ≡ Some x)
-stands xs k lt = elim ((slice_get_cases xs k).1) [ inl there ↦ (there.0, there.2.1) | inr past ↦ absurd (omega (arith, lt, past.0)) ]
+stands xs k lt = elim ((slice_get_cases xs k).1) [ inl there ↦ (there.0, there.2) | inr past ↦ absurd (omega (arith, lt, past.0)) ]
 
 module _ (P : Parts) (s : P.State) (h : world.History P) (ps : List (world.Publication P)) (right : world.AreRight P s h ps) where
   -- each publication is at most as early as its place

@@ -1,4 +1,3 @@
 mod Alls
 mod Bounds
-mod Follows
 mod Opening

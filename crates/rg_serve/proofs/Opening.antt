@@ -60,13 +60,14 @@ module _ (workers : ℕ) (admin : Administration) (turn : TurnNow) (seat : Seate
   pub many : length rest ≡ workers
   many = omega (arith, length-append rest (seat ∷ []), ap length all, length-replicate (workers + 1) unused)
 
-  pub opened_held : (service : List ℕ) (p : Shown) (passes : List Seeing) → IsStart admin → 1 ≤ workers → turn.seats ≡ workers + 1 → service ≡ admin.state.plugin
+  pub opened_held : (service : List ℕ) (p : Shown) (passes : List Seeing) → IsStart admin → (1 ≤ workers) × (workers ≤ 64) → turn.seats ≡ workers + 1 → service ≡ admin.state.plugin
       → ((h : H) → AreRightFor admin h p.list) → passes ≡ replicate workers (new_pass p) → IsHeld turn seat service p rest passes
   opened_held service p passes starts some seats serves right passes_are = record {
     seated = ap (λ (s : Seated). s.turn) seat_unused;
     others = rest_seated;
     all = omega (arith, many, seats);
-    some = omega (arith, many, some);
+    some = omega (arith, many, some.0);
+    few = omega (arith, many, some.1);
     pairs = ap length passes_are ∙ (length-replicate workers (new_pass p) ∙ sym many);
     counted = omega (arith, ap (λ (s : Seated). length s.calls) seat_unused);
     starts = subst IsStart (sym start) starts;

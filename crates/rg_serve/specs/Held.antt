@@ -25,6 +25,7 @@ pub record IsHeld (turn : TurnValue Administration) (seat : Seated) (service : L
   pub others : All (λ (s : Seated). s.turn ≡ turn.turn) seats
   pub all : length seats + 1 ≡ turn.seats
   pub some : 1 ≤ length seats
+  pub few : length seats ≤ 64
   pub pairs : length passes ≡ length seats
   pub counted : length seat.calls ≤ length seat.history
   pub starts : IsStart turn.start

@@ -98,24 +98,32 @@ impl<R: Wait + Drop> Opened<R> {
 
     /// Downloads what the plugin lacks, and publishes what it sees then, unless its versions are current. Want of memory is also
     /// answered where an entry of another caller came before the download, which no clause of a seat excludes, though nobody else
-    /// has one.
-    pub fn refresh<W: Wait>(&mut self, rt: &W, alloc: Global) -> Result<Refresh, NoMemory>
-        ensures { IfOk result (λ refresh. IsRefreshed self.old refresh self.new) }
+    /// has one. Where memory is refused all is let go.
+    pub fn refresh<W: Wait>(self, rt: &W, alloc: Global) -> Result<(Opened<R>, Refresh), NoMemory>
+        ensures { IfOk result (λ t. IsRefreshed self t.1 t.0) }
     {
-        let calls = self.seat.calls();
-        let refreshed = self.refresher.refresh(
-            rt,
-            alloc,
-            &self.turn,
-            &mut self.seat,
-            &mut Steps::silent(),
-        );
-        match refreshed {
+        let Opened {
+            turn,
+            mut seat,
+            mut refresher,
+            seats,
+            passes,
+        } = self;
+        let calls = seat.calls();
+        let mut steps = Steps::silent();
+        match refresher.refresh(rt, alloc, &turn, &mut seat, &mut steps) {
             Ok(refresh) => {
-                if self.refresher.seq != calls {
+                if refresher.seq != calls {
                     return Err(NoMemory);
                 }
-                return Ok(refresh);
+                let opened = Opened {
+                    turn,
+                    seat,
+                    refresher,
+                    seats,
+                    passes,
+                };
+                return Ok((opened, refresh));
             }
             Err(refused) => return Err(refused),
         }

@@ -75,6 +75,7 @@ pub(crate) fn places_of<J: Naming>(
     passes: Vec<Pass>,
 ) -> Result<Vec<Place<J>>, NoMemory>
     requires seats { All (λ s. s.turn ≡ J.turn) seats.items }
+    requires few { length seats.items ≤ 64 }
     requires passes { All (λ p. p.book ≡ J.book) passes.items }
     ensures { IfOk result (λ v. length v.items ≡ length seats.items) }
 {

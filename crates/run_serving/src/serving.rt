@@ -1,5 +1,5 @@
 // A service from its configuration to its totals.
-ghost use Rattle.std.specs.Prelude.{◌≡◌, ◌≤◌, length, IfOk, IfSome};
+ghost use Rattle.std.specs.Prelude.{◌≡◌, ◌≤◌, true, length, IfOk, IfSome};
 
 use crate::links::{Links, SharedLink};
 use anyhow::{Result, anyhow};
@@ -59,24 +59,32 @@ fn ask_of(alloc: Global, command: &str) -> Option<Ask> {
     }
 }
 
-/// Asks by the command, where there is one, and publishes what that changed. False where memory is refused.
-fn prepared<'a, R: Wait>(
-    rt: &'a R,
-    alloc: Global,
-    opened: &mut Opened<&'a R>,
-    command: &str,
-) -> bool
+/// Asks by the command, where there is one.
+fn ask<'a, R: Wait>(rt: &'a R, alloc: Global, opened: &mut Opened<&'a R>, command: &str) -> bool
     ensures { result ≡ true → opened.new.workers ≡ opened.old.workers }
 {
-    if !command.is_empty() {
-        let Some(ask) = ask_of(alloc, command) else {
-            return false;
-        };
-        if opened.ask(rt, alloc, ask).is_err() {
-            return false;
-        }
+    if command.is_empty() {
+        return true;
     }
-    opened.refresh(rt, alloc).is_ok()
+    match ask_of(alloc, command) {
+        Some(ask) => opened.ask(rt, alloc, ask).is_ok(),
+        None => false,
+    }
+}
+
+/// The service that the configuration opens and the command changes; what changed is published.
+fn prepared<'a, R: Wait>(rt: &'a R, alloc: Global, case: &Case) -> Option<Opened<&'a R>>
+    requires { (1 ≤ case.now.workers) × (case.now.workers ≤ 64) }
+    ensures { IfSome result (λ o. o.workers ≡ case.now.workers) }
+{
+    let mut opened = opened(rt, alloc, case.config, case.workers)?;
+    if !ask(rt, alloc, &mut opened, case.command) {
+        return None;
+    }
+    match opened.refresh(rt, alloc) {
+        Ok((opened, _)) => Some(opened),
+        Err(_) => None,
+    }
 }
 
 /// No sinks and no enrichers, for so many workers.
@@ -118,12 +126,9 @@ pub(crate) fn served<R: Threads + Wait + Sync>(
 ) -> Result<String>
     requires { (1 ≤ case.now.workers) × (case.now.workers ≤ 64) }
 {
-    let Some(mut opened) = opened(rt, alloc, case.config, case.workers) else {
-        return Err(anyhow!("the configuration is refused"));
+    let Some(opened) = prepared(rt, alloc, case) else {
+        return Err(anyhow!("the configuration or the command is refused"));
     };
-    if !prepared(rt, alloc, &mut opened, case.command) {
-        return Err(anyhow!("the command is refused"));
-    }
     let hooks = hooks_of(alloc, case.workers)?;
     let mut net = Links::new(links, case.failing);
     let mut clock = ListClock::new(Seq::from_vec(Vec::from_slice(alloc, &[Moment(0)])?));

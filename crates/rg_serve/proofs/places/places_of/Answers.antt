@@ -15,3 +15,7 @@ loop-seat-preserved g c =
       all_front Q passes c.in-Some-pop.pass (subst (λ (l : List Seeing). All Q l) c.in-Some-pop.ensures.items inv.1),
       omega (arith, inv.2, ap length c.in-Some.ensures.items, length-append seats (c.in-Some.seat ∷ []), ap length c.in_ok-add.ensures, length-append c.loop-seat.places.items (c.new-in-Some.result ∷ [])),
     )
+
+pub overflow_cast-number : goal.overflow_cast-number
+overflow_cast-number g c =
+    omega (arith, c.loop-seat.invariant.2, c.requires.few, ap length c.in-Some.ensures.items, length-append c.pop.new.self.items (c.in-Some.seat ∷ []), c.len-number.ensures, c.pop.new.self.ok.0)
