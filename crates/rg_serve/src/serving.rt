@@ -124,7 +124,7 @@ fn serve_named<
     passes: Vec<Pass>,
     hooks: Vec<H>,
     net: &mut N,
-    address: &str,
+    address: &Text,
     clock: &mut C,
     gate: &G,
     most: u64,
@@ -145,7 +145,7 @@ fn serve_named<
     let plugin = refresher.service.try_copy(alloc)?;
     let places = places_of::<J>(alloc, seats, passes)?;
     let own = under_locks(alloc, hooks)?;
-    net.listen(address)?;
+    net.listen(address.as_str())?;
     let following = Mutex::new(Following::new(refresher, seat));
     let clock = Mutex::new(clock);
     let links = attend(
@@ -186,7 +186,7 @@ pub fn serve<
     opened: Opened<Q>,
     hooks: Vec<H>,
     net: &mut N,
-    address: &str,
+    address: &Text,
     clock: &mut C,
     gate: &G,
     most: u64,

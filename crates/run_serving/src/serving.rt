@@ -133,16 +133,11 @@ pub(crate) fn served<R: Threads + Wait + Sync>(
     let mut net = Links::new(links, case.failing);
     let mut clock = ListClock::new(Seq::from_vec(Vec::from_slice(alloc, &[Moment(0)])?));
     let gate = MeetingGate::new(case.meeting);
+    let Ok(address) = Text::copy_of(alloc, "127.0.0.1:0") else {
+        return Err(anyhow!("memory is refused"));
+    };
     let served = serve(
-        rt,
-        alloc,
-        opened,
-        hooks,
-        &mut net,
-        "127.0.0.1:0",
-        &mut clock,
-        &gate,
-        case.most,
+        rt, alloc, opened, hooks, &mut net, &address, &mut clock, &gate, case.most,
     );
     let mut told = String::new(alloc);
     tell(&mut told, served)?;

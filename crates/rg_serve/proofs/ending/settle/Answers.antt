@@ -11,7 +11,7 @@ use Rattle.rg_serve.proofs.ending.settle.Goals as goal
 pub close-requires-clause-seats : goal.close-requires-clause-seats
 close-requires-clause-seats g c =
     let P : Seated → Type 0 = λ s. s.turn ≡ c.args.turn.turn in
-    subst (λ (l : List Seated). All P l) (sym c.in_ok-add.ensures) (all_more P c.args.seats.items c.args.seat c.requires.turn.1 c.requires.turn.0)
+    subst (λ (l : List Seated). All P l) (sym {A = List Seated} c.in_ok-add.ensures) (all_more P c.args.seats.items c.args.seat c.requires.turn.1 c.requires.turn.0)
 
 pub returns-in-Ok-clause-entries : goal.returns-in-Ok-clause-entries
 returns-in-Ok-clause-entries g c =
