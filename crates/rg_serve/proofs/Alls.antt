@@ -1,5 +1,5 @@
 -- What holds of all items of a list that is one longer.
-use Rattle.std.proofs.Common.{◌≡◌, All, List, [], ◌∷◌, ◌++◌, length, drop, take, sym, subst}
+use Rattle.std.proofs.Common.{All, List, [], ◌∷◌, ◌++◌, length, take, sym, subst}
 use Rattle.std.proofs.Math.Seq.{drop-append_seam, take-append_seam}
 use Rattle.std.proofs.lemmas.List.Elements.{All-append, All-cons, All-drop, All-head, All-nil, All-same, All-take}
 

@@ -1,9 +1,8 @@
 -- What an opening, a call and a refresh make of a service that is held.
-use Rattle.std.proofs.Common.{◌≡◌, ◌∙◌, ℕ, ◌+◌, ◌-◌, ◌≤◌, All, List, [], ◌∷◌, ◌++◌, length, length-append, Some, slice_get, ap, sym, subst, arith, refl, option_map, replicate}
+use Rattle.std.proofs.Common.{◌≡◌, ◌∙◌, ℕ, ◌+◌, ◌≤◌, All, List, [], ◌∷◌, ◌++◌, length, length-append, Some, ap, sym, subst, arith, refl, option_map, replicate}
 use Rattle.std.proofs.lemmas.List.{length-replicate}
 use Rattle.std.proofs.lemmas.List.Elements.{All-replicate}
 use Rattle.std.proofs.lemmas.Option.{same_Some}
-use mathlib.Core.List.{IsPrefix}
 use Rattle.rg_turn.specs.History.{IsLegal, state_after, state_at}
 use Rattle.rg_turn.specs.Values.{IsCalled, TurnValue, new_seat}
 use Rattle.rg_turn.specs.View.{entry}

@@ -1,7 +1,6 @@
-use Rattle.std.proofs.Common.{◌≡◌, ◌+◌, ◌≤◌, All, List, [], ◌∷◌, ◌++◌, length, length-append, ap, sym, subst, arith}
+use Rattle.std.proofs.Common.{◌≡◌, All, List, sym, subst, arith}
 use mathlib.Core.List.{IsPrefix}
 use Rattle.rg_turn.proofs.Histories.{begins_length}
-use Rattle.rg_publish.specs.Passes.{Seeing}
 use Rattle.rg_session.specs.Right.{AreRightFor}
 use Rattle.rg_serve.specs.Held.{Seated}
 use Rattle.rg_serve.proofs.Alls.{all_last, all_more}

@@ -1,4 +1,4 @@
-use Rattle.std.proofs.Common.{◌≡◌, ◌+◌, All, List, [], ◌∷◌, ◌++◌, length, ap, subst, arith, length-append}
+use Rattle.std.proofs.Common.{◌≡◌, All, List, [], ◌∷◌, length, ap, subst, arith, length-append}
 use Rattle.rg_publish.specs.Passes.{Seeing}
 use Rattle.rg_serve.specs.Held.{Seated}
 use Rattle.rg_serve.proofs.Alls.{all_front}
