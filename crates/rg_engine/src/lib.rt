@@ -1,9 +1,13 @@
 // The engine that decides for one service, and moves with its deltas.
 #![tactic(auto)]
 
+mod asking;
 mod engine;
 mod fault;
+mod lists;
 mod serials;
+mod sets;
+mod setup;
 mod sharing;
 
 pub use engine::Engine;
