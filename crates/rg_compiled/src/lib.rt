@@ -1,0 +1,18 @@
+// Policies and tag rows, each compiled and filed, so that a resource finds those that may lie on it.
+#![tactic(auto)]
+
+mod held;
+mod policies;
+mod row_visits;
+mod rows;
+mod shelf;
+mod slots;
+mod visits;
+
+pub use policies::PolicySet;
+pub use row_visits::{CompiledRow, RowVisits};
+pub use rows::RowSet;
+pub use visits::{Compiled, Visits};
+
+#[cfg(test)]
+mod tests;
