@@ -10,6 +10,9 @@ use Rattle.rg_evalr.specs.Frames.{def_of}
 use Rattle.rg_evalr.specs.Sources.{Source}
 use Rattle.rg_evalr.specs.declared.frame.Frame.{Frame}
 use Rattle.rg_evalr.specs.declared.frame.Side.{Side}
+use Rattle.rg_policy.specs.declared.request.Element.{Element}
+use Rattle.rg_policy.specs.declared.request.Resource.{Resource}
+use Rattle.rg_index.specs.Candidates.{candidates}
 use Rattle.rg_index.specs.declared.form.Form.{Form}
 use Rattle.rg_compiled.specs.Bounds.{policy_form, row_form}
 use Rattle.rg_compiled.specs.declared.row_visits.Least.{Least}
@@ -35,6 +38,14 @@ slot_form form s = renumbered s.ordinal (form s.held)
 
 abbrev pub slot_forms : {X : Type 0} → (X → Form) → List (Placed X) → List Form
 slot_forms form slots = map (slot_form form) slots
+
+-- the forms of what is held in the slots
+abbrev pub held_forms : {X : Type 0} → (X → Form) → List (Placed X) → List Form
+held_forms form slots = map (λ s. form s.held) slots
+
+-- the ordinals of the slots that are candidates for a resource
+abbrev pub found_in : {X : Type 0} → (X → Form) → Shelved X → List Element → List ℤ
+found_in form shelf elements = candidates shelf.def (slot_forms form shelf.slots) elements
 
 -- the ordinals are above this one, where it is given, and rise
 abbrev pub rise_above : {X : Type 0} → Option ℤ → List (Placed X) → Bool
@@ -116,3 +127,7 @@ pub record ArePolicies (frame : Frame) (side : Side) (shelf : Shelved Source) : 
 -- the slots hold rows, compiled under the definition
 abbrev pub AreRows : Shelved RowSource → Type 0
 AreRows shelf = held_in shelf.slots ≡ map (row_source shelf.def) (rows_in shelf.slots)
+
+-- the rows that are left for a resource, after the one of this ordinal
+abbrev pub rows_left : Option ℤ → Shelved RowSource → Resource → List RowSource
+rows_left last shelf resource = left_after last (found_in row_source_form shelf resource.elements.items) shelf.slots

@@ -164,7 +164,7 @@ impl PolicySet {
         ensures all { (p : Policy) (user : List ℕ) → Contains self.now.policies p
             → some_lies (def_of self.now.frame self.now.side) (maps_of p) Exact resource.now.elements.items user ≡ true → Contains result (source self.now.frame self.now.side p) }
     {
-        Visits::of(&self.shelf.slots, self.shelf.index.candidates(resource))
+        Visits::of(&self.shelf.slots, self.shelf.candidates(resource))
     }
 
     /// As `visit`, for a resource whose one element has the level `tag` and this value.
@@ -174,7 +174,7 @@ impl PolicySet {
         ensures all { (p : Policy) (user : List ℕ) → Contains self.now.policies p
             → some_lies (def_of self.now.frame self.now.side) (maps_of p) Exact (tag_elements (chars tag.now)) user ≡ true → Contains result (source self.now.frame self.now.side p) }
     {
-        Visits::of(&self.shelf.slots, self.shelf.index.candidates_tag(tag))
+        Visits::of(&self.shelf.slots, self.shelf.candidates_tag(tag))
     }
 
     /// Copies of the policies.

@@ -138,7 +138,7 @@ impl RowSet {
         ensures all { (row : TagRow) (user : List ℕ) → Contains self.now.rows row
             → lies self.now.def row.resources.items Down resource.now.elements.items user ≡ true → Contains result (row_source self.now.def row) }
     {
-        RowVisits::of(&self.shelf.slots, &self.shelf.index, resource)
+        RowVisits::of(&self.shelf, resource)
     }
 
     /// Copies of the rows.

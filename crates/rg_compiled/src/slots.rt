@@ -1,6 +1,6 @@
 // Slots in order, each with an ordinal of the set's own, by which it is found.
-ghost use Rattle.std.specs.Prelude.{◌≡◌, ◌++◌, ◌∷◌, IfOk, OnOk, [], option_map, true};
-ghost use Rattle.std.specs.Arc.{arc_value};
+ghost use Rattle.std.specs.Prelude.{◌≡◌, ◌∷◌, IfOk, [], int_lt, option_map, option_to_list, true};
+ghost use Rattle.std.specs.List.{slice_get};
 ghost use Rattle.rg_compiled.specs.Kept.{are_rising, held_at, slot_form, slot_forms};
 
 use crate::held::Fileable;
@@ -49,13 +49,26 @@ impl<H: Drop> Slot<H> {
     }
 }
 
+fn is_below<H>(slot: &Slot<H>, ordinal: i64) -> bool
+    ensures { result ≡ int_lt slot.now.ordinal ordinal }
+{
+    slot.ordinal < ordinal
+}
+
+/// The place of the first slot of which the ordinal isn't below this one: the slot of this ordinal, if there is one.
+fn place_of<H>(slots: &[Slot<H>], ordinal: i64) -> usize
+    requires { are_rising slots.now ≡ true }
+    ensures { held_at slots.now ordinal ≡ held_at (option_to_list (slice_get slots.now result)) ordinal }
+{
+    slots.partition_point(|slot| is_below(slot, ordinal))
+}
+
 /// What the slot of this ordinal holds.
 pub(crate) fn held_at<'a, H>(slots: &'a [Slot<H>], ordinal: i64) -> Option<&'a H>
     requires { are_rising slots.now ≡ true }
     ensures { option_map (λ h. h.now) result ≡ held_at slots.now ordinal }
 {
-    let place = slots.partition_point(|slot| slot.ordinal < ordinal);
-    match slots.get(place) {
+    match slots.get(place_of(slots, ordinal)) {
         Some(slot) => held_if(slot, ordinal),
         None => None,
     }

@@ -1,5 +1,5 @@
 // The policies that are asked about a resource.
-ghost use Rattle.std.specs.Prelude.{◌≡◌, option_map, true};
+ghost use Rattle.std.specs.Prelude.{◌≡◌, ◌∷◌, [], MatchOption, true};
 ghost use Rattle.std.specs.List.{list_all};
 ghost use Rattle.std.specs.Iterator.{YieldsFirst, item_count};
 ghost use Rattle.rg_compiled.specs.Kept.{all_held, are_rising, held_at, is_held};
@@ -30,14 +30,16 @@ impl<'a> Compiled<'a> {
     pub fn policy(&self) -> &'a Policy
         ensures { result.now ≡ self.now.policy }
     {
-        &self.held.policy
+        let held = self.held;
+        &held.policy
     }
 
     /// Its evaluator.
     pub fn evaluator(&self) -> &'a Evaluator
         ensures { result.now ≡ self.now }
     {
-        &self.held.evaluator
+        let held = self.held;
+        &held.evaluator
     }
 }
 
@@ -72,6 +74,23 @@ fn compiled_at<'a>(slots: &'a [Slot<HeldPolicy>], ordinal: i64) -> Option<Compil
     }
 }
 
+/// The next policy, and what is left after it.
+fn next_compiled<'a>(
+    slots: &'a [Slot<HeldPolicy>],
+    candidates: &mut Candidates<'a>,
+) -> Option<Compiled<'a>>
+    requires rising { are_rising slots.now ≡ true }
+    requires held { list_all (is_held slots.now) candidates.old ≡ true }
+    ensures held { list_all (is_held slots.now) candidates.new ≡ true }
+    ensures next { MatchOption result ((all_held slots.now candidates.old ≡ []) × (all_held slots.now candidates.new ≡ []))
+        (λ c. all_held slots.now candidates.old ≡ c ∷ all_held slots.now candidates.new) }
+{
+    match candidates.next() {
+        Some(ordinal) => compiled_at(slots, ordinal),
+        None => None,
+    }
+}
+
 impl<'a> Visits<'a> {
     pub(crate) fn of(slots: &'a [Slot<HeldPolicy>], candidates: Candidates<'a>) -> Visits<'a>
         requires rising { are_rising slots.now ≡ true }
@@ -90,9 +109,6 @@ impl<'a> Iterator for Visits<'a> {
     ghost remaining = { item_count (λ v. v) };
 
     fn next(&mut self) -> Option<Compiled<'a>> {
-        match self.candidates.next() {
-            Some(ordinal) => compiled_at(self.slots, ordinal),
-            None => None,
-        }
+        next_compiled(self.slots, &mut self.candidates)
     }
 }

@@ -1,0 +1,6 @@
+mod Counting
+mod Leaving
+mod Passing
+mod Renumbered
+mod Rising
+mod Visiting
