@@ -1,6 +1,9 @@
+mod Building
 mod Counting
 mod Leaving
 mod Passing
 mod Renumbered
 mod Rising
+mod Sets
+mod Shelving
 mod Visiting
