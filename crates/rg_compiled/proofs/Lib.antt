@@ -4,6 +4,7 @@ mod Leaving
 mod Passing
 mod Renumbered
 mod Rising
+pub mod Sent
 mod Sets
 mod Shelving
 mod Visiting

@@ -5,6 +5,7 @@ mod held;
 mod policies;
 mod row_visits;
 mod rows;
+mod sharing;
 mod shelf;
 mod slots;
 mod visits;
@@ -12,5 +13,6 @@ mod visits;
 pub use policies::PolicySet;
 pub use row_visits::{CompiledRow, RowVisits};
 pub use rows::RowSet;
+pub use sharing::sets_may_be_shared;
 pub use visits::{Compiled, Visits};
 
