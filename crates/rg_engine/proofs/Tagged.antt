@@ -3,24 +3,27 @@ use Rattle.std.proofs.Common.{◌≡◌, ◌≤◌, ◌+◌, ◌++◌, ℕ, true
 use Rattle.std.specs.List.{flat_map, sum_by}
 use Rattle.rg_base.specs.Counts.{Counts}
 use Rattle.rg_policy.specs.declared.policy.Policy.{Policy}
+use Rattle.rg_policy.specs.declared.request.AccessRequest.{AccessRequest}
 use Rattle.rg_policy.specs.declared.request.Element.{Element}
 use Rattle.rg_policy.specs.declared.tags.Tag.{Tag}
 use Rattle.rg_defs.specs.declared.service_def.ServiceDef.{ServiceDef}
 use Rattle.rg_resmatch.specs.Tests.{lies}
 use Rattle.rg_resmatch.specs.declared.reach.Reach.TheVariants.{Down}
 use Rattle.rg_tags.specs.declared.row.TagRow.{TagRow}
-use Rattle.rg_evalr.specs.declared.frame.Side.TheVariants.{Tag as Tagged}
+use Rattle.rg_evalr.specs.Frames.{def_of}
+use Rattle.rg_evalr.specs.declared.frame.Frame.{Frame}
+use Rattle.rg_evalr.specs.declared.frame.Side.TheVariants.{Resource as Own, Tag as Tagged}
 use Rattle.rg_facts.specs.Best.{Best, none_yet}
-use Rattle.rg_facts.specs.Candidates.{Candidate, Setting, candidate, frame_of, row_lies, tag_candidates, tags_of, takes_part}
+use Rattle.rg_facts.specs.Candidates.{Candidate, Setting, candidate, frame_of, resource_candidates, row_lies, tag_candidates, tags_of, takes_part}
 use Rattle.rg_facts.specs.declared.facts.Facts.{Facts}
 use Rattle.rg_index.specs.Candidates.{bound}
 use Rattle.rg_compiled.specs.Bounds.{policy_forms, row_forms}
 use Rattle.rg_compiled.specs.Seen.{Policies, RowSource, Rows, row_source}
-use Rattle.rg_engine.specs.Asked.{Finds, all_tagged, reaching_tags, tag_tries}
-use Rattle.rg_engine.specs.Bounds.{TriesWithin, tag_bound, tag_element}
-use Rattle.rg_engine.specs.Parts.{row_set, tag_set}
+use Rattle.rg_engine.specs.Asked.{Finds, all_for, all_tagged, reaching_tags, tag_tries}
+use Rattle.rg_engine.specs.Bounds.{TriesWithin, bound_on, tag_bound, tag_element}
+use Rattle.rg_engine.specs.Parts.{IsTagSet, row_set, tag_set}
 use Rattle.rg_engine.proofs.Apart.{sum_alike}
-use Rattle.rg_engine.proofs.Counting.{more_tries}
+use Rattle.rg_engine.proofs.Counting.{both_tries, more_tries}
 use Rattle.rg_engine.proofs.Found.{finds_none, finds_others, have_made}
 use Rattle.rg_engine.proofs.Rows.{same_tags, tags_within}
 
@@ -64,6 +67,17 @@ tag_tries_are facts set def set_is there tags = sum_alike (tag_tries set) (tag_b
     ∙ (λ i. bound (unwrap_or (there i) facts.def) (policy_forms facts.tag_policies.items) (tag_element tag ∷ []))
     ∙ sym (λ i. tag_bound (there i) (policy_forms facts.tag_policies.items) tag))
 
+-- a set of tag policies is that of facts, and so is a set of rows
+pub is_tag_set : (facts : Facts) (set : Policies) (frame : Frame) → frame ≡ frame_of facts → IsTagSet frame (Some set) → set.policies ≡ facts.tag_policies.items → set ≡ tag_set facts
+is_tag_set facts set frame frame_is h policies_are = λ i. record { frame = (h.0 ∙ frame_is) i; side = h.1 i; policies = policies_are i }
+
+pub is_row_set : (facts : Facts) (rows : Rows) → rows.def ≡ facts.def → rows.rows ≡ facts.tag_rows.items → rows ≡ row_set facts
+is_row_set facts rows def_is rows_are = λ i. record { def = def_is i; rows = rows_are i }
+
+pub tagged_tries : (facts : Facts) (set : Policies) (def : ServiceDef) → set ≡ tag_set facts → facts.tag_def ≡ Some def → (tags : List Tag) (n : ℕ) (a b : Counts)
+    → TriesWithin (n + sum_by (tag_tries set) tags) a b → TriesWithin (n + sum_by (tag_bound facts.tag_def (policy_forms facts.tag_policies.items)) tags) a b
+tagged_tries facts set def set_is there tags n a b h = subst (λ m. TriesWithin (n + m) a b) (tag_tries_are facts set def set_is there tags) h
+
 none_made : (tags : List Tag) → flat_map (λ tag. let none : List Candidate = [] in none) tags ≡ []
 none_made [] = refl
 none_made (tag ∷ tags) = none_made tags
@@ -74,3 +88,22 @@ found_untagged s facts tags b none =
     subst (λ cs. Finds s cs b b)
     (sym ((λ i. flat_map (λ tag. map (candidate (frame_of facts) Tagged (Some tag)) (none i)) tags) ∙ none_made tags))
     (finds_none s b)
+
+-- the resource policies as a set
+pub is_own_set : (s : Setting) (facts : Facts) (set : Policies) (a b : Best) → set.frame ≡ frame_of facts → set.side ≡ Own → set.policies ≡ facts.policies.items
+    → Finds s (all_for set None) a b → Finds s (resource_candidates facts) a b
+is_own_set s facts set a b frame_is side_is policies_are h =
+    subst (λ cs. Finds s cs a b) (λ i. map (candidate (frame_is i) (side_is i) None) (policies_are i)) h
+
+-- what both count
+pub tries_of_all : (facts : Facts) (q : AccessRequest) (set : Policies) (elements : List Element) (a b d : Counts) → set.frame ≡ frame_of facts → set.side ≡ Own → set.policies ≡ facts.policies.items → elements ≡ q.resource.elements.items
+    → TriesWithin (bound facts.def (row_forms facts.tag_rows.items) elements + sum_by (tag_bound facts.tag_def (policy_forms facts.tag_policies.items)) (tags_of facts q)) a b
+    → TriesWithin (bound (def_of set.frame set.side) (policy_forms set.policies) elements) b d → TriesWithin (bound_on facts q) a d
+tries_of_all facts q set elements a b d frame_is side_is policies_are elements_are h k =
+    let own : bound (def_of set.frame set.side) (policy_forms set.policies) elements ≡ bound facts.def (policy_forms facts.policies.items) q.resource.elements.items =
+    λ i. bound (def_of (frame_is i) (side_is i)) (policy_forms (policies_are i)) (elements_are i) in
+    let rows : bound facts.def (row_forms facts.tag_rows.items) elements ≡ bound facts.def (row_forms facts.tag_rows.items) q.resource.elements.items = ap (bound facts.def (row_forms facts.tag_rows.items)) elements_are in
+    let tags = sum_by (tag_bound facts.tag_def (policy_forms facts.tag_policies.items)) (tags_of facts q) in
+    more_tries ((bound facts.def (row_forms facts.tag_rows.items) elements + tags) + bound (def_of set.frame set.side) (policy_forms set.policies) elements) (bound_on facts q) a d
+    (omega (arith, own, rows))
+    (both_tries (bound facts.def (row_forms facts.tag_rows.items) elements + tags) (bound (def_of set.frame set.side) (policy_forms set.policies) elements) a b d h k)

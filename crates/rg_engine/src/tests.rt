@@ -311,9 +311,9 @@ fn a_policy_that_comes_and_goes_is_never_compiled(rt: HostRuntime) {
     let changes = three_changes(alloc, 1001).expect(&rt, "ample memory");
     let second = moved(alloc, &first, 5, changes, &mut steps).expect(&rt, "ample memory");
     assert_eq!(rt; counts(&steps), (1000, 1000, 0));
-    for values in [["d7", "t"], ["d8", "t"], ["d1001", "t"]] {
-        let before = verdict_on(alloc, &first, &values, &mut steps).expect(&rt, "ample memory");
-        let after = verdict_on(alloc, &second, &values, &mut steps).expect(&rt, "ample memory");
+    for name in ["d7", "d8", "d1001"] {
+        let before = verdict_on(alloc, &first, &[name], &mut steps).expect(&rt, "ample memory");
+        let after = verdict_on(alloc, &second, &[name], &mut steps).expect(&rt, "ample memory");
         assert_eq!(rt; before, after);
     }
     let again = three_changes(alloc, 1001).expect(&rt, "ample memory");
