@@ -1,6 +1,12 @@
 mod Counting
 mod Leaving
 mod Passing
+mod Planning
+mod Refiled
 mod Renumbered
+mod Reshelved
 mod Rising
+mod Settled
+mod Siding
 mod Visiting
+mod Weighing
