@@ -1,3 +1,4 @@
+mod Building
 mod Counting
 mod Leaving
 mod Passing
@@ -6,7 +7,9 @@ mod Refiled
 mod Renumbered
 mod Reshelved
 mod Rising
+mod Sets
 mod Settled
+mod Shelving
 mod Siding
 mod Visiting
 mod Weighing

@@ -1,11 +1,13 @@
 -- Slots whose ordinals rise: which one has an ordinal.
-use Rattle.std.proofs.Common.{◌≡◌, ◌<◌, ◌≤◌, ◌+◌, ◌++◌, ◌||◌, ◌&&◌, ℕ, zero, suc, ℤ, pos, Bool, true, false, not, cond, int_lt, List, [], ◌∷◌, Option, Some, None, Contains, length, get_or, option_map, option_to_list, inl, inr, refl, sym, ap, subst, ◌∙◌, arith}
+use Rattle.std.proofs.Common.{◌≡◌, ◌<◌, ◌≤◌, ◌+◌, ◌++◌, ◌||◌, ◌&&◌, ℕ, zero, suc, ℤ, pos, Bool, true, false, not, cond, int_lt, List, [], ◌∷◌, Option, Some, None, Contains, length, get_or, map, take, option_map, option_to_list, inl, inr, refl, sym, ap, subst, ◌∙◌, arith}
+use Rattle.std.proofs.lemmas.Int.{ints}
 use Rattle.std.proofs.lemmas.Bool.{and_parts}
 use Rattle.std.proofs.lemmas.Bool.Decides.{Decides-int_eq}
+use Rattle.std.proofs.lemmas.List.{length-map, length-take-le, map-append}
 use Rattle.std.specs.List.{AllWithin, find, slice_get}
 use Rattle.std.specs.List.Sorted.{IsPartitionedBy}
 use Rattle.std.specs.Ordering.{int_eq}
-use Rattle.rg_base.proofs.Lists.{Contains-cases, Contains-none, list_any-map}
+use Rattle.rg_base.proofs.Lists.{Contains-cases, Contains-none, list_any-map, take_next}
 use Rattle.rg_index.specs.Changes.{ids_differ, same_id}
 use Rattle.rg_index.specs.declared.form.Form.{Form}
 use Rattle.rg_compiled.specs.Kept.{Placed, are_rising, held_at, held_in, is_held, placed_from, rise_above, slot_form, slot_forms}
@@ -128,6 +130,18 @@ module _ {X : Type 0} where
       let e : n + 1 + length xs ≡ n + length (y ∷ xs) = omega arith in
       ap (λ ys. (let s : Placed X = record { ordinal = pos n; held = y } in s) ∷ ys)
       (placed_push (n + 1) xs x ∙ ap (λ (m : ℕ). placed_from (n + 1) xs ++ (let s : Placed X = record { ordinal = pos m; held = x } in s) ∷ []) e)
+
+  -- one more slot
+  pub placed_more : {Y : Type 0} (f : Y → X) (ys : List Y) (slots : List (Placed X)) (i : ℕ) (y : Y) (s : Placed X) → slots ≡ placed_from 0 (map f (take i ys))
+      → s ≡ (let s : Placed X = record { ordinal = pos i; held = f y } in s) → i < length ys → y ≡ get_or ys i y → slots ++ s ∷ [] ≡ placed_from 0 (map f (take (i + 1) ys))
+  placed_more f ys slots i y s so e l is =
+      let taken = length-take-le i ys (omega arith) in
+      let mapped = length-map (take i ys) f in
+      let last : 0 + length (map f (take i ys)) ≡ i = omega (arith, taken, mapped) in
+      (λ k. so k ++ e k ∷ [])
+      ∙ ap (λ (n : ℕ). placed_from 0 (map f (take i ys)) ++ (let s : Placed X = record { ordinal = pos n; held = f y } in s) ∷ []) (sym last)
+      ∙ sym (placed_push 0 (map f (take i ys)) (f y))
+      ∙ ap (placed_from 0) (sym (map-append f (take i ys) (y ∷ [])) ∙ ap (map f) (sym (take_next i ys y l is)))
 
   -- no two slots have one ordinal
   pub forms_differ : (form : X → Form) (slots : List (Placed X)) → are_rising slots ≡ true → ids_differ (slot_forms form slots) ≡ true

@@ -1,6 +1,6 @@
 -- What the slots of candidates hold.
-use Rattle.std.proofs.Common.{◌≡◌, ◌⊎◌, ◌<◌, ◌≤◌, ◌+◌, ◌++◌, ◌||◌, ◌&&◌, ℕ, ℤ, Bool, true, false, cond, List, [], ◌∷◌, Option, Some, None, Contains, length, map, option_map, option_to_list, inl, inr, refl, sym, ap, subst, ◌∙◌, arith}
-use Rattle.std.proofs.lemmas.Bool.{false≢true}
+use Rattle.std.proofs.Common.{◌≡◌, ◌⊎◌, ◌<◌, ◌≤◌, ◌+◌, ◌++◌, ◌||◌, ◌&&◌, ℕ, ℤ, Bool, true, false, cond, List, [], ◌∷◌, Option, Some, None, MatchOption, Contains, length, map, option_map, option_to_list, inl, inr, refl, sym, ap, subst, ◌∙◌, arith}
+use Rattle.std.proofs.lemmas.Bool.{and_parts, false≢true}
 use Rattle.std.proofs.lemmas.List.{length-append}
 use Rattle.std.proofs.lemmas.Option.{none-some, same_Some}
 use Rattle.std.specs.List.{find, list_all, list_any}
@@ -59,3 +59,21 @@ module _ {X : Type 0} (slots : List (Placed X)) where
   -- an ordinal of a form of a slot is held
   pub is_there : (ordinal : ℤ) (s : Placed X) → Contains slots s → s.ordinal ≡ ordinal → is_held slots ordinal ≡ true
   is_there ordinal s there e = any_from (λ (s : Placed X). int_eq s.ordinal ordinal) slots s there (same_ordinal s.ordinal ordinal e)
+
+  -- the slot of the first ordinal comes next
+  pub next_held : (o : ℤ) (rest : List ℤ) → list_all (is_held slots) (o ∷ rest) ≡ true → (result : Option X) → result ≡ held_at slots o
+      → MatchOption result ((all_held slots (o ∷ rest) ≡ []) × (all_held slots rest ≡ [])) (λ (x : X). all_held slots (o ∷ rest) ≡ x ∷ all_held slots rest)
+  next_held o rest held result is =
+      let x = held_there o (and_parts (is_held slots o) (list_all (is_held slots) rest) held).0 in
+      subst (λ (r : Option X). MatchOption r ((all_held slots (o ∷ rest) ≡ []) × (all_held slots rest ≡ [])) (λ (x : X). all_held slots (o ∷ rest) ≡ x ∷ all_held slots rest)) (sym (is ∙ x.1))
+          (ap (λ (p : Option X). option_to_list p ++ all_held slots rest) x.1)
+
+  pub rest_held : (o : ℤ) (rest : List ℤ) → list_all (is_held slots) (o ∷ rest) ≡ true → list_all (is_held slots) rest ≡ true
+  rest_held o rest held = (and_parts (is_held slots o) (list_all (is_held slots) rest) held).1
+
+-- where a slot holds something, there is one
+pub held_some : {X : Type 0} (ordinal : ℤ) (slots : List (Placed X)) (x : X) → held_at slots ordinal ≡ Some x → is_held slots ordinal ≡ true
+held_some {X = X} ordinal slots x e =
+    let s = found_held slots (find (λ (s : Placed X). int_eq s.ordinal ordinal) slots) x e in
+    let there = find_contained (λ (s : Placed X). int_eq s.ordinal ordinal) slots s.0 s.1 in
+    any_from (λ (s : Placed X). int_eq s.ordinal ordinal) slots s.0 there.0 there.1

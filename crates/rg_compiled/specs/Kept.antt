@@ -1,5 +1,5 @@
 -- For proofs alone: what a set keeps. Each policy or row stands in a slot with an ordinal, which is the id of its form in the index.
-use Rattle.std.specs.Prelude.{◌≡◌, ℕ, ℤ, pos, ◌+◌, int_lt, Bool, true, false, ◌&&◌, ◌||◌, not, if◌then◌else◌, List, [], ◌∷◌, filter, flat_map, fold, map, Option, Some, None, option_map, option_to_list}
+use Rattle.std.specs.Prelude.{◌≡◌, ℕ, ℤ, pos, ◌+◌, int_lt, Bool, true, false, ◌&&◌, ◌||◌, not, if◌then◌else◌, List, [], ◌∷◌, ◌++◌, filter, flat_map, fold, map, Option, Some, None, IfSome, Contains, length, option_map, option_to_list}
 use Rattle.std.specs.List.{find, list_all, list_any}
 use Rattle.std.specs.Int.{int_min}
 use Rattle.std.specs.Ordering.{int_eq}
@@ -12,7 +12,8 @@ use Rattle.rg_evalr.specs.declared.frame.Frame.{Frame}
 use Rattle.rg_evalr.specs.declared.frame.Side.{Side}
 use Rattle.rg_policy.specs.declared.request.Element.{Element}
 use Rattle.rg_policy.specs.declared.request.Resource.{Resource}
-use Rattle.rg_index.specs.Candidates.{candidates}
+use Rattle.rg_resmatch.specs.Tests.{some_lies}
+use Rattle.rg_index.specs.Candidates.{bound, candidates}
 use Rattle.rg_index.specs.declared.form.Form.{Form}
 use Rattle.rg_compiled.specs.Bounds.{policy_form, row_form}
 use Rattle.rg_compiled.specs.declared.row_visits.Least.{Least}
@@ -76,6 +77,14 @@ is_held slots ordinal = list_any (λ s. int_eq s.ordinal ordinal) slots
 abbrev pub all_held : {X : Type 0} → List (Placed X) → List ℤ → List X
 all_held slots ordinals = flat_map (λ ordinal. option_to_list (held_at slots ordinal)) ordinals
 
+-- the ordinals are those of the slots that may lie on a resource: each slot that does is among them
+pub record AreFound {X : Type 0} (form : X → Form) (shelf : Shelved X) (elements : List Element) (ordinals : List ℤ) : Type 0 where
+  pub rising : are_rising shelf.slots ≡ true
+  pub held : list_all (is_held shelf.slots) ordinals ≡ true
+  pub few : length ordinals ≡ bound shelf.def (held_forms form shelf.slots) elements
+  pub all : (s : Placed X) (user : List ℕ) → Contains shelf.slots s
+      → some_lies shelf.def (form s.held).maps.items (form s.held).reach elements user ≡ true → Contains ordinals s.ordinal
+
 -- ---- rows, each at most once: in the order of their slots
 
 -- the ordinal is above the last one
@@ -129,5 +138,15 @@ abbrev pub AreRows : Shelved RowSource → Type 0
 AreRows shelf = held_in shelf.slots ≡ map (row_source shelf.def) (rows_in shelf.slots)
 
 -- the rows that are left for a resource, after the one of this ordinal
-abbrev pub rows_left : Option ℤ → Shelved RowSource → Resource → List RowSource
-rows_left last shelf resource = left_after last (found_in row_source_form shelf resource.elements.items) shelf.slots
+abbrev pub rows_after : Option ℤ → Shelved RowSource → Resource → List RowSource
+rows_after last shelf resource = left_after last (found_in row_source_form shelf resource.elements.items) shelf.slots
+
+-- the row of this ordinal, where it is given, and those that are left after it
+abbrev pub rows_from : Option ℤ → Shelved RowSource → Resource → List RowSource
+rows_from None shelf resource = []
+rows_from (Some next) shelf resource = option_to_list (held_at shelf.slots next) ++ rows_after (Some next) shelf resource
+
+-- the next row is there, and the last one if there are no more
+pub record IsAhead (shelf : Shelved RowSource) (resource : Resource) (next : Least) : Type 0 where
+  pub held : IfSome next.ordinal (λ ordinal. is_held shelf.slots ordinal ≡ true)
+  pub alone : next.more ≡ false → IfSome next.ordinal (λ ordinal. rows_after (Some ordinal) shelf resource ≡ [])

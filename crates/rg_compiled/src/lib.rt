@@ -19,5 +19,3 @@ pub use row_visits::{CompiledRow, RowVisits};
 pub use rows::RowSet;
 pub use visits::{Compiled, Visits};
 
-#[cfg(test)]
-mod tests;

@@ -1,5 +1,5 @@
 // The policies of one side, compiled and filed.
-ghost use Rattle.std.specs.Prelude.{◌≡◌, ◌==◌, ◌≤◌, ℕ, List, Contains, None, IfOk, fold, length, map, sum_by, true};
+ghost use Rattle.std.specs.Prelude.{◌≡◌, ◌==◌, ◌≤◌, ℕ, List, Contains, None, IfOk, fold, length, map, pos, sum_by, true};
 ghost use Rattle.std.specs.List.{list_all};
 ghost use Rattle.std.specs.Str.{chars};
 ghost use Rattle.rg_base.specs.Listed.{listed};
@@ -9,6 +9,7 @@ ghost use Rattle.rg_policy.specs.declared.policy.Policy.{Policy};
 ghost use Rattle.rg_defs.specs.Rules.{def_fault};
 ghost use Rattle.rg_resmatch.specs.Tests.{some_lies, tag_elements};
 ghost use Rattle.rg_resmatch.specs.declared.reach.Reach.TheVariants.{Exact};
+ghost use Rattle.rg_evalr.specs.Compiling.{policy_fault};
 ghost use Rattle.rg_evalr.specs.Frames.{def_of};
 ghost use Rattle.rg_evalr.specs.Sources.{Source};
 ghost use Rattle.rg_facts.specs.Sound.{passes, same_id};
@@ -20,7 +21,7 @@ ghost use Rattle.rg_compiled.specs.Seen.{source};
 
 use crate::held::HeldPolicy;
 use crate::shelf::Shelf;
-use crate::slots::Slot;
+use crate::slots::{Slot, ordinal_of};
 use crate::visits::Visits;
 use rg_base::{Ledger, NoMemory, Seq, Steps, TryCopy};
 use rg_cmd::PolicyChange;
@@ -65,7 +66,26 @@ pub(crate) fn def_of(frame: &Frame, side: Side) -> &ServiceDef
     }
 }
 
-/// The policies in slots, counted from 0. More of them than there are ordinals are want of memory.
+/// The policy in the slot of this place.
+fn compile_slot<L: Ledger>(
+    alloc: Global,
+    frame: &Frame,
+    side: Side,
+    place: usize,
+    policy: &Policy,
+    steps: &mut Steps<L>,
+) -> Result<Slot<HeldPolicy>, NoMemory>
+    requires lawful { def_fault (def_of frame.now side) ≡ None }
+    requires rules { policy_fault frame.now side policy.now ≡ None }
+    ensures slot { IfOk result (λ s. s ≡ record { ordinal = pos place; held = source frame.now side policy.now }) }
+    ensures steps { WorkWithin 1 0 steps.old steps.new }
+{
+    let ordinal = ordinal_of(place)?;
+    let held = HeldPolicy::compile(alloc, frame, side, policy, steps)?;
+    Slot::new(alloc, ordinal, held)
+}
+
+/// The policies in slots, counted from 0.
 fn compile_policies<L: Ledger>(
     alloc: Global,
     frame: &Frame,
@@ -80,11 +100,8 @@ fn compile_policies<L: Ledger>(
 {
     let mut slots = Vec::new(alloc);
     for (place, policy) in policies.iter().enumerate() {
-        let Ok(ordinal) = i64::try_from(place) else {
-            return Err(NoMemory);
-        };
-        let held = HeldPolicy::compile(alloc, frame, side, policy, steps)?;
-        slots.push(Slot::new(alloc, ordinal, held)?)?;
+        let slot = compile_slot(alloc, frame, side, place, policy, steps)?;
+        slots.push(slot)?;
     }
     Ok(slots)
 }
@@ -147,14 +164,14 @@ impl PolicySet {
     pub fn law_of_definition(&self)
         ensures { def_fault (def_of self.now.frame self.now.side) ≡ None }
     {
-        self.shelf.index.law_of_forms();
+        self.shelf.law_of_definition();
     }
 
     /// Whether there is no policy.
     pub fn is_empty(&self) -> bool
         ensures { result ≡ (length self.now.policies == 0) }
     {
-        self.shelf.slots.is_empty()
+        self.shelf.as_slice().is_empty()
     }
 
     /// The policies of which one may lie on the resource, each with its evaluator. No memory is taken.
@@ -164,7 +181,7 @@ impl PolicySet {
         ensures all { (p : Policy) (user : List ℕ) → Contains self.now.policies p
             → some_lies (def_of self.now.frame self.now.side) (maps_of p) Exact resource.now.elements.items user ≡ true → Contains result (source self.now.frame self.now.side p) }
     {
-        Visits::of(&self.shelf.slots, self.shelf.candidates(resource))
+        Visits::of(self.shelf.as_slice(), self.shelf.candidates(resource))
     }
 
     /// As `visit`, for a resource whose one element has the level `tag` and this value.
@@ -174,13 +191,13 @@ impl PolicySet {
         ensures all { (p : Policy) (user : List ℕ) → Contains self.now.policies p
             → some_lies (def_of self.now.frame self.now.side) (maps_of p) Exact (tag_elements (chars tag.now)) user ≡ true → Contains result (source self.now.frame self.now.side p) }
     {
-        Visits::of(&self.shelf.slots, self.shelf.candidates_tag(tag))
+        Visits::of(self.shelf.as_slice(), self.shelf.candidates_tag(tag))
     }
 
     /// Copies of the policies.
     pub fn copies(&self, alloc: Global) -> Result<Seq<Policy>, NoMemory>
         ensures { IfOk result (λ list. list ≡ listed self.now.policies) }
     {
-        policies_of(alloc, &self.shelf.slots)
+        policies_of(alloc, self.shelf.as_slice())
     }
 }

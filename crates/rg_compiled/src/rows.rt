@@ -1,5 +1,5 @@
 // The tag rows of a service, compiled and filed.
-ghost use Rattle.std.specs.Prelude.{◌≡◌, ◌==◌, ◌≤◌, ℕ, List, [], Contains, None, IfOk, fold, length, map, sum_by, true};
+ghost use Rattle.std.specs.Prelude.{◌≡◌, ◌==◌, ◌≤◌, ℕ, List, [], Contains, None, IfOk, fold, length, map, pos, sum_by, true};
 ghost use Rattle.std.specs.List.{list_all};
 ghost use Rattle.std.specs.Ordering.{int_eq};
 ghost use Rattle.rg_base.specs.Listed.{listed};
@@ -20,7 +20,7 @@ ghost use Rattle.rg_compiled.specs.Seen.{RowSource, row_source};
 use crate::held::HeldRow;
 use crate::row_visits::RowVisits;
 use crate::shelf::Shelf;
-use crate::slots::Slot;
+use crate::slots::{Slot, ordinal_of};
 use rg_base::{Ledger, NoMemory, Seq, Steps, TryCopy};
 use rg_cmd::TagChange;
 use rg_defs::ServiceDef;
@@ -47,7 +47,23 @@ impl Model for RowSet {
     ghost invariant = { λ s. AreRows s.shelf };
 }
 
-/// The rows in slots, counted from 0. More of them than there are ordinals are want of memory.
+/// The row in the slot of this place.
+fn compile_slot(
+    alloc: Global,
+    def: &ServiceDef,
+    place: usize,
+    row: &TagRow,
+) -> Result<Slot<HeldRow>, NoMemory>
+    requires lawful { def_fault def.now ≡ None }
+    requires fits { tagged_fit def.now row.now.resources.items ≡ true }
+    ensures { IfOk result (λ s. s ≡ record { ordinal = pos place; held = row_source def.now row.now }) }
+{
+    let ordinal = ordinal_of(place)?;
+    let held = HeldRow::compile(alloc, def, row)?;
+    Slot::new(alloc, ordinal, held)
+}
+
+/// The rows in slots, counted from 0.
 fn compile_rows(
     alloc: Global,
     def: &ServiceDef,
@@ -59,11 +75,8 @@ fn compile_rows(
 {
     let mut slots = Vec::new(alloc);
     for (place, row) in rows.iter().enumerate() {
-        let Ok(ordinal) = i64::try_from(place) else {
-            return Err(NoMemory);
-        };
-        let held = HeldRow::compile(alloc, def, row)?;
-        slots.push(Slot::new(alloc, ordinal, held)?)?;
+        let slot = compile_slot(alloc, def, place, row)?;
+        slots.push(slot)?;
     }
     Ok(slots)
 }
@@ -120,14 +133,14 @@ impl RowSet {
     pub fn law_of_definition(&self)
         ensures { def_fault self.now.def ≡ None }
     {
-        self.shelf.index.law_of_forms();
+        self.shelf.law_of_definition();
     }
 
     /// Whether there is no row.
     pub fn is_empty(&self) -> bool
         ensures { result ≡ (length self.now.rows == 0) }
     {
-        self.shelf.slots.is_empty()
+        self.shelf.as_slice().is_empty()
     }
 
     /// The rows of which one may lie on the resource, each at most once, with its matcher. No memory is taken.
@@ -145,6 +158,6 @@ impl RowSet {
     pub fn copies(&self, alloc: Global) -> Result<Seq<TagRow>, NoMemory>
         ensures { IfOk result (λ list. list ≡ listed self.now.rows) }
     {
-        rows_of(alloc, &self.shelf.slots)
+        rows_of(alloc, self.shelf.as_slice())
     }
 }

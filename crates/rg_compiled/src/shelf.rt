@@ -1,13 +1,12 @@
 // Slots with the index of their forms.
-ghost use Rattle.std.specs.Prelude.{◌≡◌, ℕ, List, Contains, None, IfOk, length, true};
-ghost use Rattle.std.specs.List.{list_all, sum_by};
+ghost use Rattle.std.specs.Prelude.{◌≡◌, None, IfOk, true};
+ghost use Rattle.std.specs.List.{sum_by};
 ghost use Rattle.std.specs.Str.{chars};
 ghost use Rattle.rg_defs.specs.Rules.{def_fault};
-ghost use Rattle.rg_resmatch.specs.Tests.{some_lies, tag_elements};
-ghost use Rattle.rg_index.specs.Candidates.{bound};
+ghost use Rattle.rg_resmatch.specs.Tests.{tag_elements};
 ghost use Rattle.rg_index.specs.Changes.{forms_fit};
 ghost use Rattle.rg_index.specs.Filing.{EditsWithin, pairs};
-ghost use Rattle.rg_compiled.specs.Kept.{Placed, are_rising, found_in, held_forms, is_held, slot_forms};
+ghost use Rattle.rg_compiled.specs.Kept.{AreFound, are_rising, found_in, slot_forms};
 
 use crate::held::Fileable;
 use crate::slots::{Slot, forms_of};
@@ -55,14 +54,25 @@ impl<H: Fileable> Shelf<H> {
         Ok(Shelf { slots, index })
     }
 
+    /// The slots.
+    pub(crate) fn as_slice(&self) -> &[Slot<H>]
+        ensures slots { result.now ≡ self.now.slots }
+        ensures rising { are_rising self.now.slots ≡ true }
+    {
+        &self.slots
+    }
+
+    /// The law of the definition: it passes its rules. The call does nothing.
+    pub(crate) fn law_of_definition(&self)
+        ensures { def_fault self.now.def ≡ None }
+    {
+        self.index.law_of_forms();
+    }
+
     /// The ordinals of slots of which one may lie on the resource. One comes as often as its form is filed there.
     pub(crate) fn candidates<'a>(&'a self, resource: &'a Resource) -> Candidates<'a>
         ensures exact { result ≡ found_in H.form_of self.now resource.now.elements.items }
-        ensures rising { are_rising self.now.slots ≡ true }
-        ensures held { list_all (is_held self.now.slots) result ≡ true }
-        ensures few { length result ≡ bound self.now.def (held_forms H.form_of self.now.slots) resource.now.elements.items }
-        ensures all { (s : Placed H) (user : List ℕ) → Contains self.now.slots s
-            → some_lies self.now.def (H.form_of s.held).maps.items (H.form_of s.held).reach resource.now.elements.items user ≡ true → Contains result s.ordinal }
+        ensures found { AreFound H.form_of self.now resource.now.elements.items result }
     {
         candidates_are_of_forms();
         self.index.candidates(resource)
@@ -70,11 +80,7 @@ impl<H: Fileable> Shelf<H> {
 
     /// As `candidates`, for a resource whose one element has the level `tag` and this value.
     pub(crate) fn candidates_tag<'a>(&'a self, tag: &'a str) -> Candidates<'a>
-        ensures rising { are_rising self.now.slots ≡ true }
-        ensures held { list_all (is_held self.now.slots) result ≡ true }
-        ensures few { length result ≡ bound self.now.def (held_forms H.form_of self.now.slots) (tag_elements (chars tag.now)) }
-        ensures all { (s : Placed H) (user : List ℕ) → Contains self.now.slots s
-            → some_lies self.now.def (H.form_of s.held).maps.items (H.form_of s.held).reach (tag_elements (chars tag.now)) user ≡ true → Contains result s.ordinal }
+        ensures { AreFound H.form_of self.now (tag_elements (chars tag.now)) result }
     {
         candidates_are_of_forms();
         self.index.candidates_tag(tag)

@@ -1,5 +1,5 @@
 // Slots in order, each with an ordinal of the set's own, by which it is found.
-ghost use Rattle.std.specs.Prelude.{◌≡◌, ◌∷◌, IfOk, [], int_lt, option_map, option_to_list, true};
+ghost use Rattle.std.specs.Prelude.{◌≡◌, ◌∷◌, IfOk, [], int_lt, pos, option_map, option_to_list, true};
 ghost use Rattle.std.specs.List.{slice_get};
 ghost use Rattle.rg_compiled.specs.Kept.{are_rising, held_at, slot_form, slot_forms};
 
@@ -46,6 +46,16 @@ impl<H: Drop> Slot<H> {
             ordinal: self.ordinal,
             held,
         })
+    }
+}
+
+/// The ordinal of the slot at this place of a list that is counted from 0. Where there is none it is want of memory.
+pub(crate) fn ordinal_of(place: usize) -> Result<i64, NoMemory>
+    ensures { IfOk result (λ ordinal. ordinal ≡ pos place) }
+{
+    match i64::try_from(place) {
+        Ok(ordinal) => Ok(ordinal),
+        Err(_) => Err(NoMemory),
     }
 }
 
