@@ -9,7 +9,7 @@ use Rattle.std.proofs.lemmas.List.Elements.{Contains-append_right}
 use Rattle.std.proofs.lemmas.List.Sums.{sum_by-cons}
 use Rattle.std.specs.List.{cons_option, list_all, list_any, sum_by}
 use Rattle.std.specs.Ordering.{int_eq}
-use Rattle.rg_base.specs.Counts.{Counts, one_compile}
+use Rattle.rg_base.specs.Counts.{Counts}
 use Rattle.rg_base.proofs.Lists.{Contains-first, drop_next}
 use Rattle.rg_defs.specs.declared.service_def.ServiceDef.{ServiceDef}
 use Rattle.rg_index.specs.Changes.{form_fits, same_id}
@@ -21,6 +21,7 @@ use Rattle.rg_compiled.specs.Plan.{is_kept, left_of, lost, put_at, put_there, st
 use Rattle.rg_compiled.specs.declared.plan.Fate.{Fate}
 use Rattle.rg_compiled.specs.declared.plan.Fate.TheVariants.{Stays, Goes, Becomes}
 use Rattle.rg_compiled.specs.declared.plan.Place.{Place}
+use Rattle.rg_compiled.proofs.Counting.{more_allowed}
 use Rattle.rg_compiled.proofs.Rising.{below_not_same, less_trans}
 
 -- ---- numbers
@@ -38,6 +39,10 @@ abbrev pub Above : Option ℤ → ℤ → Type 0
 Above None n = Unit {0}
 Above (Some m) n = int_lt m n ≡ true
 
+above_trans : (least : Option ℤ) (m n : ℤ) → Above least m → int_lt m n ≡ true → Above least n
+above_trans None m n above less = tt
+above_trans (Some l) m n above less = less_trans l m n above less
+
 module _ {H : Type 0} where
   up_parts : (least : Option ℤ) (s : Placed H) (slots : List (Placed H)) → rise_above least (s ∷ slots) ≡ true → Above least s.ordinal × (rise_above (Some s.ordinal) slots ≡ true)
   up_parts None s slots up = (tt, up)
@@ -46,10 +51,6 @@ module _ {H : Type 0} where
   up_joined : (least : Option ℤ) (s : Placed H) (slots : List (Placed H)) → Above least s.ordinal → rise_above (Some s.ordinal) slots ≡ true → rise_above least (s ∷ slots) ≡ true
   up_joined None s slots above up = up
   up_joined (Some m) s slots above up = λ i. above i && up i
-
-  above_trans : (least : Option ℤ) (m n : ℤ) → Above least m → int_lt m n ≡ true → Above least n
-  above_trans None m n above less = tt
-  above_trans (Some l) m n above less = less_trans l m n above less
 
   -- they rise above a lesser one
   weaker : (least : Option ℤ) (n : ℤ) (slots : List (Placed H)) → Above least n → rise_above (Some n) slots ≡ true → rise_above least slots ≡ true
@@ -70,18 +71,6 @@ module _ {H : Type 0} where
   pub rises_more : (slots : List (Placed H)) (s : Placed H) → are_rising slots ≡ true → are_below s.ordinal slots ≡ true → are_rising (slots ++ s ∷ []) ≡ true
   rises_more slots s up below = rises_on None slots s tt up below
 
-  -- and the ordinals are below the next one
-  still_below : (n : ℤ) (slots : List (Placed H)) → are_below n slots ≡ true → are_below (n +ℤ pos 1) slots ≡ true
-  still_below n [] below = refl
-  still_below n (s ∷ slots) below =
-      let parts = and_parts (int_lt s.ordinal n) (are_below n slots) below in
-      λ i. below_next s.ordinal n parts.0 i && still_below n slots parts.1 i
-
-  pub below_more : (slots : List (Placed H)) (s : Placed H) → are_below s.ordinal slots ≡ true → are_below (s.ordinal +ℤ pos 1) (slots ++ s ∷ []) ≡ true
-  below_more slots s below =
-      list_all-append (λ t. int_lt t.ordinal (s.ordinal +ℤ pos 1)) slots (s ∷ [])
-      ∙ (λ i. still_below s.ordinal slots below i && (own_next s.ordinal i && true))
-
   last_above : (n : ℤ) (slots : List (Placed H)) (s : Placed H) → rise_above (Some n) (slots ++ s ∷ []) ≡ true → int_lt n s.ordinal ≡ true
   last_above n [] s up = (and_parts (int_lt n s.ordinal) true up).0
   last_above n (t ∷ slots) s up =
@@ -94,6 +83,10 @@ module _ {H : Type 0} where
   below_last least (t ∷ slots) s up =
       let parts = up_parts least t (slots ++ s ∷ []) up in
       λ i. below_next t.ordinal s.ordinal (last_above t.ordinal slots s parts.1) i && below_last (Some t.ordinal) slots s parts.1 i
+
+  pub next_below : (slots rest : List (Placed H)) (last : Placed H) → slots ≡ rest ++ last ∷ [] → are_rising slots ≡ true → are_below (last.ordinal +ℤ pos 1) slots ≡ true
+  next_below slots rest last is up =
+      subst (λ (l : List (Placed H)). are_below (last.ordinal +ℤ pos 1) l ≡ true) (sym is) (below_last None rest last (subst (λ (l : List (Placed H)). are_rising l ≡ true) is up))
 
   -- no form of the slots has an ordinal above them
   pub none_named : (form : H → Form) (new : Form) (slots : List (Placed H)) → are_below new.id slots ≡ true → list_any (same_id new) (slot_forms form slots) ≡ false
@@ -119,17 +112,6 @@ module _ {X H : Type 0} (hold : X → H) where
   pub moved_rise : (ps : List (Place X)) (slots : List (Placed H)) → are_rising slots ≡ true → are_rising (moved_slots hold ps slots) ≡ true
   moved_rise ps slots up = moved_up None ps slots up
 
-  pub moved_below : (n : ℤ) (ps : List (Place X)) (slots : List (Placed H)) → are_below n slots ≡ true → are_below n (moved_slots hold ps slots) ≡ true
-  moved_below n [] slots below = refl
-  moved_below n (p ∷ ps) [] below = refl
-  moved_below n (p ∷ ps) (s ∷ slots) below =
-      let parts = and_parts (int_lt s.ordinal n) (are_below n slots) below in
-      at p.fate parts.0 (moved_below n ps slots parts.1) where
-    at : (f : Fate X) → int_lt s.ordinal n ≡ true → are_below n (moved_slots hold ps slots) ≡ true → are_below n (cons_option (moved_slot hold f s) (moved_slots hold ps slots)) ≡ true
-    at Stays less rest = λ i. less i && rest i
-    at Goes less rest = rest
-    at (Becomes x) less rest = λ i. less i && rest i
-
   pub moved_held : (ps : List (Place X)) (slots : List (Placed H)) (xs : List X) → held_in slots ≡ map hold xs → held_in (moved_slots hold ps slots) ≡ map hold (left_of ps xs)
   moved_held [] slots xs is = refl
   moved_held (p ∷ ps) [] [] is = refl
@@ -149,8 +131,8 @@ option_added ms None rest = ap (λ l. l ++ rest) (append-nil ms)
 option_added ms (Some a) rest = append_assoc ms (a ∷ []) rest
 
 option_sum : {A : Type 0} (w : A → ℕ) (o : Option A) (rest : List A) → sum_by w (cons_option o rest) ≡ sum_by w (option_to_list o) + sum_by w rest
-option_sum w None rest = refl
-option_sum w (Some a) rest = sum_by-cons w a rest ∙ ap (λ n. n + sum_by w rest) (sym (sum_by-cons w a []))
+option_sum w None rest = omega arith
+option_sum w (Some a) rest = let all = sum_by-cons w a rest in let one = sum_by-cons w a [] in omega (arith, all, one)
 
 option_all : {A : Type 0} (q : A → Bool) (o : Option A) (rest : List A) → list_all q (cons_option o rest) ≡ true → (list_all q (option_to_list o) ≡ true) × (list_all q rest ≡ true)
 option_all q None rest h = (refl, h)
@@ -225,11 +207,12 @@ work_done n m p q first now left =
     let edited = left.edited in
     record { compiled = omega (arith, compiled); edited = omega (arith, edited); tries = left.tries }
 
-pub one_work : (a b : Counts) → b ≡ one_compile a → WorkWithin 1 0 a b
-one_work a b is =
-    let compiles = ap (λ (c : Counts). c.compiles) is in
-    let edits = ap (λ (c : Counts). c.edits) is in
-    record { compiled = omega (arith, compiles); edited = omega (arith, edits); tries = ap (λ (c : Counts). c.tries) is }
+-- as many edits as equal numbers say
+pub as_many : {n m p : ℕ} {a b : Counts} → m ≡ p → WorkWithin n m a b → WorkWithin n p a b
+as_many {n = n} {a = a} {b = b} is work = subst (λ k. WorkWithin n k a b) is work
+
+pub compiled_alone : {n m : ℕ} {a b : Counts} → WorkWithin n 0 a b → WorkWithin n m a b
+compiled_alone {n = n} {m = m} {a = a} {b = b} work = more_allowed n 0 n m a b (omega arith) (omega arith) work
 
 -- ---- one thing that is compiled
 
@@ -260,17 +243,15 @@ module _ {X H : Type 0} (ps : List (Place X)) (slots : List (Placed H)) (n : ℕ
 
 -- ---- one thing after the other at the end
 
-module _ {X H : Type 0} (xs : List X) (n : ℕ) (x : X) (on : n < length xs) (is_x : x ≡ get_or xs n x) where
+module _ {X : Type 0} (xs : List X) (n : ℕ) (x : X) (on : n < length xs) (is_x : x ≡ get_or xs n x) where
   left_items : drop n xs ≡ x ∷ drop (n + 1) xs
   left_items = drop_next n xs x on is_x
 
-  pub held_on : (hold : X → H) (slots new : List (Placed H)) (all : List H) (ordinal : ℤ) → new ≡ slots ++ record { ordinal = ordinal; held = hold x } ∷ []
-      → held_in slots ++ map hold (drop n xs) ≡ all → held_in new ++ map hold (drop (n + 1) xs) ≡ all
-  held_on hold slots new all ordinal is so_far =
-      ap (λ l. held_in l ++ map hold (drop (n + 1) xs)) is
-      ∙ ap (λ l. l ++ map hold (drop (n + 1) xs)) (map-append (λ (s : Placed H). s.held) slots (record { ordinal = ordinal; held = hold x } ∷ []))
-      ∙ append_assoc (held_in slots) (hold x ∷ []) (map hold (drop (n + 1) xs))
-      ∙ ap (λ l. held_in slots ++ map hold l) (sym left_items)
+  pub held_on : {H : Type 0} (hold : X → H) (held new all : List H) → new ≡ held ++ hold x ∷ [] → held ++ map hold (drop n xs) ≡ all → new ++ map hold (drop (n + 1) xs) ≡ all
+  held_on hold held new all is so_far =
+      ap (λ l. l ++ map hold (drop (n + 1) xs)) is
+      ∙ append_assoc held (hold x ∷ []) (map hold (drop (n + 1) xs))
+      ∙ ap (λ l. held ++ map hold l) (sym left_items)
       ∙ so_far
 
   pub items_pass : (q : X → Bool) → list_all q (drop n xs) ≡ true → (q x ≡ true) × (list_all q (drop (n + 1) xs) ≡ true)

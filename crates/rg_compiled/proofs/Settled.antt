@@ -1,6 +1,7 @@
 -- Sets after a plan of changes.
 use Rattle.std.proofs.Common.{◌≡◌, ◌&&◌, ◌≤◌, ◌+◌, ◌++◌, ℕ, ℤ, Bool, true, false, not, cond, List, [], ◌∷◌, map, fold, length, Option, Some, None, refl, sym, ap, subst, ◌∙◌, arith}
 use Rattle.std.proofs.lemmas.Bool.{and_parts}
+use Rattle.std.proofs.lemmas.List.{length-map}
 use Rattle.std.proofs.lemmas.List.Folds.{list_all-append}
 use Rattle.std.proofs.lemmas.List.Sums.{sum_by-cons}
 use Rattle.std.proofs.lemmas.Bool.Decides.{Decides-int_eq, same_from_decides}
@@ -25,8 +26,9 @@ use Rattle.rg_evalr.specs.declared.frame.Frame.{Frame}
 use Rattle.rg_evalr.specs.declared.frame.Side.{Side}
 use Rattle.rg_facts.specs.Sound.{passes, row_ids, same_id}
 use Rattle.rg_index.specs.Changes.{form_fits}
+use Rattle.rg_index.specs.Filing.{pairs}
 use Rattle.rg_compiled.specs.Bounds.{WorkWithin, made_on, pairs_on, policy_form, row_form, row_pairs, side_after}
-use Rattle.rg_compiled.specs.Kept.{Placed, held_in, policies_in, row_source_form, rows_in, source_form}
+use Rattle.rg_compiled.specs.Kept.{ArePolicies, AreRows, Placed, Shelved, held_in, policies_in, row_source_form, rows_in, source_form}
 use Rattle.rg_compiled.specs.Moved.{edits_of, is_compiled, policy_id, policy_pairs, row_form_pairs, row_id}
 use Rattle.rg_compiled.specs.Plan.{AllSuit, Planned, is_kept, left_of, lost, made_in, plan_of, put_at, put_there, standing, stood}
 use Rattle.rg_compiled.specs.Seen.{RowSource, row_source, source}
@@ -205,3 +207,68 @@ module _ (def : ServiceDef) where
           edited = omega (arith, filed, weighs, all_weighed, gone);
           tries = work.tries;
         }
+
+-- ---- sets with the policies or rows of these slots, and a plan of changes
+
+module _ (frame : Frame) (side : Side) (shelf : Shelved Source) (are : ArePolicies frame side shelf) (changes : List PolicyChange) (def : ServiceDef) (same : def ≡ def_of frame side)
+  (p : Planned Policy) (is : p ≡ planned frame side (policies_in shelf.slots) changes) where
+  pub policies_long : length p.places ≡ length shelf.slots
+  policies_long =
+      ap (λ (q : Planned Policy). length q.places) is ∙ policies_placed frame side (policies_in shelf.slots) changes
+      ∙ length-map (λ (s : Placed Source). s.held.policy) shelf.slots
+
+  pub policies_fitting : list_all (passes frame side) (fold (side_after side) (policies_in shelf.slots) changes) ≡ true
+      → list_all (is_compiled (passes frame side) def source_form (source frame side)) (made_in p) ≡ true
+  policies_fitting rules =
+      (λ i. list_all (is_compiled (passes frame side) (same i) source_form (source frame side)) (made_in (is i))) ∙ policies_compile frame side (policies_in shelf.slots) changes rules
+
+  pub policies_counted : all_distinct same_id (fold (side_after side) (policies_in shelf.slots) changes) ≡ true → (a b : Counts)
+      → WorkWithin (sum_by (λ x. 1) (made_in p)) (lost (λ (s : Placed Source). pairs def (source_form s.held)) p.places shelf.slots + sum_by (λ x. pairs def (source_form (source frame side x))) (made_in p)) a b
+      → WorkWithin (made_on side changes) (pairs_on (def_of frame side) side (policies_in shelf.slots) changes) a b
+  policies_counted apart a b work =
+      policies_work frame side (policies_in shelf.slots) changes shelf.slots refl apart a b
+      (subst (λ (q : Planned Policy). WorkWithin (sum_by (λ x. 1) (made_in q)) (lost (λ (s : Placed Source). policy_pairs (def_of frame side) s.held.policy) q.places shelf.slots + sum_by (λ x. policy_pairs (def_of frame side) x) (made_in q)) a b) is
+      (subst (λ (d : ServiceDef). WorkWithin (sum_by (λ x. 1) (made_in p)) (lost (λ (s : Placed Source). pairs d (source_form s.held)) p.places shelf.slots + sum_by (λ x. pairs d (source_form (source frame side x))) (made_in p)) a b) same work))
+
+  module _ (s : Shelved Source) (s_def : s.def ≡ def) (s_held : (xs : List Policy) → held_in shelf.slots ≡ map (source frame side) xs → held_in s.slots ≡ map (source frame side) (standing p xs)) where
+    all_held : held_in s.slots ≡ map (source frame side) (fold (side_after side) (policies_in shelf.slots) changes)
+    all_held =
+        s_held (policies_in shelf.slots) are.sources
+        ∙ ap (map (source frame side)) (ap (λ (q : Planned Policy). standing q (policies_in shelf.slots)) is ∙ policies_stand frame side (policies_in shelf.slots) changes)
+
+    pub policies_after_all : policies_in s.slots ≡ fold (side_after side) (policies_in shelf.slots) changes
+    policies_after_all = held_policies frame side s.slots (fold (side_after side) (policies_in shelf.slots) changes) all_held
+
+    pub are_policies_after : ArePolicies frame side s
+    are_policies_after = record { def = s_def ∙ same; sources = all_held ∙ ap (map (source frame side)) (sym policies_after_all) }
+
+module _ (shelf : Shelved RowSource) (are : AreRows shelf) (changes : List TagChange) (p : Planned TagRow) (is : p ≡ planned_rows shelf.def (rows_in shelf.slots) changes) where
+  pub rows_long : length p.places ≡ length shelf.slots
+  rows_long =
+      ap (λ (q : Planned TagRow). length q.places) is ∙ rows_placed shelf.def (rows_in shelf.slots) changes
+      ∙ length-map (λ (s : Placed RowSource). s.held.row) shelf.slots
+
+  pub rows_fitting : list_all (row_passes shelf.def) (fold rows_after (rows_in shelf.slots) changes) ≡ true
+      → list_all (is_compiled (row_passes shelf.def) shelf.def row_source_form (row_source shelf.def)) (made_in p) ≡ true
+  rows_fitting rules =
+      ap (λ (q : Planned TagRow). list_all (is_compiled (row_passes shelf.def) shelf.def row_source_form (row_source shelf.def)) (made_in q)) is
+      ∙ rows_compile shelf.def (rows_in shelf.slots) changes rules
+
+  pub rows_counted : all_distinct int_eq (row_ids (fold rows_after (rows_in shelf.slots) changes)) ≡ true → (a b : Counts)
+      → WorkWithin (sum_by (λ x. 0) (made_in p)) (lost (λ (s : Placed RowSource). pairs shelf.def (row_source_form s.held)) p.places shelf.slots + sum_by (λ x. pairs shelf.def (row_source_form (row_source shelf.def x))) (made_in p)) a b
+      → WorkWithin 0 (row_pairs shelf.def (rows_in shelf.slots) changes) a b
+  rows_counted apart a b work =
+      rows_work shelf.def (rows_in shelf.slots) changes shelf.slots refl apart a b
+      (subst (λ (q : Planned TagRow). WorkWithin (sum_by (λ x. 0) (made_in q)) (lost (λ (s : Placed RowSource). row_form_pairs shelf.def s.held.row) q.places shelf.slots + sum_by (λ x. row_form_pairs shelf.def x) (made_in q)) a b) is work)
+
+  module _ (s : Shelved RowSource) (s_def : s.def ≡ shelf.def) (s_held : (xs : List TagRow) → held_in shelf.slots ≡ map (row_source shelf.def) xs → held_in s.slots ≡ map (row_source shelf.def) (standing p xs)) where
+    all_rows_held : held_in s.slots ≡ map (row_source shelf.def) (fold rows_after (rows_in shelf.slots) changes)
+    all_rows_held =
+        s_held (rows_in shelf.slots) are
+        ∙ ap (map (row_source shelf.def)) (ap (λ (q : Planned TagRow). standing q (rows_in shelf.slots)) is ∙ rows_stand shelf.def (rows_in shelf.slots) changes)
+
+    pub rows_after_all : rows_in s.slots ≡ fold rows_after (rows_in shelf.slots) changes
+    rows_after_all = held_rows shelf.def s.slots (fold rows_after (rows_in shelf.slots) changes) all_rows_held
+
+    pub are_rows_after : AreRows s
+    are_rows_after = all_rows_held ∙ (λ i. map (row_source (sym s_def i)) (sym rows_after_all i))

@@ -18,11 +18,11 @@ use Rattle.rg_compiled.specs.declared.plan.Place.{Place}
 use Rattle.rg_compiled.specs.Plan.{AllSuit, Planned, Suits, at_first, cleared, has_there, is_kept, is_taken, left_of, lost, made_in, or_new, plan_of, planned_put, planned_without, put_at, put_there, renewed, standing, stood, unmoved, weighed, weight_put, with_edit}
 use Rattle.rg_compiled.proofs.Planning.{after_edit, plan_stands, stands_first, suit_all, suit_edit, suit_first}
 
-or_parts : (a b : Bool) → (a || b) ≡ false → (a ≡ false) × (b ≡ false)
+pub or_parts : (a b : Bool) → (a || b) ≡ false → (a ≡ false) × (b ≡ false)
 or_parts true b e = absurd (true≢false e)
 or_parts false b e = (refl, e)
 
-not_true : (b : Bool) → not b ≡ true → b ≡ false
+pub not_true : (b : Bool) → not b ≡ true → b ≡ false
 not_true true e = absurd (true≢false (sym e))
 not_true false e = refl
 

@@ -31,7 +31,7 @@ impl<'a> Compile<Policy, HeldPolicy> for PolicyCompiler<'a> {
 
     ghost cost = { 1 };
 
-    #[tactic(auto, using(crate::proofs::Passing::no_fault, crate::proofs::Reshelved::one_work))]
+    #[tactic(auto, using(crate::proofs::Passing::no_fault, crate::proofs::Counting::one_compiled))]
     fn compile<L: Ledger>(
         &self,
         alloc: Global,

@@ -1,5 +1,5 @@
 // How slots and their index move with a plan. Only what an edit puts into the list is compiled; all else is shared.
-ghost use Rattle.std.specs.Prelude.{◌≡◌, ◌+◌, ◌++◌, [], ◌∷◌, Contains, IfOk, IfSome, List, OnOk, Some, length, map, option_to_list, sum_by, true, false, not, if◌then◌else◌};
+ghost use Rattle.std.specs.Prelude.{◌≡◌, ◌+◌, ◌++◌, [], ◌∷◌, Contains, IfOk, List, OnOk, length, map, option_to_list, pos, ◌+ℤ◌, sum_by, true, false, not, if◌then◌else◌};
 ghost use Rattle.std.specs.List.{list_all, list_any};
 ghost use Rattle.rg_defs.specs.Rules.{def_fault};
 ghost use Rattle.rg_index.specs.Changes.{form_fits, same_id};
@@ -50,7 +50,6 @@ pub(crate) trait Compile<X, H> {
 }
 
 /// The index without this form.
-#[tactic(auto, using(crate::proofs::Refiled::free_gone))]
 fn without_form<L: Ledger>(
     alloc: Global,
     index: &Index,
@@ -69,7 +68,6 @@ fn without_form<L: Ledger>(
 }
 
 /// The index with the new form in the place of the old one, whose id it has.
-#[tactic(auto, using(crate::proofs::Refiled::free_changed))]
 fn with_form_for<L: Ledger>(
     alloc: Global,
     index: &Index,
@@ -91,7 +89,6 @@ fn with_form_for<L: Ledger>(
 }
 
 /// The index with one form more. No form has its id.
-#[tactic(auto, using(crate::proofs::Refiled::free_new))]
 fn with_form<L: Ledger>(
     alloc: Global,
     index: &Index,
@@ -116,21 +113,31 @@ struct Moving<H: Fileable> {
     index: Index,
 }
 
-/// The slot with what is compiled from the thing, under its ordinal.
-fn renewed_slot<X, H: Fileable, C: Compile<X, H>, L: Ledger>(
+/// An ordinal of slots.
+#[derive(Clone, Copy)]
+struct Ordinal(i64);
+
+fn own_ordinal<H>(slot: &Slot<H>) -> Ordinal
+    ensures { result.0 ≡ slot.now.ordinal }
+{
+    Ordinal(slot.ordinal)
+}
+
+/// A slot with what is compiled from the thing.
+fn compiled_slot<X, H: Fileable, C: Compile<X, H>, L: Ledger>(
     alloc: Global,
     compiler: &C,
-    ordinal: i64,
+    ordinal: Ordinal,
     item: &X,
     steps: &mut Steps<L>,
 ) -> Result<Slot<H>, NoMemory>
     requires ready { C.Ready compiler.now }
     requires passes { C.passes compiler.now item.now ≡ true }
-    ensures slot { IfOk result (λ s. s ≡ record { ordinal = ordinal; held = C.hold compiler.now item.now }) }
+    ensures slot { IfOk result (λ s. s ≡ record { ordinal = ordinal.0; held = C.hold compiler.now item.now }) }
     ensures steps { WorkWithin C.cost 0 steps.old steps.new }
 {
     let held = compiler.compile(alloc, item, steps)?;
-    Slot::new(alloc, ordinal, held)
+    Slot::new(alloc, ordinal.0, held)
 }
 
 /// Another thing in the slot.
@@ -154,7 +161,8 @@ fn replace_slot<X, H: Fileable, C: Compile<X, H>, L: Ledger>(
         → moving.new.index.forms ≡ before ++ slot_form H.form_of (record { ordinal = slot.now.ordinal; held = C.hold compiler.now item.now }) ∷ after) }
     ensures steps { WorkWithin C.cost (pairs def.now (H.form_of slot.now.held) + pairs def.now (H.form_of (C.hold compiler.now item.now))) steps.old steps.new }
 {
-    let renewed = renewed_slot(alloc, compiler, slot.ordinal, item, steps)?;
+    let ordinal = own_ordinal(slot);
+    let renewed = compiled_slot(alloc, compiler, ordinal, item, steps)?;
     let old = form_of(alloc, slot)?;
     let new = form_of(alloc, &renewed)?;
     moving.index = with_form_for(alloc, &moving.index, def, &old, &new, steps)?;
@@ -249,86 +257,122 @@ fn move_slots<X, H: Fileable, C: Compile<X, H>, L: Ledger>(
     };
     for at in 0..slots.len() {
         let slot = &slots[at];
-        let fate = &places[at].fate;
-        move_slot(alloc, def, compiler, slot, fate, &mut moving, steps)?;
+        let place = &places[at];
+        move_slot(
+            alloc,
+            def,
+            compiler,
+            slot,
+            &place.fate,
+            &mut moving,
+            steps,
+        )?;
     }
     Ok(moving)
 }
 
 /// One slot more, of an ordinal above all.
-fn add_slot<X, H: Fileable, C: Compile<X, H>, L: Ledger>(
+fn add_at<X, H: Fileable, C: Compile<X, H>, L: Ledger>(
     alloc: Global,
     def: &ServiceDef,
     compiler: &C,
-    ordinal: i64,
+    ordinal: Ordinal,
     item: &X,
     moving: &mut Moving<H>,
     steps: &mut Steps<L>,
 ) -> Result<(), NoMemory>
     requires same { def.now ≡ moving.old.index.def }
     requires forms { moving.old.index.forms ≡ slot_forms H.form_of moving.old.slots.items }
-    requires below { are_below ordinal moving.old.slots.items ≡ true }
+    requires below { are_below ordinal.0 moving.old.slots.items ≡ true }
     requires ready { C.Ready compiler.now }
     requires fits { is_compiled (C.passes compiler.now) def.now H.form_of (C.hold compiler.now) item.now ≡ true }
-    ensures slots { OnOk result (moving.new.slots.items ≡ moving.old.slots.items ++ record { ordinal = ordinal; held = C.hold compiler.now item.now } ∷ []) }
+    ensures slots { OnOk result (moving.new.slots.items ≡ moving.old.slots.items ++ record { ordinal = ordinal.0; held = C.hold compiler.now item.now } ∷ []) }
     ensures def { OnOk result (moving.new.index.def ≡ def.now) }
     ensures forms { OnOk result (moving.new.index.forms ≡ slot_forms H.form_of moving.new.slots.items) }
     ensures steps { WorkWithin C.cost (pairs def.now (H.form_of (C.hold compiler.now item.now))) steps.old steps.new }
 {
-    let slot = renewed_slot(alloc, compiler, ordinal, item, steps)?;
+    let slot = compiled_slot(alloc, compiler, ordinal, item, steps)?;
     let form = form_of(alloc, &slot)?;
     moving.index = with_form(alloc, &moving.index, def, &form, steps)?;
     moving.slots.push(slot)?;
     Ok(())
 }
 
-/// The first ordinal above those of the slots, if there is one.
-fn next_ordinal<H>(slots: &[Slot<H>]) -> Option<i64>
-    ensures { IfSome result (λ ordinal. are_rising slots.now ≡ true → are_below ordinal slots.now ≡ true) }
+/// The ordinal after that of the slot. Where there is none there is no memory.
+fn after<H>(slot: &Slot<H>) -> Result<Ordinal, NoMemory>
+    ensures { IfOk result (λ o. o.0 ≡ slot.now.ordinal +ℤ pos 1) }
 {
-    match slots.last() {
-        Some(slot) => slot.ordinal.checked_add(1),
-        None => Some(0),
+    match slot.ordinal.checked_add(1) {
+        Some(ordinal) => Ok(Ordinal(ordinal)),
+        None => Err(NoMemory),
     }
 }
 
-/// Slots for the things that come at the end. Where ordinals run out there is no memory.
+/// An ordinal above those of the slots.
+fn next_ordinal<H>(slots: &[Slot<H>]) -> Result<Ordinal, NoMemory>
+    requires { are_rising slots.now ≡ true }
+    ensures { IfOk result (λ o. are_below o.0 slots.now ≡ true) }
+{
+    match slots.split_last() {
+        Some((last, _)) => after(last),
+        None => Ok(Ordinal(0)),
+    }
+}
+
+/// One slot more at the end.
+fn add_slot<X, H: Fileable, C: Compile<X, H>, L: Ledger>(
+    alloc: Global,
+    def: &ServiceDef,
+    compiler: &C,
+    item: &X,
+    moving: &mut Moving<H>,
+    steps: &mut Steps<L>,
+) -> Result<(), NoMemory>
+    requires same { def.now ≡ moving.old.index.def }
+    requires forms { moving.old.index.forms ≡ slot_forms H.form_of moving.old.slots.items }
+    requires rising { are_rising moving.old.slots.items ≡ true }
+    requires ready { C.Ready compiler.now }
+    requires fits { is_compiled (C.passes compiler.now) def.now H.form_of (C.hold compiler.now) item.now ≡ true }
+    ensures held { OnOk result (held_in moving.new.slots.items ≡ held_in moving.old.slots.items ++ C.hold compiler.now item.now ∷ []) }
+    ensures rising { OnOk result (are_rising moving.new.slots.items ≡ true) }
+    ensures def { OnOk result (moving.new.index.def ≡ def.now) }
+    ensures forms { OnOk result (moving.new.index.forms ≡ slot_forms H.form_of moving.new.slots.items) }
+    ensures steps { WorkWithin C.cost (pairs def.now (H.form_of (C.hold compiler.now item.now))) steps.old steps.new }
+{
+    let ordinal = next_ordinal(&moving.slots)?;
+    add_at(alloc, def, compiler, ordinal, item, moving, steps)?;
+    Ok(())
+}
+
+/// Slots for the things that come at the end.
 fn add_slots<X, H: Fileable, C: Compile<X, H>, L: Ledger>(
     alloc: Global,
     def: &ServiceDef,
     compiler: &C,
-    first: i64,
     added: &[Made<X>],
-    moved: Moving<H>,
+    moving: &mut Moving<H>,
     steps: &mut Steps<L>,
-) -> Result<Moving<H>, NoMemory>
-    requires same { def.now ≡ moved.index.def }
-    requires forms { moved.index.forms ≡ slot_forms H.form_of moved.slots.items }
-    requires rising { are_rising moved.slots.items ≡ true }
-    requires below { are_below first moved.slots.items ≡ true }
+) -> Result<(), NoMemory>
+    requires same { def.now ≡ moving.old.index.def }
+    requires forms { moving.old.index.forms ≡ slot_forms H.form_of moving.old.slots.items }
+    requires rising { are_rising moving.old.slots.items ≡ true }
     requires ready { C.Ready compiler.now }
     requires fit { list_all (is_compiled (C.passes compiler.now) def.now H.form_of (C.hold compiler.now)) added.now ≡ true }
-    ensures held { IfOk result (λ m. held_in m.slots.items ≡ held_in moved.slots.items ++ map (C.hold compiler.now) added.now) }
-    ensures rising { IfOk result (λ m. are_rising m.slots.items ≡ true) }
-    ensures def { IfOk result (λ m. m.index.def ≡ def.now) }
-    ensures forms { IfOk result (λ m. m.index.forms ≡ slot_forms H.form_of m.slots.items) }
+    ensures held { OnOk result (held_in moving.new.slots.items ≡ held_in moving.old.slots.items ++ map (C.hold compiler.now) added.now) }
+    ensures rising { OnOk result (are_rising moving.new.slots.items ≡ true) }
+    ensures def { OnOk result (moving.new.index.def ≡ def.now) }
+    ensures forms { OnOk result (moving.new.index.forms ≡ slot_forms H.form_of moving.new.slots.items) }
     ensures steps { WorkWithin (sum_by (λ x. C.cost) added.now) (sum_by (λ x. pairs def.now (H.form_of (C.hold compiler.now x))) added.now) steps.old steps.new }
 {
-    let mut moving = moved;
-    let mut next = Some(first);
     for made in added {
-        let Some(ordinal) = next else {
-            return Err(NoMemory);
-        };
-        add_slot(alloc, def, compiler, ordinal, made.item, &mut moving, steps)?;
-        next = ordinal.checked_add(1);
+        add_slot(alloc, def, compiler, made.item, moving, steps)?;
     }
-    Ok(moving)
+    Ok(())
 }
 
 impl<H: Fileable> Shelf<H> {
     /// The slots after the plan, in whose places they are. The definition is theirs.
-        pub(crate) fn moved<X, C: Compile<X, H>, L: Ledger>(
+            pub(crate) fn moved<X, C: Compile<X, H>, L: Ledger>(
         &self,
         alloc: Global,
         def: &ServiceDef,
@@ -346,11 +390,16 @@ impl<H: Fileable> Shelf<H> {
             (lost (λ s. pairs def.now (H.form_of s.held)) plan.now.places self.now.slots + sum_by (λ x. pairs def.now (H.form_of (C.hold compiler.now x))) (made_in plan.now)) steps.old steps.new }
     {
         let index = self.index.apply(alloc, def, None, None, steps)?;
-        let moving = move_slots(alloc, def, compiler, &self.slots, &plan.places, index, steps)?;
-        let Some(first) = next_ordinal(&self.slots) else {
-            return Err(NoMemory);
-        };
-        let moving = add_slots(alloc, def, compiler, first, &plan.added, moving, steps)?;
+        let mut moving = move_slots(
+            alloc,
+            def,
+            compiler,
+            &self.slots,
+            &plan.places,
+            index,
+            steps,
+        )?;
+        add_slots(alloc, def, compiler, &plan.added, &mut moving, steps)?;
         Ok(Shelf {
             slots: moving.slots,
             index: moving.index,

@@ -5,6 +5,9 @@ use Rattle.rg_index.specs.declared.form.Form.{Form}
 use Rattle.rg_compiled.proofs.Refiled.{free_changed, if_ok, one_changed}
 use Rattle.rg_compiled.proofs.moving.with_form_for.Goals as goal
 
+pub apply-requires-clause-free : goal.apply-requires-clause-free
+apply-requires-clause-free g c = free_changed c.args.index.now.forms c.args.old.now c.args.new.now c.requires.id
+
 pub returns-clause-forms : goal.returns-clause-forms
 returns-clause-forms g c =
     if_ok c.apply.result (λ x made before after is.

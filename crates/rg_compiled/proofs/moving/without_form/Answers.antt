@@ -5,6 +5,9 @@ use Rattle.rg_index.specs.declared.form.Form.{Form}
 use Rattle.rg_compiled.proofs.Refiled.{free_gone, if_ok, one_gone}
 use Rattle.rg_compiled.proofs.moving.without_form.Goals as goal
 
+pub apply-requires-clause-free : goal.apply-requires-clause-free
+apply-requires-clause-free g c = free_gone c.args.index.now.forms c.args.old.now
+
 pub returns-clause-forms : goal.returns-clause-forms
 returns-clause-forms g c =
     if_ok c.apply.result (λ x made before after is.
