@@ -67,6 +67,9 @@ all_true : {X : Type 0} (p : X → Bool) (xs : List X) → ((x : X) → p x ≡ 
 all_true p [] e = refl
 all_true p (x ∷ xs) e = λ i. e x i && all_true p xs e i
 
+pub free_none : (forms : List Form) → is_free forms None None ≡ true
+free_none forms = all_true (λ f. true) forms (λ f. refl)
+
 pub free_gone : (forms : List Form) (old : Form) → is_free forms (Some old) None ≡ true
 free_gone forms old = all_true (λ f. same_id old f || true) forms (λ f. or_true (same_id old f))
 

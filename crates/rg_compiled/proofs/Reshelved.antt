@@ -6,18 +6,19 @@ use Rattle.std.proofs.lemmas.Int.{ints}
 use Rattle.std.proofs.lemmas.List.{map-append}
 use Rattle.std.proofs.lemmas.List.Folds.{list_all-append}
 use Rattle.std.proofs.lemmas.List.Elements.{Contains-append_right}
-use Rattle.std.proofs.lemmas.List.Sums.{sum_by-cons}
+use Rattle.std.proofs.lemmas.List.Sums.{sum_by-append, sum_by-cons}
 use Rattle.std.specs.List.{cons_option, list_all, list_any, sum_by}
 use Rattle.std.specs.Ordering.{int_eq}
 use Rattle.rg_base.specs.Counts.{Counts}
 use Rattle.rg_base.proofs.Lists.{Contains-first, drop_next}
 use Rattle.rg_defs.specs.declared.service_def.ServiceDef.{ServiceDef}
 use Rattle.rg_index.specs.Changes.{form_fits, same_id}
+use Rattle.rg_index.specs.Filing.{EditsWithin}
 use Rattle.rg_index.specs.declared.form.Form.{Form}
 use Rattle.rg_compiled.specs.Bounds.{WorkWithin}
 use Rattle.rg_compiled.specs.Kept.{Placed, are_rising, held_in, rise_above, slot_form, slot_forms}
 use Rattle.rg_compiled.specs.Moved.{WorkLeft, are_below, is_compiled, moved_slot, moved_slots}
-use Rattle.rg_compiled.specs.Plan.{is_kept, left_of, lost, put_at, put_there, stood}
+use Rattle.rg_compiled.specs.Plan.{Planned, is_kept, left_of, lost, made_in, put_at, put_there, stood}
 use Rattle.rg_compiled.specs.declared.plan.Fate.{Fate}
 use Rattle.rg_compiled.specs.declared.plan.Fate.TheVariants.{Stays, Goes, Becomes}
 use Rattle.rg_compiled.specs.declared.plan.Place.{Place}
@@ -259,3 +260,32 @@ module _ {X : Type 0} (xs : List X) (n : ℕ) (x : X) (on : n < length xs) (is_x
 
   pub items_sum : (w : X → ℕ) → sum_by w (drop n xs) ≡ w x + sum_by w (drop (n + 1) xs)
   items_sum w = ap (sum_by w) left_items ∙ sum_by-cons w x (drop (n + 1) xs)
+
+pub all_added : {X H : Type 0} (xs : List X) (n : ℕ) (all_items : n ≡ length xs) (hold : X → H) (held all : List H) → held ++ map hold (drop n xs) ≡ all → held ≡ all
+all_added xs n all_items hold held all so_far = sym (append-nil held) ∙ ap (λ l. held ++ map hold l) (sym (drop_all n xs all_items)) ∙ so_far
+
+-- ---- all of it
+
+-- what a plan makes and takes away, filed under the plan's own lists
+module _ {X H : Type 0} (cost v : X → ℕ) (u : Placed H → ℕ) (plan : Planned X) (shelved : List (Placed H))
+  (places : List (Place X)) (added : List X) (slots : List (Placed H)) (is_places : places ≡ plan.places) (is_added : added ≡ plan.added) (is_slots : slots ≡ shelved) where
+  made_parts : (w : X → ℕ) → sum_by w (made_in plan) ≡ sum_by w (put_at places) + sum_by w added
+  made_parts w = (λ i. sum_by w (put_at (sym is_places i) ++ sym is_added i)) ∙ sum_by-append w (put_at places) added
+
+  pub moved_work : (a b c d : Counts) → EditsWithin 0 a b → WorkWithin (sum_by cost (put_at places)) (lost u places slots + sum_by v (put_at places)) b c
+      → WorkWithin (sum_by cost added) (sum_by v added) c d → WorkWithin (sum_by cost (made_in plan)) (lost u plan.places shelved + sum_by v (made_in plan)) a d
+  moved_work a b c d copied moved ended =
+      let costs = made_parts cost in
+      let edits = made_parts v in
+      let gone : lost u plan.places shelved ≡ lost u places slots = λ i. lost u (sym is_places i) (sym is_slots i) in
+      let first = copied.compiles in
+      let first_edits = copied.edits in
+      let second = moved.compiled in
+      let second_edits = moved.edited in
+      let third = ended.compiled in
+      let third_edits = ended.edited in
+      record {
+        compiled = omega (arith, costs, first, second, third);
+        edited = omega (arith, edits, gone, first_edits, second_edits, third_edits);
+        tries = ended.tries ∙ moved.tries ∙ copied.tries;
+      }

@@ -185,7 +185,7 @@ module _ (def : ServiceDef) where
 
     none_compiled : {X : Type 0} (xs : List X) → sum_by (λ x. 0) xs ≡ 0
     none_compiled [] = refl
-    none_compiled (x ∷ xs) = let rest = none_compiled xs in sum_by-cons (λ x. 0) x xs ∙ rest
+    none_compiled (x ∷ xs) = let rest = none_compiled xs in let more = sum_by-cons (λ x. 0) x xs in omega (arith, rest, more)
 
     pub rows_work : (slots : List (Placed RowSource)) → rows_in slots ≡ rows → all_distinct int_eq (row_ids (fold rows_after rows changes)) ≡ true
         → (a b : Counts)
@@ -215,7 +215,7 @@ module _ (frame : Frame) (side : Side) (shelf : Shelved Source) (are : ArePolici
   pub policies_long : length p.places ≡ length shelf.slots
   policies_long =
       ap (λ (q : Planned Policy). length q.places) is ∙ policies_placed frame side (policies_in shelf.slots) changes
-      ∙ length-map (λ (s : Placed Source). s.held.policy) shelf.slots
+      ∙ length-map shelf.slots (λ (s : Placed Source). s.held.policy)
 
   pub policies_fitting : list_all (passes frame side) (fold (side_after side) (policies_in shelf.slots) changes) ≡ true
       → list_all (is_compiled (passes frame side) def source_form (source frame side)) (made_in p) ≡ true
@@ -242,33 +242,33 @@ module _ (frame : Frame) (side : Side) (shelf : Shelved Source) (are : ArePolici
     pub are_policies_after : ArePolicies frame side s
     are_policies_after = record { def = s_def ∙ same; sources = all_held ∙ ap (map (source frame side)) (sym policies_after_all) }
 
-module _ (shelf : Shelved RowSource) (are : AreRows shelf) (changes : List TagChange) (p : Planned TagRow) (is : p ≡ planned_rows shelf.def (rows_in shelf.slots) changes) where
+module _ (shelf : Shelved RowSource) (are : AreRows shelf) (changes : List TagChange) (def : ServiceDef) (same : def ≡ shelf.def) (p : Planned TagRow) (is : p ≡ planned_rows def (rows_in shelf.slots) changes) where
   pub rows_long : length p.places ≡ length shelf.slots
   rows_long =
-      ap (λ (q : Planned TagRow). length q.places) is ∙ rows_placed shelf.def (rows_in shelf.slots) changes
-      ∙ length-map (λ (s : Placed RowSource). s.held.row) shelf.slots
+      ap (λ (q : Planned TagRow). length q.places) is ∙ rows_placed def (rows_in shelf.slots) changes
+      ∙ length-map shelf.slots (λ (s : Placed RowSource). s.held.row)
 
-  pub rows_fitting : list_all (row_passes shelf.def) (fold rows_after (rows_in shelf.slots) changes) ≡ true
-      → list_all (is_compiled (row_passes shelf.def) shelf.def row_source_form (row_source shelf.def)) (made_in p) ≡ true
+  pub rows_fitting : list_all (row_passes def) (fold rows_after (rows_in shelf.slots) changes) ≡ true
+      → list_all (is_compiled (row_passes def) def row_source_form (row_source def)) (made_in p) ≡ true
   rows_fitting rules =
-      ap (λ (q : Planned TagRow). list_all (is_compiled (row_passes shelf.def) shelf.def row_source_form (row_source shelf.def)) (made_in q)) is
-      ∙ rows_compile shelf.def (rows_in shelf.slots) changes rules
+      ap (λ (q : Planned TagRow). list_all (is_compiled (row_passes def) def row_source_form (row_source def)) (made_in q)) is
+      ∙ rows_compile def (rows_in shelf.slots) changes rules
 
   pub rows_counted : all_distinct int_eq (row_ids (fold rows_after (rows_in shelf.slots) changes)) ≡ true → (a b : Counts)
-      → WorkWithin (sum_by (λ x. 0) (made_in p)) (lost (λ (s : Placed RowSource). pairs shelf.def (row_source_form s.held)) p.places shelf.slots + sum_by (λ x. pairs shelf.def (row_source_form (row_source shelf.def x))) (made_in p)) a b
-      → WorkWithin 0 (row_pairs shelf.def (rows_in shelf.slots) changes) a b
+      → WorkWithin (sum_by (λ x. 0) (made_in p)) (lost (λ (s : Placed RowSource). pairs def (row_source_form s.held)) p.places shelf.slots + sum_by (λ x. pairs def (row_source_form (row_source def x))) (made_in p)) a b
+      → WorkWithin 0 (row_pairs def (rows_in shelf.slots) changes) a b
   rows_counted apart a b work =
-      rows_work shelf.def (rows_in shelf.slots) changes shelf.slots refl apart a b
-      (subst (λ (q : Planned TagRow). WorkWithin (sum_by (λ x. 0) (made_in q)) (lost (λ (s : Placed RowSource). row_form_pairs shelf.def s.held.row) q.places shelf.slots + sum_by (λ x. row_form_pairs shelf.def x) (made_in q)) a b) is work)
+      rows_work def (rows_in shelf.slots) changes shelf.slots refl apart a b
+      (subst (λ (q : Planned TagRow). WorkWithin (sum_by (λ x. 0) (made_in q)) (lost (λ (s : Placed RowSource). row_form_pairs def s.held.row) q.places shelf.slots + sum_by (λ x. row_form_pairs def x) (made_in q)) a b) is work)
 
-  module _ (s : Shelved RowSource) (s_def : s.def ≡ shelf.def) (s_held : (xs : List TagRow) → held_in shelf.slots ≡ map (row_source shelf.def) xs → held_in s.slots ≡ map (row_source shelf.def) (standing p xs)) where
-    all_rows_held : held_in s.slots ≡ map (row_source shelf.def) (fold rows_after (rows_in shelf.slots) changes)
+  module _ (s : Shelved RowSource) (s_def : s.def ≡ def) (s_held : (xs : List TagRow) → held_in shelf.slots ≡ map (row_source def) xs → held_in s.slots ≡ map (row_source def) (standing p xs)) where
+    all_rows_held : held_in s.slots ≡ map (row_source def) (fold rows_after (rows_in shelf.slots) changes)
     all_rows_held =
-        s_held (rows_in shelf.slots) are
-        ∙ ap (map (row_source shelf.def)) (ap (λ (q : Planned TagRow). standing q (rows_in shelf.slots)) is ∙ rows_stand shelf.def (rows_in shelf.slots) changes)
+        s_held (rows_in shelf.slots) (are ∙ ap (λ (d : ServiceDef). map (row_source d) (rows_in shelf.slots)) (sym same))
+        ∙ ap (map (row_source def)) (ap (λ (q : Planned TagRow). standing q (rows_in shelf.slots)) is ∙ rows_stand def (rows_in shelf.slots) changes)
 
     pub rows_after_all : rows_in s.slots ≡ fold rows_after (rows_in shelf.slots) changes
-    rows_after_all = held_rows shelf.def s.slots (fold rows_after (rows_in shelf.slots) changes) all_rows_held
+    rows_after_all = held_rows def s.slots (fold rows_after (rows_in shelf.slots) changes) all_rows_held
 
     pub are_rows_after : AreRows s
     are_rows_after = all_rows_held ∙ (λ i. map (row_source (sym s_def i)) (sym rows_after_all i))

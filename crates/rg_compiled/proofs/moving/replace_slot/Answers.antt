@@ -23,7 +23,7 @@ pub with_form_for-requires-clause-id : goal.with_form_for-requires-clause-id
 with_form_for-requires-clause-id g c =
     ap (λ (f : Form). f.id) c.in_ok-new.ensures
     ∙ ap (λ (s : Placed g.row.H.Denot). s.ordinal) c.in_ok-renewed.ensures.slot
-    ∙ c.own_ordinal.ensures
+    ∙ c.own_ordinal-ordinal.ensures
     ∙ sym (ap (λ (f : Form). f.id) c.in_ok-old.ensures)
 
 pub with_form_for-requires-clause-fit : goal.with_form_for-requires-clause-fit
@@ -44,7 +44,7 @@ pub returns-clause-forms : goal.returns-clause-forms
 returns-clause-forms g c = λ before after is.
     c.in_ok-moving.ensures.forms before after (is ∙ ap (λ f. before ++ f ∷ after) (sym c.in_ok-old.ensures))
     ∙ ap (λ f. before ++ f ∷ after) (c.in_ok-new.ensures ∙ ap (slot_form g.H.Fileable.form_of) c.in_ok-renewed.ensures.slot
-    ∙ ap (λ o. renumbered o (g.H.Fileable.form_of (g.C.Compile.hold c.args.compiler.now c.args.item.now))) c.own_ordinal.ensures)
+    ∙ ap (λ o. renumbered o (g.H.Fileable.form_of (g.C.Compile.hold c.args.compiler.now c.args.item.now))) c.own_ordinal-ordinal.ensures)
 
 pub returns-clause-steps : goal.returns-clause-steps
 returns-clause-steps g c =
