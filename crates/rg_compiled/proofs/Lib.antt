@@ -7,6 +7,7 @@ mod Refiled
 mod Renumbered
 mod Reshelved
 mod Rising
+pub mod Sent
 mod Sets
 mod Settled
 mod Shelving

@@ -9,6 +9,7 @@ mod plan;
 mod policies;
 mod row_visits;
 mod rows;
+mod sharing;
 mod shelf;
 mod sides;
 mod slots;
@@ -17,5 +18,6 @@ mod visits;
 pub use policies::PolicySet;
 pub use row_visits::{CompiledRow, RowVisits};
 pub use rows::RowSet;
+pub use sharing::sets_may_be_shared;
 pub use visits::{Compiled, Visits};
 

@@ -5,7 +5,7 @@ use Rattle.rg_compiled.proofs.Rising.{found_at, partitioned}
 use Rattle.rg_compiled.proofs.slots.place_of.Goals as goal
 
 pub returns : goal.returns
-returns c =
+returns g c =
     let test : Placed _ → Bool = λ s. int_lt s.ordinal c.args.ordinal in
     let parted = partitioned c.args.ordinal c.args.slots.now c.requires in
     let point = IsPartitionPoint-from_clause test _ _ c.partition_point.ensures.partitioned parted (λ a r q k. search rules) in

@@ -1,7 +1,8 @@
-use Rattle.std.proofs.Common.{◌≡◌, ℤ, List, [], ◌∷◌, MatchOption, true, subst, sym}
+use Rattle.std.proofs.Common.{◌≡◌, ◌∙◌, ℤ, List, [], ◌∷◌, MatchOption, true, ap, rules, subst, sym, w64}
+use Rattle.std.proofs.lemmas.Int.{to_z-of_z}
 use Rattle.std.specs.List.{list_all}
 use Rattle.rg_evalr.specs.Sources.{Source}
-use Rattle.rg_compiled.specs.Kept.{all_held, is_held}
+use Rattle.rg_compiled.specs.Kept.{all_held, held_at, is_held}
 use Rattle.rg_compiled.proofs.Visiting.{next_held}
 use Rattle.rg_compiled.proofs.visits.next_compiled.Goals as goal
 
@@ -10,5 +11,6 @@ returns-in-Some-clause-next c =
     let slots = c.args.slots.now in
     let later = c.next.new.self in
     let first : c.args.candidates.now ≡ c.in-Some.ordinal ∷ later = c.in-Some.ensures.steps in
+    let there = c.compiled_at.ensures ∙ ap (held_at slots) (to_z-of_z w64 c.in-Some.ordinal (search rules)) in
     subst (λ (os : List ℤ). MatchOption c.compiled_at.result ((all_held slots os ≡ []) × (all_held slots later ≡ [])) (λ (s : Source). all_held slots os ≡ s ∷ all_held slots later)) (sym first)
-    (next_held slots c.in-Some.ordinal later (subst (λ (os : List ℤ). list_all (is_held slots) os ≡ true) first c.requires.held) c.compiled_at.result c.compiled_at.ensures)
+    (next_held slots c.in-Some.ordinal later (subst (λ (os : List ℤ). list_all (is_held slots) os ≡ true) first c.requires.held) c.compiled_at.result there)
