@@ -1,12 +1,17 @@
 // Policies and tag rows, each compiled and filed, so that a resource finds those that may lie on it.
 #![tactic(auto)]
 
+mod compilers;
+mod edits;
 mod held;
+mod moving;
+mod plan;
 mod policies;
 mod row_visits;
 mod rows;
 mod sharing;
 mod shelf;
+mod sides;
 mod slots;
 mod visits;
 

@@ -19,8 +19,10 @@ ghost use Rattle.rg_compiled.specs.Bounds.{WorkWithin, made_on, pairs_on, policy
 ghost use Rattle.rg_compiled.specs.Kept.{placed_from, policies_in};
 ghost use Rattle.rg_compiled.specs.Seen.{source};
 
+use crate::compilers::PolicyCompiler;
 use crate::held::HeldPolicy;
 use crate::shelf::Shelf;
+use crate::sides::policy_plan;
 use crate::slots::{Slot, ordinal_of};
 use crate::visits::Visits;
 use rg_base::{Ledger, NoMemory, Seq, Steps, TryCopy};
@@ -143,21 +145,34 @@ impl PolicySet {
 
     /// The policies after those of the changes that are of their side, in order. The frame is that of the set. No two policies
     /// have one id, before and after, and those after pass their rules. Only policies that are new or other ones are compiled.
+    #[tactic(auto, using(crate::proofs::Counting::no_work))]
     pub fn apply<L: Ledger>(
         &self,
-        _alloc: Global,
-        _frame: &Frame,
-        _changes: &[PolicyChange],
-        _steps: &mut Steps<L>,
+        alloc: Global,
+        frame: &Frame,
+        changes: &[PolicyChange],
+        steps: &mut Steps<L>,
     ) -> Result<PolicySet, NoMemory>
-        requires same { _frame.now ≡ self.now.frame }
+        requires same { frame.now ≡ self.now.frame }
         requires told { all_distinct same_id self.now.policies ≡ true }
-        requires rules { list_all (passes self.now.frame self.now.side) (fold (side_after self.now.side) self.now.policies _changes.now) ≡ true }
-        requires distinct { all_distinct same_id (fold (side_after self.now.side) self.now.policies _changes.now) ≡ true }
-        ensures made { IfOk result (λ s. s ≡ record { frame = self.now.frame; side = self.now.side; policies = fold (side_after self.now.side) self.now.policies _changes.now }) }
-        ensures steps { WorkWithin (made_on self.now.side _changes.now) (pairs_on (def_of self.now.frame self.now.side) self.now.side self.now.policies _changes.now) _steps.old _steps.new }
+        requires rules { list_all (passes self.now.frame self.now.side) (fold (side_after self.now.side) self.now.policies changes.now) ≡ true }
+        requires distinct { all_distinct same_id (fold (side_after self.now.side) self.now.policies changes.now) ≡ true }
+        ensures made { IfOk result (λ s. s ≡ record { frame = self.now.frame; side = self.now.side; policies = fold (side_after self.now.side) self.now.policies changes.now }) }
+        ensures steps { WorkWithin (made_on self.now.side changes.now) (pairs_on (def_of self.now.frame self.now.side) self.now.side self.now.policies changes.now) steps.old steps.new }
     {
-        Err(NoMemory)
+        self.law_of_definition();
+        let plan = policy_plan(alloc, self.side, self.shelf.as_slice(), changes)?;
+        let compiler = PolicyCompiler {
+            frame,
+            side: self.side,
+        };
+        let def = def_of(frame, self.side);
+        let shelf = self.shelf.moved(alloc, def, &compiler, &plan, steps)?;
+        Ok(PolicySet {
+            shelf,
+            side: self.side,
+            frame: Snapshot::of(frame),
+        })
     }
 
     /// The law of the definition: it passes its rules. The call does nothing.

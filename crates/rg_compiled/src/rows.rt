@@ -17,9 +17,11 @@ ghost use Rattle.rg_compiled.specs.Bounds.{WorkWithin, row_forms, row_pairs};
 ghost use Rattle.rg_compiled.specs.Kept.{placed_from, rows_in};
 ghost use Rattle.rg_compiled.specs.Seen.{RowSource, row_source};
 
+use crate::compilers::RowCompiler;
 use crate::held::HeldRow;
 use crate::row_visits::RowVisits;
 use crate::shelf::Shelf;
+use crate::sides::row_plan;
 use crate::slots::{Slot, ordinal_of};
 use rg_base::{Ledger, NoMemory, Seq, Steps, TryCopy};
 use rg_cmd::TagChange;
@@ -112,21 +114,26 @@ impl RowSet {
 
     /// The rows after the changes, in order. The definition is that of the set. No two rows have one id, before and after, and
     /// those after fit. Only rows that are new or other ones are compiled.
+    #[tactic(auto, using(crate::proofs::Counting::no_work))]
     pub fn apply<L: Ledger>(
         &self,
-        _alloc: Global,
-        _def: &ServiceDef,
-        _changes: &[TagChange],
-        _steps: &mut Steps<L>,
+        alloc: Global,
+        def: &ServiceDef,
+        changes: &[TagChange],
+        steps: &mut Steps<L>,
     ) -> Result<RowSet, NoMemory>
-        requires same { _def.now ≡ self.now.def }
+        requires same { def.now ≡ self.now.def }
         requires told { all_distinct int_eq (row_ids self.now.rows) ≡ true }
-        requires fit { list_all (λ (row : TagRow). tagged_fit self.now.def row.resources.items) (fold rows_after self.now.rows _changes.now) ≡ true }
-        requires distinct { all_distinct int_eq (row_ids (fold rows_after self.now.rows _changes.now)) ≡ true }
-        ensures made { IfOk result (λ s. s ≡ record { def = self.now.def; rows = fold rows_after self.now.rows _changes.now }) }
-        ensures steps { WorkWithin 0 (row_pairs self.now.def self.now.rows _changes.now) _steps.old _steps.new }
+        requires fit { list_all (λ (row : TagRow). tagged_fit self.now.def row.resources.items) (fold rows_after self.now.rows changes.now) ≡ true }
+        requires distinct { all_distinct int_eq (row_ids (fold rows_after self.now.rows changes.now)) ≡ true }
+        ensures made { IfOk result (λ s. s ≡ record { def = self.now.def; rows = fold rows_after self.now.rows changes.now }) }
+        ensures steps { WorkWithin 0 (row_pairs self.now.def self.now.rows changes.now) steps.old steps.new }
     {
-        Err(NoMemory)
+        self.law_of_definition();
+        let plan = row_plan(alloc, self.shelf.as_slice(), changes)?;
+        let compiler = RowCompiler { def };
+        let shelf = self.shelf.moved(alloc, def, &compiler, &plan, steps)?;
+        Ok(RowSet { shelf })
     }
 
     /// The law of the definition: it passes its rules. The call does nothing.
