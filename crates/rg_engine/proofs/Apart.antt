@@ -50,9 +50,9 @@ sum_of_all f made (x ∷ xs) =
 pub sum_of_some : {X : Type 0} (f : X → ℕ) (p : X → Bool) (xs : List X) → sum_by f (filter p xs) ≡ sum_by (λ x. cond (p x) (f x) 0) xs
 sum_of_some f p [] = refl
 sum_of_some f p (x ∷ xs) = elim (p x) as (λ b. sum_by f (cond b (x ∷ filter p xs) (filter p xs)) ≡ cond b (f x) 0 + sum_by (λ y. cond (p y) (f y) 0) xs) [
-    | true ↦ sum_by-cons f x (filter p xs) ∙ ap (λ n. f x + n) (sum_of_some f p xs)
-    | false ↦ (let rest = sum_of_some f p xs in let none : sum_by f (filter p xs) ≡ 0 + sum_by (λ y. cond (p y) (f y) 0) xs = omega (arith, rest) in none)
-  ] ∙ sym (sum_by-cons (λ y. cond (p y) (f y) 0) x xs)
+  | true ↦ sum_by-cons f x (filter p xs) ∙ ap (λ n. f x + n) (sum_of_some f p xs)
+  | false ↦ (let rest = sum_of_some f p xs in let none : sum_by f (filter p xs) ≡ 0 + sum_by (λ y. cond (p y) (f y) 0) xs = omega (arith, rest) in none)
+] ∙ sym (sum_by-cons (λ y. cond (p y) (f y) 0) x xs)
 
 -- sums of what is the same for each element are the same
 pub sum_alike : {X : Type 0} (f g : X → ℕ) (xs : List X) → ((x : X) → Contains xs x → f x ≡ g x) → sum_by f xs ≡ sum_by g xs

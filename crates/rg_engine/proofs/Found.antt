@@ -157,12 +157,12 @@ module _ (s : Setting) (set : Policies) (tag : Option Tag) (visited : List Sourc
 policy_there : (facts : Facts) (q : AccessRequest) (c : Candidate) → Contains (candidates facts q) c → Contains (all_policies facts) c.source.policy
 policy_there facts q c i = elim (Contains-append_cases (flat_map (tag_candidates facts) (tags_of facts q)) (resource_candidates facts) c i) [
   | inl tagged ↦ (
-    let tag = Contains-flat_mapped (tag_candidates facts) (tags_of facts q) c tagged in
-    let p = Contains-mapped _ facts.tag_policies.items c tag.2 in
-    Contains-same (all_policies facts) p.0 c.source.policy (ap (λ (d : Candidate). d.source.policy) p.2) (Contains-append_right facts.policies.items facts.tag_policies.items p.0 p.1))
+      let tag = Contains-flat_mapped (tag_candidates facts) (tags_of facts q) c tagged in
+      let p = Contains-mapped _ facts.tag_policies.items c tag.2 in
+      Contains-same (all_policies facts) p.0 c.source.policy (ap (λ (d : Candidate). d.source.policy) p.2) (Contains-append_right facts.policies.items facts.tag_policies.items p.0 p.1))
   | inr own ↦ (
-    let p = Contains-mapped _ facts.policies.items c own in
-    Contains-same (all_policies facts) p.0 c.source.policy (ap (λ (d : Candidate). d.source.policy) p.2) (Contains-append_left facts.policies.items facts.tag_policies.items p.0 p.1))
+      let p = Contains-mapped _ facts.policies.items c own in
+      Contains-same (all_policies facts) p.0 c.source.policy (ap (λ (d : Candidate). d.source.policy) p.2) (Contains-append_left facts.policies.items facts.tag_policies.items p.0 p.1))
 ]
 
 turned : (x y : ℤ) → int_eq x y ≡ true → int_eq y x ≡ true

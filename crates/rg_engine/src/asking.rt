@@ -80,8 +80,7 @@ fn reaches<L: Ledger>(setting: &Setting, row: &CompiledRow, steps: &mut Steps<L>
     ensures answer { result ≡ lies row.now.def row.now.row.resources.items Down setting.now.request.resource.elements.items [] }
     ensures tries { TriesWithin 1 steps.old steps.new }
 {
-    row.matcher()
-        .matches(&setting.request.resource, "", steps)
+    row.matcher().matches(&setting.request.resource, "", steps)
 }
 
 /// What is found after the tag policies were asked for each tag of those of these rows that reach down to the resource.

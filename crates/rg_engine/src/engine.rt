@@ -168,7 +168,8 @@ impl Engine {
         self.check_bases(policies, tags, roles)?;
         let frame = self.setup.frame();
         let changes = policies.changes.as_slice();
-        let sets = self.sets.apply(alloc, frame, changes, tags.changes.as_slice(), steps)?;
+        let rows = tags.changes.as_slice();
+        let sets = self.sets.apply(alloc, frame, changes, rows, steps)?;
         let setup = setup_after(alloc, &self.setup, policies, roles)?;
         Ok(Engine {
             setup,

@@ -193,12 +193,12 @@ impl Setup {
     /// What is published of it with these versions.
     pub(crate) fn published(&self, versions: Versions, serial: Serial) -> Published<'_>
         ensures { result ≡ record {
-            def = self.now.def;
-            tag_def = self.now.tag_def;
-            serial = serial;
-            policy_version = versions.policies;
-            tag_version = versions.tags;
-            role_version = versions.roles;
+          def = self.now.def;
+          tag_def = self.now.tag_def;
+          serial = serial;
+          policy_version = versions.policies;
+          tag_version = versions.tags;
+          role_version = versions.roles;
         } }
     {
         Published {

@@ -279,7 +279,10 @@ fn one_policy_of_a_thousand_is_tried(rt: HostRuntime) {
     let engine = thousand(alloc, &mut steps).expect(&rt, "ample memory");
     assert_eq!(rt; counts(&steps), (1000, 1000, 0));
     let verdict = verdict_on(alloc, &engine, &["d7"], &mut steps).expect(&rt, "ample memory");
-    assert_eq!(rt; (verdict.access, verdict.policy), (Access::Allowed, PolicyId(7)));
+    assert_eq!(rt;
+        (verdict.access, verdict.policy),
+        (Access::Allowed, PolicyId(7))
+    );
     assert_eq!(rt; counts(&steps), (1000, 1000, 1));
 }
 

@@ -18,7 +18,7 @@ tags-preserved g c =
     let more = c.ask_tag-best.ensures.tries.tries in
     record {
       found = λ b rest. c.tags.invariant.found b (subst (λ (ts : List Tag). Finds s (all_tagged set ts) c.tags.best b) (sym listed)
-      (finds_next s set tag later c.tags.best c.ask_tag-best.result b c.ask_tag-best.ensures.best rest));
+          (finds_next s set tag later c.tags.best c.ask_tag-best.result b c.ask_tag-best.ensures.best rest));
       tries = omega (arith, sum, so_far, more);
       compiles = c.ask_tag-best.ensures.tries.compiles ∙ c.tags.invariant.compiles;
       edits = c.ask_tag-best.ensures.tries.edits ∙ c.tags.invariant.edits;

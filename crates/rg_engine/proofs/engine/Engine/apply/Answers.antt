@@ -27,13 +27,13 @@ apply-requires-clause-before g c = subst MayCompile (sym c.self.invariant.1) (ma
 
 pub apply-requires-clause-after : goal.apply-requires-clause-after
 apply-requires-clause-after g c =
-    subst (λ (x : Compiled). MayCompile x) (sym (λ i. compiled_after ((c.self.invariant.1 ∙ ap compiled_of c.self.view_is) i) (c.as_slice-changes.ensures i) (c.as_slice.ensures i)))
+    subst (λ (x : Compiled). MayCompile x) (sym (λ i. compiled_after ((c.self.invariant.1 ∙ ap compiled_of c.self.view_is) i) (c.as_slice-changes.ensures i) (c.as_slice-rows.ensures i)))
     (may_compile (applied c.args.self.now c.args.policies.now c.args.tags.now c.args.roles.now) c.requires.sound)
 
 pub returns-in_err-sets-clause-steps : goal.returns-in_err-sets-clause-steps
 returns-in_err-sets-clause-steps g c =
-    moved_work c.args.self.now c.args.policies.now c.args.tags.now c.self.inside.sets c.as_slice-changes.result.now c.as_slice.result.now _ _
-    (c.self.invariant.1 ∙ ap compiled_of c.self.view_is) c.as_slice-changes.ensures c.as_slice.ensures c.apply.ensures.steps
+    moved_work c.args.self.now c.args.policies.now c.args.tags.now c.self.inside.sets c.as_slice-changes.result.now c.as_slice-rows.result.now _ _
+    (c.self.invariant.1 ∙ ap compiled_of c.self.view_is) c.as_slice-changes.ensures c.as_slice-rows.ensures c.apply.ensures.steps
 
 pub setup_after-requires-clause-lawful : goal.setup_after-requires-clause-lawful
 setup_after-requires-clause-lawful g c = lawful _ c.self.invariant.0
@@ -45,16 +45,16 @@ setup_after-requires-clause-zones g c =
 
 pub returns-in_err-setup-clause-steps : goal.returns-in_err-setup-clause-steps
 returns-in_err-setup-clause-steps g c =
-    moved_work c.args.self.now c.args.policies.now c.args.tags.now c.self.inside.sets c.as_slice-changes.result.now c.as_slice.result.now _ _
-    (c.self.invariant.1 ∙ ap compiled_of c.self.view_is) c.as_slice-changes.ensures c.as_slice.ensures c.apply.ensures.steps
+    moved_work c.args.self.now c.args.policies.now c.args.tags.now c.self.inside.sets c.as_slice-changes.result.now c.as_slice-rows.result.now _ _
+    (c.self.invariant.1 ∙ ap compiled_of c.self.view_is) c.as_slice-changes.ensures c.as_slice-rows.ensures c.apply.ensures.steps
 
 pub invariant_of-result : goal.invariant_of-result
 invariant_of-result g c =
     let sets : c.in_ok-sets.sets ≡ compiled_of (applied c.args.self.now c.args.policies.now c.args.tags.now c.args.roles.now) =
-    c.in_ok-sets.ensures.made ∙ (λ i. compiled_after ((c.self.invariant.1 ∙ ap compiled_of c.self.view_is) i) (c.as_slice-changes.ensures i) (c.as_slice.ensures i)) in
+    c.in_ok-sets.ensures.made ∙ (λ i. compiled_after ((c.self.invariant.1 ∙ ap compiled_of c.self.view_is) i) (c.as_slice-changes.ensures i) (c.as_slice-rows.ensures i)) in
     let setup : arc_value c.in_ok-setup.setup ≡ _ = c.in_ok-setup.ensures in
     let same : joined (arc_value c.in_ok-setup.setup) (record { policies = c.args.policies.now.to; tags = c.args.tags.now.to; roles = c.args.roles.now.to }) (lists_of None c.in_ok-sets.sets)
-        ≡ applied c.args.self.now c.args.policies.now c.args.tags.now c.args.roles.now =
+    ≡ applied c.args.self.now c.args.policies.now c.args.tags.now c.args.roles.now =
     (λ i. joined (setup i) (record { policies = c.args.policies.now.to; tags = c.args.tags.now.to; roles = c.args.roles.now.to }) (lists_of None (sets i)))
     ∙ ap (λ (f : Facts). joined (record f { zones = unless_new f.zones c.args.policies.now.zones; roles = unless_new f.roles c.args.roles.now.roles })
     (record { policies = c.args.policies.now.to; tags = c.args.tags.now.to; roles = c.args.roles.now.to })
@@ -64,7 +64,7 @@ invariant_of-result g c =
 pub returns-clause-facts : goal.returns-clause-facts
 returns-clause-facts g c =
     let sets : c.in_ok-sets.sets ≡ compiled_of (applied c.args.self.now c.args.policies.now c.args.tags.now c.args.roles.now) =
-    c.in_ok-sets.ensures.made ∙ (λ i. compiled_after ((c.self.invariant.1 ∙ ap compiled_of c.self.view_is) i) (c.as_slice-changes.ensures i) (c.as_slice.ensures i)) in
+    c.in_ok-sets.ensures.made ∙ (λ i. compiled_after ((c.self.invariant.1 ∙ ap compiled_of c.self.view_is) i) (c.as_slice-changes.ensures i) (c.as_slice-rows.ensures i)) in
     (λ i. joined (c.in_ok-setup.ensures i) (record { policies = c.args.policies.now.to; tags = c.args.tags.now.to; roles = c.args.roles.now.to }) (lists_of None (sets i)))
     ∙ ap (λ (f : Facts). joined (record f { zones = unless_new f.zones c.args.policies.now.zones; roles = unless_new f.roles c.args.roles.now.roles })
     (record { policies = c.args.policies.now.to; tags = c.args.tags.now.to; roles = c.args.roles.now.to })
@@ -72,5 +72,5 @@ returns-clause-facts g c =
 
 pub returns-clause-steps : goal.returns-clause-steps
 returns-clause-steps g c =
-    moved_work c.args.self.now c.args.policies.now c.args.tags.now c.self.inside.sets c.as_slice-changes.result.now c.as_slice.result.now _ _
-    (c.self.invariant.1 ∙ ap compiled_of c.self.view_is) c.as_slice-changes.ensures c.as_slice.ensures c.apply.ensures.steps
+    moved_work c.args.self.now c.args.policies.now c.args.tags.now c.self.inside.sets c.as_slice-changes.result.now c.as_slice-rows.result.now _ _
+    (c.self.invariant.1 ∙ ap compiled_of c.self.view_is) c.as_slice-changes.ensures c.as_slice-rows.ensures c.apply.ensures.steps

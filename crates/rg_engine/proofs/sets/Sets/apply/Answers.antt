@@ -91,8 +91,7 @@ returns-in_err-rows-clause-steps g c =
 
 pub invariant_of-result : goal.invariant_of-result
 invariant_of-result g c =
-    let own = c.in_ok-own.ensures.made in
-    (
+    let own = c.in_ok-own.ensures.made in (
       ap (λ (x : Policies). x.side) own ∙ c.self.invariant.0,
       subst (λ (f : Frame). IsTagSet f c.in_ok-tag_policies.tag_policies) (c.requires.frame ∙ sym (ap (λ (x : Compiled). x.frame) c.self.view_is) ∙ sym (ap (λ (x : Policies). x.frame) own)) c.in_ok-tag_policies.ensures.set,
       ap (λ (x : Rows). x.def) c.in_ok-rows.ensures.made ∙ c.self.invariant.2 ∙ sym (ap (λ (x : Policies). x.frame.def) own),

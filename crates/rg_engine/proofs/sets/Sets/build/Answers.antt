@@ -48,8 +48,7 @@ returns-in_err-rows-clause-steps g c =
 
 pub invariant_of-result : goal.invariant_of-result
 invariant_of-result g c =
-    let own = c.in_ok-policies.ensures.made in
-    (
+    let own = c.in_ok-policies.ensures.made in (
       ap (λ (x : Policies). x.side) own,
       subst (λ (f : Frame). IsTagSet f c.in_ok-tag_policies.tag_policies) (sym (ap (λ (x : Policies). x.frame) own)) c.in_ok-tag_policies.ensures.set,
       ap (λ (x : Rows). x.def) c.in_ok-rows.ensures.made ∙ sym (ap (λ (x : Policies). x.frame.def) own),
