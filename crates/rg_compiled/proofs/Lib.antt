@@ -1,0 +1,16 @@
+mod Building
+mod Counting
+mod Leaving
+mod Passing
+mod Planning
+mod Refiled
+mod Renumbered
+mod Reshelved
+mod Rising
+pub mod Sent
+mod Sets
+mod Settled
+mod Shelving
+mod Siding
+mod Visiting
+mod Weighing

@@ -1,0 +1,31 @@
+use Rattle.std.proofs.Common.{◌≡◌, length, subst, sym}
+use Rattle.rg_evalr.specs.declared.frame.Frame.{Frame}
+use Rattle.rg_compiled.specs.Kept.{ArePolicies}
+use Rattle.rg_compiled.proofs.Building.{are_policies, policies_fit, policies_rise, policies_within, these_policies}
+use Rattle.rg_compiled.proofs.policies.PolicySet.build.Goals as goal
+
+pub build-requires-clause-rising : goal.build-requires-clause-rising
+build-requires-clause-rising g c = policies_rise c.args.frame.now c.args.side c.args.policies.now c.def_of.result.now c.def_of.ensures c.in_ok-slots.slots.items c.in_ok-slots.ensures.slots
+
+pub build-requires-clause-fit : goal.build-requires-clause-fit
+build-requires-clause-fit g c = policies_fit c.args.frame.now c.args.side c.args.policies.now c.def_of.result.now c.def_of.ensures c.in_ok-slots.slots.items c.in_ok-slots.ensures.slots c.requires.rules
+
+pub returns-in_err-shelf-clause-steps : goal.returns-in_err-shelf-clause-steps
+returns-in_err-shelf-clause-steps g c =
+    policies_within c.args.frame.now c.args.side c.args.policies.now c.def_of.result.now c.def_of.ensures c.in_ok-slots.slots.items c.in_ok-slots.ensures.slots
+    (length c.args.policies.now) c.args.steps.now c.compile_policies.new.steps c.build.new.steps c.compile_policies.ensures.steps c.build.ensures.steps
+
+pub returns-clause-steps : goal.returns-clause-steps
+returns-clause-steps g c =
+    policies_within c.args.frame.now c.args.side c.args.policies.now c.def_of.result.now c.def_of.ensures c.in_ok-slots.slots.items c.in_ok-slots.ensures.slots
+    (length c.args.policies.now) c.args.steps.now c.compile_policies.new.steps c.build.new.steps c.compile_policies.ensures.steps c.build.ensures.steps
+
+pub invariant_of-result : goal.invariant_of-result
+invariant_of-result g c =
+    subst (λ (frame : Frame). ArePolicies frame c.args.side c.in_ok-shelf.shelf) (sym c.of.ensures)
+    (are_policies c.args.frame.now c.args.side c.args.policies.now c.def_of.result.now c.def_of.ensures c.in_ok-slots.slots.items c.in_ok-slots.ensures.slots c.in_ok-shelf.shelf c.in_ok-shelf.ensures.made)
+
+pub returns-clause-made : goal.returns-clause-made
+returns-clause-made g c =
+    let these = these_policies c.args.frame.now c.args.side c.args.policies.now c.def_of.result.now c.def_of.ensures c.in_ok-slots.slots.items c.in_ok-slots.ensures.slots c.in_ok-shelf.shelf c.in_ok-shelf.ensures.made in
+    λ i. record { frame = c.of.ensures i; side = c.args.side; policies = these i }

@@ -1,0 +1,5 @@
+pub mod Bounds
+pub mod Kept
+pub mod Moved
+pub mod Plan
+pub mod Seen

@@ -1,0 +1,23 @@
+// Policies and tag rows, each compiled and filed, so that a resource finds those that may lie on it.
+#![tactic(auto)]
+
+mod compilers;
+mod edits;
+mod held;
+mod moving;
+mod plan;
+mod policies;
+mod row_visits;
+mod rows;
+mod sharing;
+mod shelf;
+mod sides;
+mod slots;
+mod visits;
+
+pub use policies::PolicySet;
+pub use row_visits::{CompiledRow, RowVisits};
+pub use rows::RowSet;
+pub use sharing::sets_may_be_shared;
+pub use visits::{Compiled, Visits};
+

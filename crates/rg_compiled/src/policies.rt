@@ -1,0 +1,218 @@
+// The policies of one side, compiled and filed.
+ghost use Rattle.std.specs.Prelude.{◌≡◌, ◌==◌, ◌≤◌, ℕ, List, Contains, None, IfOk, fold, length, map, pos, sum_by, true};
+ghost use Rattle.std.specs.List.{list_all};
+ghost use Rattle.std.specs.Str.{chars};
+ghost use Rattle.rg_base.specs.Listed.{listed};
+ghost use Rattle.rg_base.specs.Texts.{all_distinct};
+ghost use Rattle.rg_policy.specs.Maps.{maps_of};
+ghost use Rattle.rg_policy.specs.declared.policy.Policy.{Policy};
+ghost use Rattle.rg_defs.specs.Rules.{def_fault};
+ghost use Rattle.rg_resmatch.specs.Tests.{some_lies, tag_elements};
+ghost use Rattle.rg_resmatch.specs.declared.reach.Reach.TheVariants.{Exact};
+ghost use Rattle.rg_evalr.specs.Compiling.{policy_fault};
+ghost use Rattle.rg_evalr.specs.Frames.{def_of};
+ghost use Rattle.rg_evalr.specs.Sources.{Source};
+ghost use Rattle.rg_facts.specs.Sound.{passes, same_id};
+ghost use Rattle.rg_index.specs.Candidates.{bound};
+ghost use Rattle.rg_index.specs.Filing.{pairs};
+ghost use Rattle.rg_compiled.specs.Bounds.{WorkWithin, made_on, pairs_on, policy_forms, side_after};
+ghost use Rattle.rg_compiled.specs.Kept.{placed_from, policies_in};
+ghost use Rattle.rg_compiled.specs.Seen.{source};
+
+use crate::compilers::PolicyCompiler;
+use crate::held::HeldPolicy;
+use crate::shelf::Shelf;
+use crate::sides::policy_plan;
+use crate::slots::{Slot, ordinal_of};
+use crate::visits::Visits;
+use rg_base::{Ledger, NoMemory, Seq, Steps, TryCopy};
+use rg_cmd::PolicyChange;
+use rg_defs::ServiceDef;
+use rg_evalr::{Frame, Side};
+use rg_policy::{Policy, Resource};
+use std::alloc::Global;
+use std::marker::Model;
+use std::snapshot::Snapshot;
+
+/// The policies of one side, each with its evaluator, and their index. Contracts see the policies, and what they are read
+/// under. A change leaves a set as it is and gives a new one, which shares with it what the change doesn't touch.
+#[derive(Drop)]
+pub struct PolicySet {
+    pub(crate) shelf: Shelf<HeldPolicy>,
+    pub(crate) side: Side,
+    /// Which only contracts see.
+    pub(crate) frame: Snapshot<Frame>,
+}
+
+impl Model for PolicySet {
+    ghost use Rattle.rg_compiled.specs.Kept.{ArePolicies, policies_in};
+    ghost use Rattle.rg_compiled.specs.Seen.{Policies};
+
+    ghost Value = { Policies };
+
+    ghost view = { λ s. record { frame = s.frame.value; side = s.side; policies = policies_in s.shelf.slots } };
+
+    ghost invariant = { λ s. ArePolicies s.frame.value s.side s.shelf };
+}
+
+/// The definition of the policies of a side.
+pub(crate) fn def_of(frame: &Frame, side: Side) -> &ServiceDef
+    ensures { result.now ≡ def_of frame.now side }
+{
+    match side {
+        Side::Resource => &frame.def,
+        Side::Tag => match &frame.tag_def {
+            Some(def) => def,
+            None => &frame.def,
+        },
+    }
+}
+
+/// The policy in the slot of this place.
+fn compile_slot<L: Ledger>(
+    alloc: Global,
+    frame: &Frame,
+    side: Side,
+    place: usize,
+    policy: &Policy,
+    steps: &mut Steps<L>,
+) -> Result<Slot<HeldPolicy>, NoMemory>
+    requires lawful { def_fault (def_of frame.now side) ≡ None }
+    requires rules { policy_fault frame.now side policy.now ≡ None }
+    ensures slot { IfOk result (λ s. s ≡ record { ordinal = pos place; held = source frame.now side policy.now }) }
+    ensures steps { WorkWithin 1 0 steps.old steps.new }
+{
+    let ordinal = ordinal_of(place)?;
+    let held = HeldPolicy::compile(alloc, frame, side, policy, steps)?;
+    Slot::new(alloc, ordinal, held)
+}
+
+/// The policies in slots, counted from 0.
+fn compile_policies<L: Ledger>(
+    alloc: Global,
+    frame: &Frame,
+    side: Side,
+    policies: &[Policy],
+    steps: &mut Steps<L>,
+) -> Result<Vec<Slot<HeldPolicy>>, NoMemory>
+    requires lawful { def_fault (def_of frame.now side) ≡ None }
+    requires rules { list_all (passes frame.now side) policies.now ≡ true }
+    ensures slots { IfOk result (λ slots. slots.items ≡ placed_from 0 (map (source frame.now side) policies.now)) }
+    ensures steps { WorkWithin (length policies.now) 0 steps.old steps.new }
+{
+    let mut slots = Vec::new(alloc);
+    for (place, policy) in policies.iter().enumerate() {
+        let slot = compile_slot(alloc, frame, side, place, policy, steps)?;
+        slots.push(slot)?;
+    }
+    Ok(slots)
+}
+
+/// Copies of the policies in the slots.
+fn policies_of(alloc: Global, slots: &[Slot<HeldPolicy>]) -> Result<Seq<Policy>, NoMemory>
+    ensures { IfOk result (λ list. list ≡ listed (policies_in slots.now)) }
+{
+    let mut list = Seq::new(alloc);
+    for slot in slots {
+        list.add(slot.held.policy.try_copy(alloc)?)?;
+    }
+    Ok(list)
+}
+
+impl PolicySet {
+    /// The policies of a side, each of which passes the rules V3 to V9, V11 and V12 under the frame, whose definition of
+    /// the side passes its own.
+    pub fn build<L: Ledger>(
+        alloc: Global,
+        frame: &Frame,
+        side: Side,
+        policies: &[Policy],
+        steps: &mut Steps<L>,
+    ) -> Result<PolicySet, NoMemory>
+        requires lawful { def_fault (def_of frame.now side) ≡ None }
+        requires rules { list_all (passes frame.now side) policies.now ≡ true }
+        ensures made { IfOk result (λ s. s ≡ record { frame = frame.now; side = side; policies = policies.now }) }
+        ensures steps { WorkWithin (length policies.now) (sum_by (pairs (def_of frame.now side)) (policy_forms policies.now)) steps.old steps.new }
+    {
+        let slots = compile_policies(alloc, frame, side, policies, steps)?;
+        let shelf = Shelf::build(alloc, def_of(frame, side), slots, steps)?;
+        Ok(PolicySet {
+            shelf,
+            side,
+            frame: Snapshot::of(frame),
+        })
+    }
+
+    /// The policies after those of the changes that are of their side, in order. The frame is that of the set. No two policies
+    /// have one id, before and after, and those after pass their rules. Only policies that are new or other ones are compiled.
+    #[tactic(auto, using(crate::proofs::Counting::no_work))]
+    pub fn apply<L: Ledger>(
+        &self,
+        alloc: Global,
+        frame: &Frame,
+        changes: &[PolicyChange],
+        steps: &mut Steps<L>,
+    ) -> Result<PolicySet, NoMemory>
+        requires same { frame.now ≡ self.now.frame }
+        requires told { all_distinct same_id self.now.policies ≡ true }
+        requires rules { list_all (passes self.now.frame self.now.side) (fold (side_after self.now.side) self.now.policies changes.now) ≡ true }
+        requires distinct { all_distinct same_id (fold (side_after self.now.side) self.now.policies changes.now) ≡ true }
+        ensures made { IfOk result (λ s. s ≡ record { frame = self.now.frame; side = self.now.side; policies = fold (side_after self.now.side) self.now.policies changes.now }) }
+        ensures steps { WorkWithin (made_on self.now.side changes.now) (pairs_on (def_of self.now.frame self.now.side) self.now.side self.now.policies changes.now) steps.old steps.new }
+    {
+        self.law_of_definition();
+        let plan = policy_plan(alloc, self.side, self.shelf.as_slice(), changes)?;
+        let compiler = PolicyCompiler {
+            frame,
+            side: self.side,
+        };
+        let def = def_of(frame, self.side);
+        let shelf = self.shelf.moved(alloc, def, &compiler, &plan, steps)?;
+        Ok(PolicySet {
+            shelf,
+            side: self.side,
+            frame: Snapshot::of(frame),
+        })
+    }
+
+    /// The law of the definition: it passes its rules. The call does nothing.
+    pub fn law_of_definition(&self)
+        ensures { def_fault (def_of self.now.frame self.now.side) ≡ None }
+    {
+        self.shelf.law_of_definition();
+    }
+
+    /// Whether there is no policy.
+    pub fn is_empty(&self) -> bool
+        ensures { result ≡ (length self.now.policies == 0) }
+    {
+        self.shelf.as_slice().is_empty()
+    }
+
+    /// The policies of which one may lie on the resource, each with its evaluator. No memory is taken.
+    pub fn visit<'a>(&'a self, resource: &'a Resource) -> Visits<'a>
+        ensures few { length result ≤ bound (def_of self.now.frame self.now.side) (policy_forms self.now.policies) resource.now.elements.items }
+        ensures among { (s : Source) → Contains result s → Contains (map (source self.now.frame self.now.side) self.now.policies) s }
+        ensures all { (p : Policy) (user : List ℕ) → Contains self.now.policies p
+            → some_lies (def_of self.now.frame self.now.side) (maps_of p) Exact resource.now.elements.items user ≡ true → Contains result (source self.now.frame self.now.side p) }
+    {
+        Visits::of(self.shelf.as_slice(), self.shelf.candidates(resource))
+    }
+
+    /// As `visit`, for a resource whose one element has the level `tag` and this value.
+    pub fn visit_tag<'a>(&'a self, tag: &'a str) -> Visits<'a>
+        ensures few { length result ≤ bound (def_of self.now.frame self.now.side) (policy_forms self.now.policies) (tag_elements (chars tag.now)) }
+        ensures among { (s : Source) → Contains result s → Contains (map (source self.now.frame self.now.side) self.now.policies) s }
+        ensures all { (p : Policy) (user : List ℕ) → Contains self.now.policies p
+            → some_lies (def_of self.now.frame self.now.side) (maps_of p) Exact (tag_elements (chars tag.now)) user ≡ true → Contains result (source self.now.frame self.now.side p) }
+    {
+        Visits::of(self.shelf.as_slice(), self.shelf.candidates_tag(tag))
+    }
+
+    /// Copies of the policies.
+    pub fn copies(&self, alloc: Global) -> Result<Seq<Policy>, NoMemory>
+        ensures { IfOk result (λ list. list ≡ listed self.now.policies) }
+    {
+        policies_of(alloc, self.shelf.as_slice())
+    }
+}
