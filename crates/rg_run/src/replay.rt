@@ -150,7 +150,7 @@ fn refresh_and_print<R: Wait>(
 ) -> Result<(), NoMemory>
     ensures { OnOk result (IsWorked (refresh_work (Stage.Config running.old)) (Stage.Config running.new) (string_bytes text.old) (string_bytes text.new)) }
 {
-    let published = running.refresh(rt, alloc)?;
+    let published = running.refresh(rt, alloc, &mut Steps::silent())?;
     add_refresh(text, published)
 }
 
@@ -249,7 +249,7 @@ impl<'a, R: Wait> Replay<'a, R> {
                 let decision = engine.decide(alloc, request, &mut Steps::silent())?;
                 Ok(Some(numbered(decision, Serial(1))))
             }
-            Stage::Config(running) => Ok(Some(running.decide(alloc, request)?)),
+            Stage::Config(running) => Ok(Some(running.decide(alloc, request, &mut Steps::silent())?)),
         }
     }
 
