@@ -3,6 +3,7 @@
 
 mod compilers;
 mod edits;
+mod filling;
 mod held;
 mod moving;
 mod plan;
