@@ -173,7 +173,10 @@ fn take_out<'a, X: Identified + Drop>(plan: &mut Plan<'a, X>, item: &X)
 }
 
 /// One more edit.
-fn follow<'a, X: Identified + Drop>(plan: &mut Plan<'a, X>, edit: &Edit<'a, X>) -> Result<(), NoMemory>
+fn follow<'a, X: Identified + Drop>(
+    plan: &mut Plan<'a, X>,
+    edit: &Edit<'a, X>,
+) -> Result<(), NoMemory>
     ensures { OnOk result (plan.new ≡ with_edit X.id_of plan.old edit.now) }
 {
     match edit.change_type {
@@ -196,9 +199,15 @@ fn at_first<'a, X: Drop>(alloc: Global, ids: &[i64]) -> Result<Plan<'a, X>, NoMe
 {
     let mut places = Vec::new(alloc);
     for id in ids {
-        places.push(Place { id: *id, fate: Fate::Stays })?;
+        places.push(Place {
+            id: *id,
+            fate: Fate::Stays,
+        })?;
     }
-    Ok(Plan { places, added: Vec::new(alloc) })
+    Ok(Plan {
+        places,
+        added: Vec::new(alloc),
+    })
 }
 
 /// The plan of the edits, in order, of things with these ids.
