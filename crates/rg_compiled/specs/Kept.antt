@@ -17,6 +17,8 @@ use Rattle.rg_index.specs.Candidates.{bound, candidates}
 use Rattle.rg_index.specs.declared.form.Form.{Form}
 use Rattle.rg_compiled.specs.Bounds.{policy_form, row_form}
 use Rattle.rg_compiled.specs.declared.row_visits.Least.{Least}
+use Rattle.rg_compiled.specs.declared.row_visits.Left.{Left}
+use Rattle.rg_compiled.specs.declared.row_visits.Left.TheVariants.{Rising, Any}
 use Rattle.rg_compiled.specs.Seen.{RowSource, row_source, source}
 
 -- a thing with the ordinal of its slot
@@ -150,3 +152,17 @@ rows_from (Some next) shelf resource = option_to_list (held_at shelf.slots next)
 pub record IsAhead (shelf : Shelved RowSource) (resource : Resource) (next : Least) : Type 0 where
   pub held : IfSome next.ordinal (λ ordinal. is_held shelf.slots ordinal ≡ true)
   pub alone : next.more ≡ false → IfSome next.ordinal (λ ordinal. rows_after (Some ordinal) shelf resource ≡ [])
+
+-- each ordinal is above the one before it
+abbrev pub do_rise : Option ℤ → List ℤ → Bool
+do_rise last [] = true
+do_rise last (o ∷ ordinals) = is_above last o && do_rise (Some o) ordinals
+
+-- the rows that are left, by how they are found
+abbrev pub rows_left : Shelved RowSource → Resource → Left → List RowSource
+rows_left shelf resource (Rising ordinals) = all_held shelf.slots ordinals
+rows_left shelf resource (Any next) = rows_from next.ordinal shelf resource
+
+abbrev pub IsLeft : Shelved RowSource → Resource → Left → Type 0
+IsLeft shelf resource (Rising ordinals) = list_all (is_held shelf.slots) ordinals ≡ true
+IsLeft shelf resource (Any next) = IsAhead shelf resource next

@@ -1,11 +1,11 @@
 // Slots in order, each with an ordinal of the set's own, by which it is found.
-ghost use Rattle.std.specs.Prelude.{◌≡◌, ◌∷◌, IfOk, [], int_lt, pos, option_map, option_to_list, true};
-ghost use Rattle.std.specs.List.{slice_get};
-ghost use Rattle.rg_compiled.specs.Kept.{are_rising, held_at, slot_form, slot_forms};
+ghost use Rattle.std.specs.Prelude.{◌≡◌, ◌∷◌, IfOk, MatchOption, [], int_lt, pos, option_map, option_to_list, true};
+ghost use Rattle.std.specs.List.{list_all, slice_get};
+ghost use Rattle.rg_compiled.specs.Kept.{all_held, are_rising, held_at, is_held, slot_form, slot_forms};
 
 use crate::held::Fileable;
 use rg_base::NoMemory;
-use rg_index::Form;
+use rg_index::{Candidates, Form};
 use std::alloc::Global;
 use std::marker::Model;
 use std::sync::Arc;
@@ -92,6 +92,23 @@ fn held_if<'a, H>(slot: &'a Slot<H>, ordinal: i64) -> Option<&'a H>
         Some(&slot.held)
     } else {
         None
+    }
+}
+
+/// What the slot of the next candidate holds. Each candidate has a slot.
+pub(crate) fn next_held<'a, H>(
+    slots: &'a [Slot<H>],
+    candidates: &mut Candidates<'_>,
+) -> Option<&'a H>
+    requires rising { are_rising slots.now ≡ true }
+    requires held { list_all (is_held slots.now) candidates.old ≡ true }
+    ensures held { list_all (is_held slots.now) candidates.new ≡ true }
+    ensures next { MatchOption (option_map (λ h. h.now) result) ((all_held slots.now candidates.old ≡ []) × (all_held slots.now candidates.new ≡ []))
+        (λ x. all_held slots.now candidates.old ≡ x ∷ all_held slots.now candidates.new) }
+{
+    match candidates.next() {
+        Some(ordinal) => held_at(slots, ordinal),
+        None => None,
     }
 }
 

@@ -2,10 +2,10 @@
 ghost use Rattle.std.specs.Prelude.{◌≡◌, ◌∷◌, [], MatchOption, true};
 ghost use Rattle.std.specs.List.{list_all};
 ghost use Rattle.std.specs.Iterator.{YieldsFirst, item_count};
-ghost use Rattle.rg_compiled.specs.Kept.{all_held, are_rising, held_at, is_held};
+ghost use Rattle.rg_compiled.specs.Kept.{all_held, are_rising, is_held};
 
 use crate::held::HeldPolicy;
-use crate::slots::{Slot, held_at};
+use crate::slots::{Slot, next_held};
 use rg_evalr::Evaluator;
 use rg_index::Candidates;
 use rg_policy::Policy;
@@ -63,17 +63,6 @@ impl<'a> Model for Visits<'a> {
     ghost invariant = { λ v. (are_rising v.slots.now ≡ true) × (list_all (is_held v.slots.now) v.candidates ≡ true) };
 }
 
-/// The policy in the slot of this ordinal.
-fn compiled_at<'a>(slots: &'a [Slot<HeldPolicy>], ordinal: i64) -> Option<Compiled<'a>>
-    requires { are_rising slots.now ≡ true }
-    ensures { result ≡ held_at slots.now ordinal }
-{
-    match held_at(slots, ordinal) {
-        Some(held) => Some(Compiled { held }),
-        None => None,
-    }
-}
-
 /// The next policy, and what is left after it.
 fn next_compiled<'a>(
     slots: &'a [Slot<HeldPolicy>],
@@ -85,8 +74,8 @@ fn next_compiled<'a>(
     ensures next { MatchOption result ((all_held slots.now candidates.old ≡ []) × (all_held slots.now candidates.new ≡ []))
         (λ c. all_held slots.now candidates.old ≡ c ∷ all_held slots.now candidates.new) }
 {
-    match candidates.next() {
-        Some(ordinal) => compiled_at(slots, ordinal),
+    match next_held(slots, candidates) {
+        Some(held) => Some(Compiled { held }),
         None => None,
     }
 }
