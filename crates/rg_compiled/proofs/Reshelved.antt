@@ -1,9 +1,8 @@
 -- Slots that move with a plan: their order, what they hold, and how much of it is filed anew.
 use Rattle.std.proofs.Common.{◌≡◌, ◌&&◌, ◌||◌, ◌<◌, ◌+◌, ◌++◌, ℕ, ℤ, pos, ◌+ℤ◌, int_lt, Bool, true, false, cond, List, [], ◌∷◌, map, drop, length, get_or, Option, Some, None, option_to_list, refl, sym, ap, subst, ◌∙◌, arith, append-nil, append_assoc, Contains}
-use Rattle.std.proofs.Math.Seq.{drop-length}
 use Rattle.std.proofs.lemmas.Bool.{and_parts}
 use Rattle.std.proofs.lemmas.Int.{ints}
-use Rattle.std.proofs.lemmas.List.{map-append}
+use Rattle.std.proofs.lemmas.List.{drop_all, map-append}
 use Rattle.std.proofs.lemmas.List.Elements.{Contains-append_right}
 use Rattle.std.proofs.lemmas.List.Sums.{sum_by-append, sum_by-cons}
 use Rattle.std.specs.List.{cons_option, list_all, list_any, sum_by}
@@ -227,18 +226,15 @@ module _ {X H : Type 0} (passes : X → Bool) (def : ServiceDef) (form : H → F
 
 -- ---- all slots have moved
 
-drop_all : {A : Type 0} (n : ℕ) (xs : List A) → n ≡ length xs → drop n xs ≡ []
-drop_all n xs is = ap (λ m. drop m xs) is ∙ drop-length xs
-
 module _ {X H : Type 0} (ps : List (Place X)) (slots : List (Placed H)) (n : ℕ) (all_slots : n ≡ length slots) where
   pub all_moved : (hold : X → H) (ms : List (Placed H)) → ms ++ moved_slots hold (drop n ps) (drop n slots) ≡ moved_slots hold ps slots → ms ≡ moved_slots hold ps slots
-  all_moved hold ms so_far = sym (append-nil ms) ∙ ap (λ l. ms ++ l) (sym (none_moved hold (drop n ps)) ∙ ap (moved_slots hold (drop n ps)) (sym (drop_all n slots all_slots))) ∙ so_far where
+  all_moved hold ms so_far = sym (append-nil ms) ∙ ap (λ l. ms ++ l) (sym (none_moved hold (drop n ps)) ∙ ap (moved_slots hold (drop n ps)) (sym (drop_all n slots (omega (arith, all_slots))))) ∙ so_far where
     none_moved : (hold : X → H) (rest : List (Place X)) → moved_slots {H = H} hold rest [] ≡ []
     none_moved hold [] = refl
     none_moved hold (p ∷ rest) = refl
 
   pub all_filed : (form : H → Form) (ms : List (Placed H)) (forms : List Form) → forms ≡ slot_forms form ms ++ slot_forms form (drop n slots) → forms ≡ slot_forms form ms
-  all_filed form ms forms is = is ∙ ap (λ l. slot_forms form ms ++ slot_forms form l) (drop_all n slots all_slots) ∙ append-nil (slot_forms form ms)
+  all_filed form ms forms is = is ∙ ap (λ l. slot_forms form ms ++ slot_forms form l) (drop_all n slots (omega (arith, all_slots))) ∙ append-nil (slot_forms form ms)
 
 -- ---- one thing after the other at the end
 
@@ -260,7 +256,7 @@ module _ {X : Type 0} (xs : List X) (n : ℕ) (x : X) (on : n < length xs) (is_x
   items_sum w = ap (sum_by w) left_items ∙ sum_by-cons w x (drop (n + 1) xs)
 
 pub all_added : {X H : Type 0} (xs : List X) (n : ℕ) (all_items : n ≡ length xs) (hold : X → H) (held all : List H) → held ++ map hold (drop n xs) ≡ all → held ≡ all
-all_added xs n all_items hold held all so_far = sym (append-nil held) ∙ ap (λ l. held ++ map hold l) (sym (drop_all n xs all_items)) ∙ so_far
+all_added xs n all_items hold held all so_far = sym (append-nil held) ∙ ap (λ l. held ++ map hold l) (sym (drop_all n xs (omega (arith, all_items)))) ∙ so_far
 
 -- ---- all of it
 
