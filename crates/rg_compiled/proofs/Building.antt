@@ -1,5 +1,5 @@
 -- What a set is after its slots were counted from 0 and filed.
-use Rattle.std.proofs.Common.{◌≡◌, ◌+◌, ℕ, List, map, true, refl, sym, ap, subst, ◌∙◌}
+use Rattle.std.proofs.Common.{◌≡◌, ℕ, List, map, true, sym, ap, subst, ◌∙◌}
 use Rattle.std.specs.List.{list_all, sum_by}
 use Rattle.rg_base.specs.Counts.{Counts}
 use Rattle.rg_policy.specs.declared.policy.Policy.{Policy}
@@ -12,7 +12,6 @@ use Rattle.rg_evalr.specs.declared.frame.Side.{Side}
 use Rattle.rg_facts.specs.Sound.{passes}
 use Rattle.rg_index.specs.Changes.{forms_fit}
 use Rattle.rg_index.specs.Filing.{EditsWithin, pairs}
-use Rattle.rg_index.specs.declared.form.Form.{Form}
 use Rattle.rg_resmatch.specs.Rules.{tagged_fit}
 use Rattle.rg_compiled.specs.Bounds.{WorkWithin, policy_forms, row_forms}
 use Rattle.rg_compiled.specs.Kept.{ArePolicies, AreRows, Placed, Shelved, are_rising, held_in, placed_from, policies_in, row_source_form, rows_in, slot_forms, source_form}

@@ -1,4 +1,4 @@
-use Rattle.std.proofs.Common.{◌≡◌, ◌<◌, ◌∙◌, length, arith}
+use Rattle.std.proofs.Common.{◌<◌, ◌∙◌, length, arith}
 use Rattle.rg_base.proofs.Lists.{left_passes}
 use Rattle.rg_compiled.proofs.Counting.{one_more, one_of}
 use Rattle.rg_compiled.proofs.Rising.{placed_more}

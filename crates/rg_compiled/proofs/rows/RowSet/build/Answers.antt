@@ -1,4 +1,4 @@
-use Rattle.std.proofs.Common.{◌≡◌, ℕ, ap, subst}
+use Rattle.std.proofs.Common.{ℕ, ap, subst}
 use Rattle.rg_compiled.specs.Bounds.{WorkWithin}
 use Rattle.rg_compiled.specs.Kept.{Shelved}
 use Rattle.rg_compiled.proofs.Counting.{no_edits, sum_of_none}
