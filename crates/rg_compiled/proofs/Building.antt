@@ -1,5 +1,5 @@
 -- What a set is after its slots were counted from 0 and filed.
-use Rattle.std.proofs.Common.{◌≡◌, ◌+◌, ℕ, List, map, true, refl, sym, ap, subst, ◌∙◌}
+use Rattle.std.proofs.Common.{◌≡◌, ℕ, List, map, true, sym, ap, subst, ◌∙◌}
 use Rattle.std.specs.List.{list_all, sum_by}
 use Rattle.rg_base.specs.Counts.{Counts}
 use Rattle.rg_policy.specs.declared.policy.Policy.{Policy}
@@ -12,12 +12,11 @@ use Rattle.rg_evalr.specs.declared.frame.Side.{Side}
 use Rattle.rg_facts.specs.Sound.{passes}
 use Rattle.rg_index.specs.Changes.{forms_fit}
 use Rattle.rg_index.specs.Filing.{EditsWithin, pairs}
-use Rattle.rg_index.specs.declared.form.Form.{Form}
 use Rattle.rg_resmatch.specs.Rules.{tagged_fit}
 use Rattle.rg_compiled.specs.Bounds.{WorkWithin, policy_forms, row_forms}
 use Rattle.rg_compiled.specs.Kept.{ArePolicies, AreRows, Placed, Shelved, are_rising, held_in, placed_from, policies_in, row_source_form, rows_in, slot_forms, source_form}
 use Rattle.rg_compiled.specs.Seen.{RowSource, row_source, source}
-use Rattle.rg_compiled.proofs.Counting.{edits_alone, with_edits}
+use Rattle.rg_compiled.proofs.Counting.{sum_of_none, with_edits}
 use Rattle.rg_compiled.proofs.Passing.{passing_forms_fit, placed_policies, placed_rows, policy_forms_held, row_forms_held, tagged_forms_fit}
 use Rattle.rg_compiled.proofs.Renumbered.{same_pairs}
 use Rattle.rg_compiled.proofs.Rising.{placed_held, placed_rise}
@@ -66,8 +65,10 @@ module _ (def : ServiceDef) (rows : List TagRow) (slots : List (Placed RowSource
       ∙ ap (sum_by (pairs def)) (row_forms_held slots)
       ∙ ap (λ (rs : List TagRow). sum_by (pairs def) (row_forms rs)) (ap rows_in placed ∙ placed_rows def 0 rows)
 
-  pub rows_within : (a b : Counts) → EditsWithin (sum_by (pairs def) (slot_forms row_source_form slots)) a b → WorkWithin 0 (sum_by (pairs def) (row_forms rows)) a b
-  rows_within a b edited = edits_alone (sum_by (pairs def) (row_forms rows)) a b (subst (λ (m : ℕ). EditsWithin m a b) rows_filed edited)
+  pub rows_within : (a b c : Counts) → WorkWithin (sum_by (λ (row : TagRow). 0) rows) 0 a b → EditsWithin (sum_by (pairs def) (slot_forms row_source_form slots)) b c
+      → WorkWithin 0 (sum_by (pairs def) (row_forms rows)) a c
+  rows_within a b c compiled edited =
+      with_edits 0 (sum_by (pairs def) (row_forms rows)) a b c (subst (λ (n : ℕ). WorkWithin n 0 a b) (sum_of_none rows) compiled) (subst (λ (m : ℕ). EditsWithin m b c) rows_filed edited)
 
   module _ (shelf : Shelved RowSource) (made : shelf ≡ (let s : Shelved RowSource = record { def = def; slots = slots } in s)) where
     row_slots : shelf.slots ≡ placed_from 0 (map (row_source def) rows)

@@ -1,5 +1,5 @@
 -- Forms of which one goes, is replaced or comes at the end.
-use Rattle.std.proofs.Common.{◌≡◌, ◌&&◌, ◌||◌, ◌++◌, ℤ, Bool, true, false, not, cond, List, [], ◌∷◌, map, filter, Some, None, Result, Ok, Err, IfOk, refl, sym, ap, subst, ◌∙◌}
+use Rattle.std.proofs.Common.{◌≡◌, ◌&&◌, ◌||◌, ◌++◌, ℤ, Bool, true, false, not, cond, List, [], ◌∷◌, map, filter, Some, None, Result, Ok, Err, IfOk, refl, sym, ap, ◌∙◌}
 use Rattle.std.proofs.lemmas.Bool.{and_parts, false_from_ne_true, true≢false}
 use Rattle.std.proofs.lemmas.Bool.Decides.{Decides-int_eq}
 use Rattle.std.proofs.lemmas.List.{map-append}
@@ -7,7 +7,7 @@ use Rattle.std.proofs.lemmas.List.Elements.{filter-append}
 use Rattle.std.proofs.lemmas.List.Folds.{list_any-append}
 use Rattle.std.specs.List.{list_all, list_any}
 use Rattle.std.specs.Ordering.{int_eq}
-use Rattle.rg_index.specs.Changes.{has_id_of, ids_differ, is_free, same_id}
+use Rattle.rg_index.specs.Changes.{ids_differ, is_free, same_id}
 use Rattle.rg_index.specs.declared.form.Form.{Form}
 use Rattle.rg_compiled.proofs.Weighing.{not_true, or_parts}
 

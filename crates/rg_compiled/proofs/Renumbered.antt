@@ -1,9 +1,9 @@
 -- That the ids of forms play no part in how often they are filed.
-use Rattle.std.proofs.Common.{◌≡◌, ◌+◌, ◌++◌, ℕ, ℤ, Bool, true, false, cond, List, [], ◌∷◌, Option, Some, None, filter, length, map, unwrap_or, refl, sym, ap, ◌∙◌, arith}
+use Rattle.std.proofs.Common.{◌≡◌, ◌+◌, ℕ, ℤ, true, false, cond, List, [], ◌∷◌, Option, Some, None, filter, length, map, unwrap_or, refl, sym, ap, ◌∙◌, arith}
 use Rattle.std.proofs.lemmas.List.{length-append}
 use Rattle.std.proofs.lemmas.List.Elements.{filter-append}
 use Rattle.std.proofs.lemmas.List.Sums.{sum_by-cons}
-use Rattle.std.specs.List.{flat_map, sum_by}
+use Rattle.std.specs.List.{sum_by}
 use Rattle.rg_base.specs.Folding.{folded}
 use Rattle.rg_defs.specs.Paths.{level_of}
 use Rattle.rg_defs.specs.declared.service_def.Level.{Level}

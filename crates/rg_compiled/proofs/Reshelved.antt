@@ -1,14 +1,11 @@
 -- Slots that move with a plan: their order, what they hold, and how much of it is filed anew.
-use Rattle.std.proofs.Common.{◌≡◌, ◌&&◌, ◌||◌, ◌<◌, ◌≤◌, ◌+◌, ◌++◌, ℕ, ℤ, pos, ◌+ℤ◌, int_lt, Bool, true, false, not, cond, List, [], ◌∷◌, map, drop, length, get_or, Option, Some, None, option_to_list, refl, sym, ap, subst, ◌∙◌, arith, append-nil, append_assoc, Contains}
-use Rattle.std.proofs.Math.Seq.{drop-length}
+use Rattle.std.proofs.Common.{◌≡◌, ◌&&◌, ◌||◌, ◌<◌, ◌+◌, ◌++◌, ℕ, ℤ, pos, ◌+ℤ◌, int_lt, Bool, true, false, cond, List, [], ◌∷◌, map, drop, length, get_or, Option, Some, None, option_to_list, refl, sym, ap, subst, ◌∙◌, arith, append-nil, append_assoc, Contains}
 use Rattle.std.proofs.lemmas.Bool.{and_parts}
 use Rattle.std.proofs.lemmas.Int.{ints}
-use Rattle.std.proofs.lemmas.List.{map-append}
-use Rattle.std.proofs.lemmas.List.Folds.{list_all-append}
+use Rattle.std.proofs.lemmas.List.{drop_all, map-append}
 use Rattle.std.proofs.lemmas.List.Elements.{Contains-append_right}
 use Rattle.std.proofs.lemmas.List.Sums.{sum_by-append, sum_by-cons}
 use Rattle.std.specs.List.{cons_option, list_all, list_any, sum_by}
-use Rattle.std.specs.Ordering.{int_eq}
 use Rattle.rg_base.specs.Counts.{Counts}
 use Rattle.rg_base.proofs.Lists.{Contains-first, drop_next}
 use Rattle.rg_defs.specs.declared.service_def.ServiceDef.{ServiceDef}
@@ -105,10 +102,10 @@ module _ {X H : Type 0} (hold : X → H) where
   moved_up least (p ∷ ps) (s ∷ slots) up =
       let parts = up_parts least s slots up in
       at p.fate parts.0 (moved_up (Some s.ordinal) ps slots parts.1) where
-    at : (f : Fate X) → Above least s.ordinal → rise_above (Some s.ordinal) (moved_slots hold ps slots) ≡ true → rise_above least (cons_option (moved_slot hold f s) (moved_slots hold ps slots)) ≡ true
-    at Stays above rest = up_joined least s (moved_slots hold ps slots) above rest
-    at Goes above rest = weaker least s.ordinal (moved_slots hold ps slots) above rest
-    at (Becomes x) above rest = up_joined least (record { ordinal = s.ordinal; held = hold x }) (moved_slots hold ps slots) above rest
+        at : (f : Fate X) → Above least s.ordinal → rise_above (Some s.ordinal) (moved_slots hold ps slots) ≡ true → rise_above least (cons_option (moved_slot hold f s) (moved_slots hold ps slots)) ≡ true
+        at Stays above rest = up_joined least s (moved_slots hold ps slots) above rest
+        at Goes above rest = weaker least s.ordinal (moved_slots hold ps slots) above rest
+        at (Becomes x) above rest = up_joined least (record { ordinal = s.ordinal; held = hold x }) (moved_slots hold ps slots) above rest
 
   pub moved_rise : (ps : List (Place X)) (slots : List (Placed H)) → are_rising slots ≡ true → are_rising (moved_slots hold ps slots) ≡ true
   moved_rise ps slots up = moved_up None ps slots up
@@ -140,7 +137,7 @@ option_all q None rest h = (refl, h)
 option_all q (Some a) rest h = let parts = and_parts (q a) (list_all q rest) h in (ap (λ b. b && true) parts.0, parts.1)
 
 module _ {X H : Type 0} (ps : List (Place X)) (slots : List (Placed H)) (n : ℕ) (p : Place X) (s : Placed H)
-  (places_on : n < length ps) (slots_on : n < length slots) (is_p : p ≡ get_or ps n p) (is_s : s ≡ get_or slots n s) where
+    (places_on : n < length ps) (slots_on : n < length slots) (is_p : p ≡ get_or ps n p) (is_s : s ≡ get_or slots n s) where
   left_places : drop n ps ≡ p ∷ drop (n + 1) ps
   left_places = drop_next n ps p places_on is_p
 
@@ -229,18 +226,15 @@ module _ {X H : Type 0} (passes : X → Bool) (def : ServiceDef) (form : H → F
 
 -- ---- all slots have moved
 
-drop_all : {A : Type 0} (n : ℕ) (xs : List A) → n ≡ length xs → drop n xs ≡ []
-drop_all n xs is = ap (λ m. drop m xs) is ∙ drop-length xs
-
 module _ {X H : Type 0} (ps : List (Place X)) (slots : List (Placed H)) (n : ℕ) (all_slots : n ≡ length slots) where
   pub all_moved : (hold : X → H) (ms : List (Placed H)) → ms ++ moved_slots hold (drop n ps) (drop n slots) ≡ moved_slots hold ps slots → ms ≡ moved_slots hold ps slots
-  all_moved hold ms so_far = sym (append-nil ms) ∙ ap (λ l. ms ++ l) (sym (none_moved hold (drop n ps)) ∙ ap (moved_slots hold (drop n ps)) (sym (drop_all n slots all_slots))) ∙ so_far where
+  all_moved hold ms so_far = sym (append-nil ms) ∙ ap (λ l. ms ++ l) (sym (none_moved hold (drop n ps)) ∙ ap (moved_slots hold (drop n ps)) (sym (drop_all n slots (omega (arith, all_slots))))) ∙ so_far where
     none_moved : (hold : X → H) (rest : List (Place X)) → moved_slots {H = H} hold rest [] ≡ []
     none_moved hold [] = refl
     none_moved hold (p ∷ rest) = refl
 
   pub all_filed : (form : H → Form) (ms : List (Placed H)) (forms : List Form) → forms ≡ slot_forms form ms ++ slot_forms form (drop n slots) → forms ≡ slot_forms form ms
-  all_filed form ms forms is = is ∙ ap (λ l. slot_forms form ms ++ slot_forms form l) (drop_all n slots all_slots) ∙ append-nil (slot_forms form ms)
+  all_filed form ms forms is = is ∙ ap (λ l. slot_forms form ms ++ slot_forms form l) (drop_all n slots (omega (arith, all_slots))) ∙ append-nil (slot_forms form ms)
 
 -- ---- one thing after the other at the end
 
@@ -262,13 +256,13 @@ module _ {X : Type 0} (xs : List X) (n : ℕ) (x : X) (on : n < length xs) (is_x
   items_sum w = ap (sum_by w) left_items ∙ sum_by-cons w x (drop (n + 1) xs)
 
 pub all_added : {X H : Type 0} (xs : List X) (n : ℕ) (all_items : n ≡ length xs) (hold : X → H) (held all : List H) → held ++ map hold (drop n xs) ≡ all → held ≡ all
-all_added xs n all_items hold held all so_far = sym (append-nil held) ∙ ap (λ l. held ++ map hold l) (sym (drop_all n xs all_items)) ∙ so_far
+all_added xs n all_items hold held all so_far = sym (append-nil held) ∙ ap (λ l. held ++ map hold l) (sym (drop_all n xs (omega (arith, all_items)))) ∙ so_far
 
 -- ---- all of it
 
 -- what a plan makes and takes away, filed under the plan's own lists
 module _ {X H : Type 0} (cost v : X → ℕ) (u : Placed H → ℕ) (plan : Planned X) (shelved : List (Placed H))
-  (places : List (Place X)) (added : List X) (slots : List (Placed H)) (is_places : places ≡ plan.places) (is_added : added ≡ plan.added) (is_slots : slots ≡ shelved) where
+    (places : List (Place X)) (added : List X) (slots : List (Placed H)) (is_places : places ≡ plan.places) (is_added : added ≡ plan.added) (is_slots : slots ≡ shelved) where
   made_parts : (w : X → ℕ) → sum_by w (made_in plan) ≡ sum_by w (put_at places) + sum_by w added
   made_parts w = (λ i. sum_by w (put_at (sym is_places i) ++ sym is_added i)) ∙ sum_by-append w (put_at places) added
 

@@ -1,5 +1,5 @@
 -- Slots whose ordinals rise: which one has an ordinal.
-use Rattle.std.proofs.Common.{◌≡◌, ◌<◌, ◌≤◌, ◌+◌, ◌++◌, ◌||◌, ◌&&◌, ℕ, zero, suc, ℤ, pos, Bool, true, false, not, cond, int_lt, List, [], ◌∷◌, Option, Some, None, Contains, length, get_or, map, take, option_map, option_to_list, inl, inr, refl, sym, ap, subst, ◌∙◌, arith}
+use Rattle.std.proofs.Common.{◌≡◌, ◌<◌, ◌≤◌, ◌+◌, ◌++◌, ◌||◌, ◌&&◌, ℕ, zero, suc, ℤ, pos, true, false, not, cond, int_lt, List, [], ◌∷◌, Option, Some, None, Contains, length, get_or, map, take, option_map, option_to_list, inl, inr, refl, sym, ap, subst, ◌∙◌, arith}
 use Rattle.std.proofs.lemmas.Int.{ints}
 use Rattle.std.proofs.lemmas.Bool.{and_parts}
 use Rattle.std.proofs.lemmas.Bool.Decides.{Decides-int_eq}

@@ -1,10 +1,9 @@
 -- What a set's slots say of its policies or rows.
 use Rattle.std.proofs.Common.{◌≡◌, ◌≤◌, ◌||◌, ℕ, ℤ, Bool, true, false, List, Contains, None, length, map, refl, sym, ap, subst, ◌∙◌, arith}
-use Rattle.std.specs.List.{list_all, sum_by}
+use Rattle.std.specs.List.{sum_by}
 use Rattle.rg_policy.specs.Maps.{maps_of}
 use Rattle.rg_policy.specs.declared.policy.Policy.{Policy}
 use Rattle.rg_policy.specs.declared.request.Element.{Element}
-use Rattle.rg_defs.specs.declared.service_def.ServiceDef.{ServiceDef}
 use Rattle.rg_resmatch.specs.Tests.{lies, some_lies}
 use Rattle.rg_resmatch.specs.declared.reach.Reach.TheVariants.{Exact, Down}
 use Rattle.rg_tags.specs.declared.row.TagRow.{TagRow}
@@ -16,7 +15,7 @@ use Rattle.rg_index.specs.Candidates.{bound}
 use Rattle.rg_index.specs.declared.form.Form.{Form}
 use Rattle.rg_base.proofs.Lists.{Contains-map, Contains-mapped}
 use Rattle.rg_compiled.specs.Bounds.{policy_forms, row_forms}
-use Rattle.rg_compiled.specs.Kept.{AreFound, ArePolicies, AreRows, Placed, Shelved, all_held, are_rising, held_forms, held_in, left_after, policies_in, row_source_form, rows_in, source_form}
+use Rattle.rg_compiled.specs.Kept.{AreFound, ArePolicies, AreRows, Placed, Shelved, all_held, held_forms, left_after, policies_in, row_source_form, rows_in, source_form}
 use Rattle.rg_compiled.specs.Seen.{Policies, RowSource, Rows, row_source, source}
 use Rattle.rg_compiled.proofs.Leaving.{among_left, asked_left, few_left, weighed_left}
 use Rattle.rg_compiled.proofs.Passing.{policy_forms_held, row_forms_held}
@@ -77,7 +76,7 @@ module _ (seen : Policies) (frame : Frame) (side : Side) (shelf : Shelved Source
       → some_lies (def_of seen.frame seen.side) (maps_of p) Exact elements user ≡ true → Contains result (source seen.frame seen.side p)
   all_visits found =
       subst (λ (v : Policies). (p : Policy) (user : List ℕ) → Contains v.policies p
-          → some_lies (def_of v.frame v.side) (maps_of p) Exact elements user ≡ true → Contains result (source v.frame v.side p)) view
+      → some_lies (def_of v.frame v.side) (maps_of p) Exact elements user ≡ true → Contains result (source v.frame v.side p)) view
       (λ p user there lies. subst (λ (r : List Source). Contains r (source frame side p)) (sym result_is) (all_policies frame side shelf are elements ordinals found p user there lies))
 
 module _ (seen : Rows) (shelf : Shelved RowSource) (view : (let inside : Rows = record { def = shelf.def; rows = rows_in shelf.slots } in inside) ≡ seen) (are : AreRows shelf)
@@ -117,7 +116,7 @@ module _ (seen : Rows) (shelf : Shelved RowSource) (view : (let inside : Rows = 
   all_rows =
       subst (λ (v : Rows). (row : TagRow) (user : List ℕ) → Contains v.rows row → lies v.def row.resources.items Down elements user ≡ true → Contains result (row_source v.def row)) view
       (λ row user there on.
-          let s = row_slot row there in
-          let lying = or_none (lies shelf.def s.0.held.row.resources.items Down elements user) (ap (λ (t : RowSource). lies shelf.def t.row.resources.items Down elements user) s.2 ∙ on) in
-          subst (λ (r : List RowSource). Contains r (row_source shelf.def row)) (sym is)
-          (subst (Contains (left_after None ordinals shelf.slots)) s.2 (asked_left ordinals shelf.slots s.0 s.1 (found.all s.0 user s.1 lying))))
+      let s = row_slot row there in
+      let lying = or_none (lies shelf.def s.0.held.row.resources.items Down elements user) (ap (λ (t : RowSource). lies shelf.def t.row.resources.items Down elements user) s.2 ∙ on) in
+      subst (λ (r : List RowSource). Contains r (row_source shelf.def row)) (sym is)
+      (subst (Contains (left_after None ordinals shelf.slots)) s.2 (asked_left ordinals shelf.slots s.0 s.1 (found.all s.0 user s.1 lying))))

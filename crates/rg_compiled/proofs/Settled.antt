@@ -1,5 +1,5 @@
 -- Sets after a plan of changes.
-use Rattle.std.proofs.Common.{◌≡◌, ◌&&◌, ◌≤◌, ◌+◌, ◌++◌, ℕ, ℤ, Bool, true, false, not, cond, List, [], ◌∷◌, map, fold, length, Option, Some, None, refl, sym, ap, subst, ◌∙◌, arith}
+use Rattle.std.proofs.Common.{◌≡◌, ◌&&◌, ◌+◌, ℕ, ℤ, Bool, true, not, cond, List, [], ◌∷◌, map, fold, length, refl, sym, ap, subst, ◌∙◌, arith}
 use Rattle.std.proofs.lemmas.Bool.{and_parts}
 use Rattle.std.proofs.lemmas.List.{length-map}
 use Rattle.std.proofs.lemmas.List.Folds.{list_all-append}
@@ -27,7 +27,7 @@ use Rattle.rg_evalr.specs.declared.frame.Side.{Side}
 use Rattle.rg_facts.specs.Sound.{passes, row_ids, same_id}
 use Rattle.rg_index.specs.Changes.{form_fits}
 use Rattle.rg_index.specs.Filing.{pairs}
-use Rattle.rg_compiled.specs.Bounds.{WorkWithin, made_on, pairs_on, policy_form, row_form, row_pairs, side_after}
+use Rattle.rg_compiled.specs.Bounds.{WorkWithin, made_on, pairs_on, row_pairs, side_after}
 use Rattle.rg_compiled.specs.Kept.{ArePolicies, AreRows, Placed, Shelved, held_in, policies_in, row_source_form, rows_in, source_form}
 use Rattle.rg_compiled.specs.Moved.{edits_of, is_compiled, policy_id, policy_pairs, row_form_pairs, row_id}
 use Rattle.rg_compiled.specs.Plan.{AllSuit, Planned, is_kept, left_of, lost, made_in, plan_of, put_at, put_there, standing, stood}
@@ -211,7 +211,7 @@ module _ (def : ServiceDef) where
 -- ---- sets with the policies or rows of these slots, and a plan of changes
 
 module _ (frame : Frame) (side : Side) (shelf : Shelved Source) (are : ArePolicies frame side shelf) (changes : List PolicyChange) (def : ServiceDef) (same : def ≡ def_of frame side)
-  (p : Planned Policy) (is : p ≡ planned frame side (policies_in shelf.slots) changes) where
+    (p : Planned Policy) (is : p ≡ planned frame side (policies_in shelf.slots) changes) where
   pub policies_long : length p.places ≡ length shelf.slots
   policies_long =
       ap (λ (q : Planned Policy). length q.places) is ∙ policies_placed frame side (policies_in shelf.slots) changes

@@ -1,6 +1,5 @@
 -- What the index of slots says of them.
-use Rattle.std.proofs.Common.{◌≡◌, ℕ, ℤ, List, Contains, length, map, true, refl, sym, ap, subst, ◌∙◌}
-use Rattle.std.specs.List.{list_all}
+use Rattle.std.proofs.Common.{◌≡◌, ℕ, ℤ, List, Contains, length, true, sym, ap, subst, ◌∙◌}
 use Rattle.rg_base.proofs.Lists.{Contains-map, Contains-mapped, all_from}
 use Rattle.rg_defs.specs.declared.service_def.ServiceDef.{ServiceDef}
 use Rattle.rg_policy.specs.declared.request.Element.{Element}
@@ -8,7 +7,7 @@ use Rattle.rg_resmatch.specs.Tests.{some_lies}
 use Rattle.rg_index.specs.Candidates.{bound, candidates}
 use Rattle.rg_index.specs.Indexed.{Indexed}
 use Rattle.rg_index.specs.declared.form.Form.{Form}
-use Rattle.rg_compiled.specs.Kept.{AreFound, Placed, Shelved, are_rising, found_in, held_forms, is_held, slot_form, slot_forms}
+use Rattle.rg_compiled.specs.Kept.{AreFound, Placed, Shelved, are_rising, found_in, is_held, slot_form, slot_forms}
 use Rattle.rg_compiled.proofs.Renumbered.{same_bound}
 use Rattle.rg_compiled.proofs.Visiting.{is_there}
 

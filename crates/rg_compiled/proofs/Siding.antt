@@ -1,5 +1,5 @@
 -- Changes of policies and tag rows as edits of one list.
-use Rattle.std.proofs.Common.{◌≡◌, ◌<◌, ◌≤◌, ◌+◌, ◌++◌, ◌==◌, ℕ, ℤ, length, take, get_or, Bool, true, false, not, cond, List, [], ◌∷◌, map, filter, fold, refl, sym, ap, ◌∙◌, arith}
+use Rattle.std.proofs.Common.{◌≡◌, ◌<◌, ◌+◌, ◌++◌, ◌==◌, ℕ, length, take, get_or, Bool, true, false, not, cond, List, [], ◌∷◌, map, filter, fold, refl, sym, ap, ◌∙◌, arith}
 use Rattle.std.proofs.lemmas.List.{map-append}
 use Rattle.std.proofs.lemmas.List.Elements.{filter-append}
 use Rattle.std.proofs.lemmas.List.Sums.{sum_by-cons}
@@ -13,12 +13,12 @@ use Rattle.rg_cmd.specs.Lookups.{has_id, has_row_id}
 use Rattle.rg_cmd.specs.declared.changes.PolicyChange.{PolicyChange}
 use Rattle.rg_cmd.specs.declared.changes.TagChange.{TagChange}
 use Rattle.rg_delta.specs.Applied.{rows_after}
-use Rattle.rg_delta.specs.Editing.{edited, has_id_of}
+use Rattle.rg_delta.specs.Editing.{edited}
 use Rattle.rg_delta.specs.Sides.{policy_edit, row_edit}
 use Rattle.rg_evalr.specs.declared.frame.Side.{Side}
 use Rattle.rg_evalr.specs.declared.frame.Side.TheVariants.{Resource, Tag}
 use Rattle.rg_index.specs.Filing.{pairs}
-use Rattle.rg_compiled.specs.Bounds.{is_on, made_on, pairs_on, policy_form, policy_forms, row_form, row_forms, row_pairs, side_after}
+use Rattle.rg_compiled.specs.Bounds.{is_on, made_on, pairs_on, policy_form, policy_forms, row_form, row_pairs, side_after}
 use Rattle.rg_compiled.specs.Moved.{edits_of, policy_id, policy_pairs, row_form_pairs, row_id}
 use Rattle.rg_compiled.specs.Plan.{weighed, weight_put}
 
@@ -96,15 +96,15 @@ side_weighed def side policies (c ∷ cs) =
     at (is_on side c) (λ ps. side_weighed def side ps cs)
     ∙ ap (λ ps. cond (is_on side c) (cond (c.change_type == deleted) 0 (sum_by (pairs def) (policy_form c.policy ∷ [])) + sum_by (pairs def) (policy_forms (filter (has_id c.policy.id.0) policies))) 0 + pairs_on def side ps cs)
     (sym (after_one side policies c)) where
-  at : (b : Bool) → ((ps : List Policy) → weighed policy_id (policy_pairs def) ps (edits_of side cs) ≡ pairs_on def side ps cs)
-      → weighed policy_id (policy_pairs def) policies (map policy_edit (cond b (c ∷ filter (is_on side) cs) (filter (is_on side) cs)))
-      ≡ cond b (cond (c.change_type == deleted) 0 (sum_by (pairs def) (policy_form c.policy ∷ [])) + sum_by (pairs def) (policy_forms (filter (has_id c.policy.id.0) policies))) 0
-      + pairs_on def side (cond b (edited policy_id policies (policy_edit c)) policies) cs
-  at true rest = λ i.
-      (sym (one_form (pairs def) (c.change_type == deleted) (policy_form c.policy)) i
-      + sym (mapped_sum (pairs def) policy_form (filter (has_id c.policy.id.0) policies)) i)
-      + rest (edited policy_id policies (policy_edit c)) i
-  at false rest = let same = rest policies in omega (arith, same)
+      at : (b : Bool) → ((ps : List Policy) → weighed policy_id (policy_pairs def) ps (edits_of side cs) ≡ pairs_on def side ps cs)
+          → weighed policy_id (policy_pairs def) policies (map policy_edit (cond b (c ∷ filter (is_on side) cs) (filter (is_on side) cs)))
+          ≡ cond b (cond (c.change_type == deleted) 0 (sum_by (pairs def) (policy_form c.policy ∷ [])) + sum_by (pairs def) (policy_forms (filter (has_id c.policy.id.0) policies))) 0
+          + pairs_on def side (cond b (edited policy_id policies (policy_edit c)) policies) cs
+      at true rest = λ i.
+          (sym (one_form (pairs def) (c.change_type == deleted) (policy_form c.policy)) i
+          + sym (mapped_sum (pairs def) policy_form (filter (has_id c.policy.id.0) policies)) i)
+          + rest (edited policy_id policies (policy_edit c)) i
+      at false rest = let same = rest policies in omega (arith, same)
 
 pub rows_weighed : (def : ServiceDef) (rows : List TagRow) (changes : List TagChange)
     → weighed row_id (row_form_pairs def) rows (map row_edit changes) ≡ row_pairs def rows changes

@@ -1,11 +1,11 @@
 -- What the slots of candidates hold.
-use Rattle.std.proofs.Common.{◌≡◌, ◌⊎◌, ◌<◌, ◌≤◌, ◌+◌, ◌++◌, ◌||◌, ◌&&◌, ℕ, ℤ, Bool, true, false, cond, List, [], ◌∷◌, Option, Some, None, MatchOption, Contains, length, map, option_map, option_to_list, inl, inr, refl, sym, ap, subst, ◌∙◌, arith}
+use Rattle.std.proofs.Common.{◌≡◌, ◌≤◌, ◌++◌, ◌||◌, ℤ, Bool, true, false, cond, List, [], ◌∷◌, Option, Some, None, MatchOption, Contains, length, option_map, option_to_list, inl, inr, refl, sym, ap, subst, ◌∙◌, arith}
 use Rattle.std.proofs.lemmas.Bool.{and_parts, false≢true}
 use Rattle.std.proofs.lemmas.List.{length-append}
 use Rattle.std.proofs.lemmas.Option.{none-some, same_Some}
-use Rattle.std.specs.List.{find, list_all, list_any}
+use Rattle.std.specs.List.{find, list_all}
 use Rattle.std.specs.Ordering.{int_eq}
-use Rattle.rg_base.proofs.Lists.{Contains-cases, Contains-first, Contains-flat_map, Contains-flat_mapped, Contains-map, Contains-none, all_from, any_from, find_contained}
+use Rattle.rg_base.proofs.Lists.{Contains-cases, Contains-first, Contains-flat_map, Contains-flat_mapped, Contains-map, Contains-none, any_from, find_contained}
 use Rattle.rg_compiled.specs.Kept.{Placed, all_held, are_rising, held_at, held_in, is_held}
 use Rattle.rg_compiled.proofs.Rising.{holds_it, same_ordinal}
 
@@ -66,7 +66,7 @@ module _ {X : Type 0} (slots : List (Placed X)) where
   next_held o rest held result is =
       let x = held_there o (and_parts (is_held slots o) (list_all (is_held slots) rest) held).0 in
       subst (λ (r : Option X). MatchOption r ((all_held slots (o ∷ rest) ≡ []) × (all_held slots rest ≡ [])) (λ (x : X). all_held slots (o ∷ rest) ≡ x ∷ all_held slots rest)) (sym (is ∙ x.1))
-          (ap (λ (p : Option X). option_to_list p ++ all_held slots rest) x.1)
+      (ap (λ (p : Option X). option_to_list p ++ all_held slots rest) x.1)
 
   pub rest_held : (o : ℤ) (rest : List ℤ) → list_all (is_held slots) (o ∷ rest) ≡ true → list_all (is_held slots) rest ≡ true
   rest_held o rest held = (and_parts (is_held slots o) (list_all (is_held slots) rest) held).1

@@ -3,6 +3,7 @@
 
 mod compilers;
 mod edits;
+mod filling;
 mod held;
 mod moving;
 mod plan;
@@ -20,4 +21,3 @@ pub use row_visits::{CompiledRow, RowVisits};
 pub use rows::RowSet;
 pub use sharing::sets_may_be_shared;
 pub use visits::{Compiled, Visits};
-

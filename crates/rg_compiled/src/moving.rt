@@ -258,15 +258,7 @@ fn move_slots<X, H: Fileable, C: Compile<X, H>, L: Ledger>(
     for at in 0..slots.len() {
         let slot = &slots[at];
         let place = &places[at];
-        move_slot(
-            alloc,
-            def,
-            compiler,
-            slot,
-            &place.fate,
-            &mut moving,
-            steps,
-        )?;
+        move_slot(alloc, def, compiler, slot, &place.fate, &mut moving, steps)?;
     }
     Ok(moving)
 }
@@ -372,7 +364,7 @@ fn add_slots<X, H: Fileable, C: Compile<X, H>, L: Ledger>(
 
 impl<H: Fileable> Shelf<H> {
     /// The slots after the plan, in whose places they are. The definition is theirs.
-            pub(crate) fn moved<X, C: Compile<X, H>, L: Ledger>(
+    pub(crate) fn moved<X, C: Compile<X, H>, L: Ledger>(
         &self,
         alloc: Global,
         def: &ServiceDef,

@@ -1,5 +1,5 @@
 // The plan of edits: which of the things that stood before stay, and which things the edits put into the list.
-ghost use Rattle.std.specs.Prelude.{◌≡◌, ◌&&◌, ◌||◌, IfOk, List, OnOk, filter, fold, map, not};
+ghost use Rattle.std.specs.Prelude.{◌≡◌, ◌&&◌, ◌||◌, IfOk, List, OnOk, fold, map, not};
 ghost use Rattle.std.specs.List.{list_any};
 ghost use Rattle.std.specs.Ordering.{int_eq};
 ghost use Rattle.rg_cmd.specs.Lists.{without};
@@ -173,7 +173,10 @@ fn take_out<'a, X: Identified + Drop>(plan: &mut Plan<'a, X>, item: &X)
 }
 
 /// One more edit.
-fn follow<'a, X: Identified + Drop>(plan: &mut Plan<'a, X>, edit: &Edit<'a, X>) -> Result<(), NoMemory>
+fn follow<'a, X: Identified + Drop>(
+    plan: &mut Plan<'a, X>,
+    edit: &Edit<'a, X>,
+) -> Result<(), NoMemory>
     ensures { OnOk result (plan.new ≡ with_edit X.id_of plan.old edit.now) }
 {
     match edit.change_type {
@@ -196,18 +199,25 @@ fn at_first<'a, X: Drop>(alloc: Global, ids: &[i64]) -> Result<Plan<'a, X>, NoMe
 {
     let mut places = Vec::new(alloc);
     for id in ids {
-        places.push(Place { id: *id, fate: Fate::Stays })?;
+        places.push(Place {
+            id: *id,
+            fate: Fate::Stays,
+        })?;
     }
-    Ok(Plan { places, added: Vec::new(alloc) })
+    Ok(Plan {
+        places,
+        added: Vec::new(alloc),
+    })
 }
 
-/// The plan of the edits, in order, of things with these ids.
+/// The plan of the edits, in order, of things with these ids. For each edit the work grows with the number of things.
 pub(crate) fn plan_of<'a, X: Identified + Drop>(
     alloc: Global,
     ids: &[i64],
     edits: &[Edit<'a, X>],
 ) -> Result<Plan<'a, X>, NoMemory>
-    ensures { IfOk result (λ p. p ≡ plan_of X.id_of ids.now edits.now) }
+    ensures plan { IfOk result (λ p. p ≡ plan_of X.id_of ids.now edits.now) }
+    ensures stands { IfOk result (λ p. (xs : List X) → map X.id_of xs ≡ ids.now → standing p xs ≡ fold (edited X.id_of) xs edits.now) }
 {
     let mut plan = at_first(alloc, ids)?;
     for edit in edits {

@@ -1,5 +1,5 @@
 // The policies of one side, compiled and filed.
-ghost use Rattle.std.specs.Prelude.{◌≡◌, ◌==◌, ◌≤◌, ℕ, List, Contains, None, IfOk, fold, length, map, pos, sum_by, true};
+ghost use Rattle.std.specs.Prelude.{◌≡◌, ◌==◌, ◌≤◌, ℕ, List, Contains, None, IfOk, fold, length, map, sum_by, true};
 ghost use Rattle.std.specs.List.{list_all};
 ghost use Rattle.std.specs.Str.{chars};
 ghost use Rattle.rg_base.specs.Listed.{listed};
@@ -9,21 +9,21 @@ ghost use Rattle.rg_policy.specs.declared.policy.Policy.{Policy};
 ghost use Rattle.rg_defs.specs.Rules.{def_fault};
 ghost use Rattle.rg_resmatch.specs.Tests.{some_lies, tag_elements};
 ghost use Rattle.rg_resmatch.specs.declared.reach.Reach.TheVariants.{Exact};
-ghost use Rattle.rg_evalr.specs.Compiling.{policy_fault};
 ghost use Rattle.rg_evalr.specs.Frames.{def_of};
 ghost use Rattle.rg_evalr.specs.Sources.{Source};
 ghost use Rattle.rg_facts.specs.Sound.{passes, same_id};
 ghost use Rattle.rg_index.specs.Candidates.{bound};
 ghost use Rattle.rg_index.specs.Filing.{pairs};
 ghost use Rattle.rg_compiled.specs.Bounds.{WorkWithin, made_on, pairs_on, policy_forms, side_after};
-ghost use Rattle.rg_compiled.specs.Kept.{placed_from, policies_in};
+ghost use Rattle.rg_compiled.specs.Kept.{policies_in};
 ghost use Rattle.rg_compiled.specs.Seen.{source};
 
 use crate::compilers::PolicyCompiler;
+use crate::filling::compile_slots;
 use crate::held::HeldPolicy;
 use crate::shelf::Shelf;
 use crate::sides::policy_plan;
-use crate::slots::{Slot, ordinal_of};
+use crate::slots::Slot;
 use crate::visits::Visits;
 use rg_base::{Ledger, NoMemory, Seq, Steps, TryCopy};
 use rg_cmd::PolicyChange;
@@ -68,46 +68,6 @@ pub(crate) fn def_of(frame: &Frame, side: Side) -> &ServiceDef
     }
 }
 
-/// The policy in the slot of this place.
-fn compile_slot<L: Ledger>(
-    alloc: Global,
-    frame: &Frame,
-    side: Side,
-    place: usize,
-    policy: &Policy,
-    steps: &mut Steps<L>,
-) -> Result<Slot<HeldPolicy>, NoMemory>
-    requires lawful { def_fault (def_of frame.now side) ≡ None }
-    requires rules { policy_fault frame.now side policy.now ≡ None }
-    ensures slot { IfOk result (λ s. s ≡ record { ordinal = pos place; held = source frame.now side policy.now }) }
-    ensures steps { WorkWithin 1 0 steps.old steps.new }
-{
-    let ordinal = ordinal_of(place)?;
-    let held = HeldPolicy::compile(alloc, frame, side, policy, steps)?;
-    Slot::new(alloc, ordinal, held)
-}
-
-/// The policies in slots, counted from 0.
-fn compile_policies<L: Ledger>(
-    alloc: Global,
-    frame: &Frame,
-    side: Side,
-    policies: &[Policy],
-    steps: &mut Steps<L>,
-) -> Result<Vec<Slot<HeldPolicy>>, NoMemory>
-    requires lawful { def_fault (def_of frame.now side) ≡ None }
-    requires rules { list_all (passes frame.now side) policies.now ≡ true }
-    ensures slots { IfOk result (λ slots. slots.items ≡ placed_from 0 (map (source frame.now side) policies.now)) }
-    ensures steps { WorkWithin (length policies.now) 0 steps.old steps.new }
-{
-    let mut slots = Vec::new(alloc);
-    for (place, policy) in policies.iter().enumerate() {
-        let slot = compile_slot(alloc, frame, side, place, policy, steps)?;
-        slots.push(slot)?;
-    }
-    Ok(slots)
-}
-
 /// Copies of the policies in the slots.
 fn policies_of(alloc: Global, slots: &[Slot<HeldPolicy>]) -> Result<Seq<Policy>, NoMemory>
     ensures { IfOk result (λ list. list ≡ listed (policies_in slots.now)) }
@@ -134,7 +94,8 @@ impl PolicySet {
         ensures made { IfOk result (λ s. s ≡ record { frame = frame.now; side = side; policies = policies.now }) }
         ensures steps { WorkWithin (length policies.now) (sum_by (pairs (def_of frame.now side)) (policy_forms policies.now)) steps.old steps.new }
     {
-        let slots = compile_policies(alloc, frame, side, policies, steps)?;
+        let compiler = PolicyCompiler { frame, side };
+        let slots = compile_slots(alloc, &compiler, policies, steps)?;
         let shelf = Shelf::build(alloc, def_of(frame, side), slots, steps)?;
         Ok(PolicySet {
             shelf,

@@ -1,5 +1,5 @@
 // The tag rows of a service, compiled and filed.
-ghost use Rattle.std.specs.Prelude.{◌≡◌, ◌==◌, ◌≤◌, ℕ, List, [], Contains, None, IfOk, fold, length, map, pos, sum_by, true};
+ghost use Rattle.std.specs.Prelude.{◌≡◌, ◌==◌, ◌≤◌, ℕ, List, [], Contains, None, IfOk, fold, length, map, sum_by, true};
 ghost use Rattle.std.specs.List.{list_all};
 ghost use Rattle.std.specs.Ordering.{int_eq};
 ghost use Rattle.rg_base.specs.Listed.{listed};
@@ -14,15 +14,16 @@ ghost use Rattle.rg_facts.specs.Sound.{row_ids};
 ghost use Rattle.rg_index.specs.Candidates.{bound};
 ghost use Rattle.rg_index.specs.Filing.{pairs};
 ghost use Rattle.rg_compiled.specs.Bounds.{WorkWithin, row_forms, row_pairs};
-ghost use Rattle.rg_compiled.specs.Kept.{placed_from, rows_in};
+ghost use Rattle.rg_compiled.specs.Kept.{rows_in};
 ghost use Rattle.rg_compiled.specs.Seen.{RowSource, row_source};
 
 use crate::compilers::RowCompiler;
+use crate::filling::compile_slots;
 use crate::held::HeldRow;
 use crate::row_visits::RowVisits;
 use crate::shelf::Shelf;
 use crate::sides::row_plan;
-use crate::slots::{Slot, ordinal_of};
+use crate::slots::Slot;
 use rg_base::{Ledger, NoMemory, Seq, Steps, TryCopy};
 use rg_cmd::TagChange;
 use rg_defs::ServiceDef;
@@ -49,40 +50,6 @@ impl Model for RowSet {
     ghost invariant = { λ s. AreRows s.shelf };
 }
 
-/// The row in the slot of this place.
-fn compile_slot(
-    alloc: Global,
-    def: &ServiceDef,
-    place: usize,
-    row: &TagRow,
-) -> Result<Slot<HeldRow>, NoMemory>
-    requires lawful { def_fault def.now ≡ None }
-    requires fits { tagged_fit def.now row.now.resources.items ≡ true }
-    ensures { IfOk result (λ s. s ≡ record { ordinal = pos place; held = row_source def.now row.now }) }
-{
-    let ordinal = ordinal_of(place)?;
-    let held = HeldRow::compile(alloc, def, row)?;
-    Slot::new(alloc, ordinal, held)
-}
-
-/// The rows in slots, counted from 0.
-fn compile_rows(
-    alloc: Global,
-    def: &ServiceDef,
-    rows: &[TagRow],
-) -> Result<Vec<Slot<HeldRow>>, NoMemory>
-    requires lawful { def_fault def.now ≡ None }
-    requires fit { list_all (λ (row : TagRow). tagged_fit def.now row.resources.items) rows.now ≡ true }
-    ensures { IfOk result (λ slots. slots.items ≡ placed_from 0 (map (row_source def.now) rows.now)) }
-{
-    let mut slots = Vec::new(alloc);
-    for (place, row) in rows.iter().enumerate() {
-        let slot = compile_slot(alloc, def, place, row)?;
-        slots.push(slot)?;
-    }
-    Ok(slots)
-}
-
 /// Copies of the rows in the slots.
 fn rows_of(alloc: Global, slots: &[Slot<HeldRow>]) -> Result<Seq<TagRow>, NoMemory>
     ensures { IfOk result (λ list. list ≡ listed (rows_in slots.now)) }
@@ -107,7 +74,8 @@ impl RowSet {
         ensures made { IfOk result (λ s. s ≡ record { def = def.now; rows = rows.now }) }
         ensures steps { WorkWithin 0 (sum_by (pairs def.now) (row_forms rows.now)) steps.old steps.new }
     {
-        let slots = compile_rows(alloc, def, rows)?;
+        let compiler = RowCompiler { def };
+        let slots = compile_slots(alloc, &compiler, rows, steps)?;
         let shelf = Shelf::build(alloc, def, slots, steps)?;
         Ok(RowSet { shelf })
     }

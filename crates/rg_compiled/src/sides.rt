@@ -50,10 +50,7 @@ fn policy_edits<'a>(
 
 /// The changes of tag rows.
 #[tactic(auto, using(crate::proofs::Siding::row_edits_next))]
-fn row_edits<'a>(
-    alloc: Global,
-    changes: &'a [TagChange],
-) -> Result<Vec<Edit<'a, TagRow>>, NoMemory>
+fn row_edits<'a>(alloc: Global, changes: &'a [TagChange]) -> Result<Vec<Edit<'a, TagRow>>, NoMemory>
     ensures { IfOk result (λ edits. edits.items ≡ map row_edit changes.now) }
 {
     let mut edits = Vec::new(alloc);

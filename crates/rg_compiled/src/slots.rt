@@ -120,10 +120,7 @@ pub(crate) fn form_of<H: Fileable>(alloc: Global, slot: &Slot<H>) -> Result<Form
 }
 
 /// The forms of the slots.
-pub(crate) fn forms_of<H: Fileable>(
-    alloc: Global,
-    slots: &[Slot<H>],
-) -> Result<Vec<Form>, NoMemory>
+pub(crate) fn forms_of<H: Fileable>(alloc: Global, slots: &[Slot<H>]) -> Result<Vec<Form>, NoMemory>
     ensures { IfOk result (λ forms. forms.items ≡ slot_forms H.form_of slots.now) }
 {
     let mut forms = Vec::new(alloc);

@@ -1,4 +1,4 @@
-use Rattle.std.proofs.Common.{◌≡◌, ◌<◌, ◌+◌, ◌++◌, ◌∷◌, [], rules, drop, length, map, sum_by, refl, sym, ap, ◌∙◌, arith}
+use Rattle.std.proofs.Common.{◌<◌, ◌+◌, ◌++◌, ◌∷◌, [], rules, drop, length, map, sum_by, sym, ap, ◌∙◌, arith}
 use Rattle.rg_index.specs.Filing.{pairs}
 use Rattle.rg_compiled.specs.Kept.{held_in}
 use Rattle.rg_compiled.specs.Moved.{is_compiled}

@@ -17,7 +17,7 @@ invariant-loop-made g l =
       forms : l.moving.index.forms ≡ slot_forms form l.moving.slots.items;
       fit : list_all (is_compiled (g.C.Compile.passes l.compiler) l.def form hold) (drop l.made-index l.added) ≡ true;
       steps : WorkLeft (sum_by (λ x. g.C.Compile.cost) (drop l.made-index l.added))
-        (sum_by (λ x. pairs l.def (form (hold x))) (drop l.made-index l.added))
-        (sum_by (λ x. g.C.Compile.cost) l.added)
-        (sum_by (λ x. pairs l.def (form (hold x))) l.added) l.fn.steps l.steps;
+          (sum_by (λ x. pairs l.def (form (hold x))) (drop l.made-index l.added))
+          (sum_by (λ x. g.C.Compile.cost) l.added)
+          (sum_by (λ x. pairs l.def (form (hold x))) l.added) l.fn.steps l.steps;
     }

@@ -1,4 +1,4 @@
-use Rattle.std.proofs.Common.{◌≡◌, ◌++◌, ◌∷◌, Contains, sym, ap, subst, ◌∙◌}
+use Rattle.std.proofs.Common.{◌++◌, ◌∷◌, Contains, sym, ap, subst, ◌∙◌}
 use Rattle.rg_index.specs.Filing.{pairs}
 use Rattle.rg_compiled.proofs.Counting.{edits_alone, no_work}
 use Rattle.rg_compiled.proofs.Reshelved.{as_many}

@@ -1,9 +1,7 @@
-use Rattle.std.proofs.Common.{◌≡◌, ◌<◌, ◌+◌, ◌++◌, drop, length, rules, sym, ap, subst, ◌∙◌, arith, cond, option_to_list}
-use Rattle.std.specs.List.{sum_by}
+use Rattle.std.proofs.Common.{◌<◌, ◌+◌, drop, length, rules, arith}
 use Rattle.rg_index.specs.Filing.{pairs}
 use Rattle.rg_compiled.specs.Kept.{Placed, slot_forms}
 use Rattle.rg_compiled.specs.Moved.{is_compiled}
-use Rattle.rg_compiled.specs.Plan.{is_kept, lost, put_at, put_there}
 use Rattle.rg_compiled.proofs.Reshelved.{all_filed, all_moved, edits_on, fit_parts, form_among, forms_at, forms_on, moved_on, put_on, work_done, work_first, work_on}
 use Rattle.rg_compiled.proofs.moving.move_slots.Goals as goal
 

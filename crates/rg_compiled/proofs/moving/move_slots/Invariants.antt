@@ -1,7 +1,7 @@
 use Rattle.std.proofs.Common.{◌≡◌, ◌+◌, ◌++◌, drop, true}
 use Rattle.std.specs.List.{list_all, sum_by}
 use Rattle.rg_index.specs.Filing.{pairs}
-use Rattle.rg_compiled.specs.Kept.{Placed, slot_forms}
+use Rattle.rg_compiled.specs.Kept.{slot_forms}
 use Rattle.rg_compiled.specs.Moved.{WorkLeft, is_compiled, moved_slots}
 use Rattle.rg_compiled.specs.Plan.{lost, put_at}
 use Rattle.rg_compiled.proofs.moving.move_slots.Given as goal
@@ -17,7 +17,7 @@ invariant-loop-at g l =
       forms : l.moving.index.forms ≡ slot_forms form l.moving.slots.items ++ slot_forms form (drop l.at l.slots);
       fit : list_all (is_compiled (g.C.Compile.passes l.compiler) l.def form hold) (put_at (drop l.at l.places)) ≡ true;
       steps : WorkLeft (sum_by (λ x. g.C.Compile.cost) (put_at (drop l.at l.places)))
-        (lost (λ s. pairs l.def (form s.held)) (drop l.at l.places) (drop l.at l.slots) + sum_by (λ x. pairs l.def (form (hold x))) (put_at (drop l.at l.places)))
-        (sum_by (λ x. g.C.Compile.cost) (put_at l.places))
-        (lost (λ s. pairs l.def (form s.held)) l.places l.slots + sum_by (λ x. pairs l.def (form (hold x))) (put_at l.places)) l.fn.steps l.steps;
+          (lost (λ s. pairs l.def (form s.held)) (drop l.at l.places) (drop l.at l.slots) + sum_by (λ x. pairs l.def (form (hold x))) (put_at (drop l.at l.places)))
+          (sum_by (λ x. g.C.Compile.cost) (put_at l.places))
+          (lost (λ s. pairs l.def (form s.held)) l.places l.slots + sum_by (λ x. pairs l.def (form (hold x))) (put_at l.places)) l.fn.steps l.steps;
     }

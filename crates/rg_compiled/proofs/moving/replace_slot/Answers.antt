@@ -1,4 +1,4 @@
-use Rattle.std.proofs.Common.{◌≡◌, ◌+◌, ◌++◌, ◌∷◌, Contains, sym, ap, subst, ◌∙◌, arith}
+use Rattle.std.proofs.Common.{◌+◌, ◌++◌, ◌∷◌, Contains, sym, ap, subst, ◌∙◌}
 use Rattle.rg_index.specs.Changes.{form_fits}
 use Rattle.rg_index.specs.Filing.{pairs}
 use Rattle.rg_index.specs.declared.form.Form.{Form}

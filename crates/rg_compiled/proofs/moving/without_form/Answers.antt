@@ -1,4 +1,4 @@
-use Rattle.std.proofs.Common.{◌≡◌, ◌++◌, ◌∷◌, List, true, not, filter, ap, subst, ◌∙◌}
+use Rattle.std.proofs.Common.{◌≡◌, List, true, not, filter, ap, subst, ◌∙◌}
 use Rattle.rg_index.specs.Changes.{ids_differ, same_id}
 use Rattle.rg_index.specs.Indexed.{Indexed}
 use Rattle.rg_index.specs.declared.form.Form.{Form}

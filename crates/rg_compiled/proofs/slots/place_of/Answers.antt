@@ -1,4 +1,4 @@
-use Rattle.std.proofs.Common.{rules, ap, ◌≡◌, Bool, true, false, int_lt, option_map}
+use Rattle.std.proofs.Common.{rules, ap, Bool, int_lt, option_map}
 use Rattle.std.proofs.lemmas.List.Sorted.{IsPartitionPoint-from_clause}
 use Rattle.rg_compiled.specs.Kept.{Placed}
 use Rattle.rg_compiled.proofs.Rising.{found_at, partitioned}

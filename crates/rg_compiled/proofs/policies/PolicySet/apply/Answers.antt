@@ -1,4 +1,4 @@
-use Rattle.std.proofs.Common.{◌≡◌, fold, map, true, None, subst, sym, ap, ◌∙◌}
+use Rattle.std.proofs.Common.{fold, map, subst, sym, ap, ◌∙◌}
 use Rattle.std.specs.List.{list_all}
 use Rattle.rg_base.specs.Texts.{all_distinct}
 use Rattle.rg_defs.specs.Rules.{def_fault}

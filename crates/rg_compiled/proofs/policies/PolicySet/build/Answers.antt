@@ -1,6 +1,8 @@
-use Rattle.std.proofs.Common.{◌≡◌, length, subst, sym}
+use Rattle.std.proofs.Common.{ℕ, length, subst, sym}
 use Rattle.rg_evalr.specs.declared.frame.Frame.{Frame}
+use Rattle.rg_compiled.specs.Bounds.{WorkWithin}
 use Rattle.rg_compiled.specs.Kept.{ArePolicies}
+use Rattle.rg_compiled.proofs.Counting.{no_edits, sum_of_ones}
 use Rattle.rg_compiled.proofs.Building.{are_policies, policies_fit, policies_rise, policies_within, these_policies}
 use Rattle.rg_compiled.proofs.policies.PolicySet.build.Goals as goal
 
@@ -10,15 +12,21 @@ build-requires-clause-rising g c = policies_rise c.args.frame.now c.args.side c.
 pub build-requires-clause-fit : goal.build-requires-clause-fit
 build-requires-clause-fit g c = policies_fit c.args.frame.now c.args.side c.args.policies.now c.def_of.result.now c.def_of.ensures c.in_ok-slots.slots.items c.in_ok-slots.ensures.slots c.requires.rules
 
+pub returns-in_err-slots-clause-steps : goal.returns-in_err-slots-clause-steps
+returns-in_err-slots-clause-steps g c =
+    no_edits _ _ _ _ (subst (λ (n : ℕ). WorkWithin n 0 c.args.steps.now c.compile_slots.new.steps) (sum_of_ones c.args.policies.now) c.compile_slots.ensures.steps)
+
 pub returns-in_err-shelf-clause-steps : goal.returns-in_err-shelf-clause-steps
 returns-in_err-shelf-clause-steps g c =
     policies_within c.args.frame.now c.args.side c.args.policies.now c.def_of.result.now c.def_of.ensures c.in_ok-slots.slots.items c.in_ok-slots.ensures.slots
-    (length c.args.policies.now) c.args.steps.now c.compile_policies.new.steps c.build.new.steps c.compile_policies.ensures.steps c.build.ensures.steps
+    (length c.args.policies.now) c.args.steps.now c.compile_slots.new.steps c.build.new.steps
+    (subst (λ (n : ℕ). WorkWithin n 0 c.args.steps.now c.compile_slots.new.steps) (sum_of_ones c.args.policies.now) c.compile_slots.ensures.steps) c.build.ensures.steps
 
 pub returns-clause-steps : goal.returns-clause-steps
 returns-clause-steps g c =
     policies_within c.args.frame.now c.args.side c.args.policies.now c.def_of.result.now c.def_of.ensures c.in_ok-slots.slots.items c.in_ok-slots.ensures.slots
-    (length c.args.policies.now) c.args.steps.now c.compile_policies.new.steps c.build.new.steps c.compile_policies.ensures.steps c.build.ensures.steps
+    (length c.args.policies.now) c.args.steps.now c.compile_slots.new.steps c.build.new.steps
+    (subst (λ (n : ℕ). WorkWithin n 0 c.args.steps.now c.compile_slots.new.steps) (sum_of_ones c.args.policies.now) c.compile_slots.ensures.steps) c.build.ensures.steps
 
 pub invariant_of-result : goal.invariant_of-result
 invariant_of-result g c =

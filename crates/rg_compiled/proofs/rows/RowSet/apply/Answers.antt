@@ -1,4 +1,4 @@
-use Rattle.std.proofs.Common.{◌≡◌, fold, map, true, None, subst, sym, ap, ◌∙◌}
+use Rattle.std.proofs.Common.{fold, map, subst, sym, ap, ◌∙◌}
 use Rattle.std.specs.List.{list_all}
 use Rattle.std.specs.Ordering.{int_eq}
 use Rattle.rg_base.specs.Texts.{all_distinct}
@@ -10,7 +10,7 @@ use Rattle.rg_facts.specs.Sound.{row_ids}
 use Rattle.rg_resmatch.specs.Rules.{tagged_fit}
 use Rattle.rg_tags.specs.declared.row.TagRow.{TagRow}
 use Rattle.rg_compiled.specs.Bounds.{WorkWithin, row_pairs}
-use Rattle.rg_compiled.specs.Kept.{AreRows, rows_in}
+use Rattle.rg_compiled.specs.Kept.{rows_in}
 use Rattle.rg_compiled.specs.Moved.{row_id}
 use Rattle.rg_compiled.specs.Plan.{plan_of}
 use Rattle.rg_compiled.specs.Seen.{Rows}

@@ -1,4 +1,4 @@
-use Rattle.std.proofs.Common.{◌≡◌, ◌++◌, List, map, refl, sym, ap, ◌∙◌}
+use Rattle.std.proofs.Common.{◌++◌, List, map, refl, sym, ap, ◌∙◌}
 use Rattle.std.proofs.lemmas.List.{map-append}
 use Rattle.rg_index.specs.Filing.{pairs}
 use Rattle.rg_compiled.specs.Kept.{Placed, Shelved, are_rising, held_in}
