@@ -1,5 +1,5 @@
 -- Candidates that were asked one after the other, and those that could take part.
-use Rattle.std.proofs.Common.{◌≡◌, ◌↔◌, ◌++◌, ◌&&◌, ◌⊎◌, ℕ, ℤ, Bool, true, false, cond, List, [], ◌∷◌, Option, Some, None, Contains, map, inl, inr, refl, sym, ap, subst, ◌∙◌, arith}
+use Rattle.std.proofs.Common.{◌≡◌, ◌↔◌, ◌++◌, ℕ, ℤ, Bool, true, false, cond, List, [], ◌∷◌, Option, Some, None, Contains, map, inl, inr, refl, sym, ap, subst, ◌∙◌, arith}
 use Rattle.std.proofs.lemmas.Bool.{and_parts}
 use Rattle.std.proofs.lemmas.Int.{ints}
 use Rattle.std.proofs.lemmas.List.Concat.{flat_map-append}
@@ -7,7 +7,7 @@ use Rattle.std.proofs.lemmas.List.Elements.{Contains-append_cases, Contains-appe
 use Rattle.std.specs.List.{filter, flat_map}
 use Rattle.std.specs.Ordering.{int_eq}
 use Rattle.rg_base.specs.Texts.{all_distinct}
-use Rattle.rg_base.proofs.Lists.{Contains-filter, Contains-filtered, Contains-flat_map, Contains-flat_mapped, Contains-map, Contains-mapped, Contains-same}
+use Rattle.rg_base.proofs.Lists.{Contains-flat_map, Contains-flat_mapped, Contains-map, Contains-mapped, Contains-same}
 use Rattle.rg_policy.specs.Maps.{maps_of}
 use Rattle.rg_policy.specs.declared.policy.Policy.{Policy}
 use Rattle.rg_policy.specs.declared.request.AccessRequest.{AccessRequest}
@@ -18,13 +18,12 @@ use Rattle.rg_resmatch.specs.declared.reach.Reach.TheVariants.{Down, Exact}
 use Rattle.rg_evalr.specs.Effects.{is_scheduled, is_valid, lies_on}
 use Rattle.rg_evalr.specs.Frames.{def_of}
 use Rattle.rg_evalr.specs.Sources.{Source}
-use Rattle.rg_evalr.specs.declared.frame.Frame.{Frame}
 use Rattle.rg_evalr.specs.declared.frame.Side.{Side}
 use Rattle.rg_evalr.specs.declared.frame.Side.TheVariants.{Resource, Tag as Tagged}
 use Rattle.rg_facts.specs.Best.{Best, after, none_yet, outcome_by}
 use Rattle.rg_facts.specs.Candidates.{Candidate, Setting, candidate, candidates, context_of, is_chosen, resource_candidates, setting_of, tag_candidates, tags_of, takes_part}
 use Rattle.rg_facts.specs.Engines.{asked_for}
-use Rattle.rg_facts.specs.Flow.{Outcome, outcome, outcome_of}
+use Rattle.rg_facts.specs.Flow.{outcome, outcome_of}
 use Rattle.rg_facts.specs.Laws.{AreTold, HaveSame}
 use Rattle.rg_facts.specs.Sound.{all_policies, same_id}
 use Rattle.rg_facts.specs.declared.best.Pass.TheVariants.{All}

@@ -1,12 +1,12 @@
 -- What sound facts say of the parts of an engine.
-use Rattle.std.proofs.Common.{◌≡◌, ◌&&◌, ◌++◌, true, false, Bool, List, [], ◌∷◌, Option, Some, None, refl, ap, subst, sym, ◌∙◌}
+use Rattle.std.proofs.Common.{◌≡◌, true, false, List, [], ◌∷◌, Option, None, refl, subst}
 use Rattle.std.proofs.lemmas.Bool.{and_parts}
 use Rattle.std.specs.List.{list_all}
 use Rattle.std.specs.Ordering.{int_eq}
 use Rattle.rg_base.specs.Texts.{all_distinct}
 use Rattle.rg_policy.specs.declared.policy.Policy.{Policy}
 use Rattle.rg_defs.specs.declared.service_def.ServiceDef.{ServiceDef}
-use Rattle.rg_evalr.specs.declared.frame.Side.TheVariants.{Resource, Tag}
+use Rattle.rg_evalr.specs.declared.frame.Side.TheVariants.{Resource}
 use Rattle.rg_facts.specs.Candidates.{frame_of}
 use Rattle.rg_facts.specs.Sound.{all_policies, defs_sound, ids_sound, is_no_policy, passes, policies_sound, roles_sound, row_ids, row_sound, same_id, sound, tag_policies_pass, tag_rows_sound, versions_fit, zone_names_sound, zones_sound}
 use Rattle.rg_facts.specs.declared.facts.Facts.{Facts}

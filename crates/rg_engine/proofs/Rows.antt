@@ -1,7 +1,6 @@
 -- The tag rows that are visited, in the place of all.
-use Rattle.std.proofs.Common.{◌≡◌, ◌↔◌, ◌≤◌, ◌+◌, ◌||◌, ℕ, Bool, true, false, cond, List, [], ◌∷◌, Contains, map, refl, sym, ap, subst, ◌∙◌, arith}
-use Rattle.std.proofs.lemmas.List.Sums.{sum_by-cons}
-use Rattle.std.specs.List.{filter, flat_map, sum_by}
+use Rattle.std.proofs.Common.{◌≡◌, ◌↔◌, ◌≤◌, ◌||◌, ℕ, Bool, true, false, cond, List, [], Contains, map, refl, sym, ap, ◌∙◌, arith}
+use Rattle.std.specs.List.{filter, sum_by}
 use Rattle.rg_base.proofs.Lists.{Contains-filter, Contains-filtered, Contains-flat_map, Contains-flat_mapped, Contains-mapped, Contains-same}
 use Rattle.rg_policy.specs.declared.request.AccessRequest.{AccessRequest}
 use Rattle.rg_policy.specs.declared.request.Element.{Element}

@@ -1,13 +1,10 @@
 -- For proofs alone: what is found after candidates were asked, whatever their order.
 use Rattle.std.specs.Prelude.{◌≡◌, ℕ, List, [], ◌∷◌, map, flat_map, Option, Some}
 use Rattle.std.specs.List.{filter}
-use Rattle.rg_policy.specs.declared.policy.Policy.{Policy}
 use Rattle.rg_policy.specs.declared.request.Element.{Element}
 use Rattle.rg_policy.specs.declared.tags.Tag.{Tag}
-use Rattle.rg_defs.specs.declared.service_def.ServiceDef.{ServiceDef}
 use Rattle.rg_resmatch.specs.Tests.{lies}
 use Rattle.rg_resmatch.specs.declared.reach.Reach.TheVariants.{Down}
-use Rattle.rg_tags.specs.declared.row.TagRow.{TagRow}
 use Rattle.rg_evalr.specs.Frames.{def_of}
 use Rattle.rg_facts.specs.Best.{Best, after}
 use Rattle.rg_facts.specs.Candidates.{Candidate, Setting, candidate, takes_part}

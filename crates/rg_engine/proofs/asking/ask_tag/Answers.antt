@@ -1,4 +1,4 @@
-use Rattle.std.proofs.Common.{◌≡◌, ◌≤◌, Some, length, subst}
+use Rattle.std.proofs.Common.{◌≤◌, Some, length, subst}
 use Rattle.std.specs.Str.{chars}
 use Rattle.rg_resmatch.specs.Tests.{tag_elements}
 use Rattle.rg_evalr.specs.Frames.{def_of}

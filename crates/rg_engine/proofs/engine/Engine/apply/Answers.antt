@@ -1,9 +1,6 @@
-use Rattle.std.proofs.Common.{◌≡◌, ◌+◌, true, None, sym, ap, subst, ◌∙◌, arith}
+use Rattle.std.proofs.Common.{◌≡◌, None, sym, ap, subst, ◌∙◌, arith}
 use Rattle.std.specs.Arc.{arc_value}
-use Rattle.rg_defs.specs.Rules.{def_fault}
 use Rattle.rg_zones.specs.Rules.{all_maps_fit}
-use Rattle.rg_cmd.specs.declared.changes.PolicyChange.{PolicyChange}
-use Rattle.rg_cmd.specs.declared.changes.TagChange.{TagChange}
 use Rattle.rg_delta.specs.Applied.{applied, unless_new}
 use Rattle.rg_facts.specs.Candidates.{frame_of}
 use Rattle.rg_facts.specs.Sound.{sound}

@@ -1,9 +1,7 @@
 use Rattle.std.proofs.Common.{◌≡◌, true, sym, ap, subst, ◌∙◌}
-use Rattle.std.specs.Arc.{arc_value}
-use Rattle.rg_base.specs.Texts.{all_distinct}
 use Rattle.rg_facts.specs.Best.{none_yet, outcome_by}
 use Rattle.rg_facts.specs.Candidates.{Setting, candidates, setting_of}
-use Rattle.rg_facts.specs.Sound.{all_policies, same_id, sound}
+use Rattle.rg_facts.specs.Sound.{sound}
 use Rattle.rg_facts.specs.declared.facts.Facts.{Facts}
 use Rattle.rg_facts.proofs.Soundness.{ids_of}
 use Rattle.rg_engine.specs.Asked.{Finds}

@@ -8,7 +8,7 @@ use Rattle.rg_tags.specs.declared.row.TagRow.{TagRow}
 use Rattle.rg_delta.specs.Applied.{rows_after, tag_policies_after}
 use Rattle.rg_evalr.specs.declared.frame.Frame.{Frame}
 use Rattle.rg_evalr.specs.declared.frame.Side.{Side}
-use Rattle.rg_evalr.specs.declared.frame.Side.TheVariants.{Resource, Tag}
+use Rattle.rg_evalr.specs.declared.frame.Side.TheVariants.{Tag}
 use Rattle.rg_facts.specs.Sound.{passes, row_ids, same_id}
 use Rattle.rg_compiled.specs.Bounds.{side_after}
 use Rattle.rg_compiled.specs.Seen.{Policies, Rows}

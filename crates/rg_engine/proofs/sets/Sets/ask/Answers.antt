@@ -1,4 +1,4 @@
-use Rattle.std.proofs.Common.{ap, subst, ◌∙◌}
+use Rattle.std.proofs.Common.{ap, ◌∙◌}
 use Rattle.std.specs.List.{flat_map}
 use Rattle.rg_policy.specs.declared.request.Resource.{Resource}
 use Rattle.rg_facts.specs.Best.{none_yet}

@@ -1,18 +1,12 @@
-use Rattle.std.proofs.Common.{◌≡◌, ◌+◌, Option, Some, None, sym, ap, subst, ◌∙◌, arith}
-use Rattle.std.specs.List.{sum_by}
-use Rattle.rg_defs.specs.declared.service_def.ServiceDef.{ServiceDef}
-use Rattle.rg_evalr.specs.declared.frame.Frame.{Frame}
-use Rattle.rg_facts.specs.Best.{Best, none_yet}
-use Rattle.rg_facts.specs.Candidates.{frame_of, tags_of}
-use Rattle.rg_facts.specs.declared.facts.Facts.{Facts}
+use Rattle.std.proofs.Common.{sym, ap, subst, ◌∙◌, arith}
+use Rattle.rg_facts.specs.Best.{none_yet}
+use Rattle.rg_facts.specs.Candidates.{tags_of}
 use Rattle.rg_index.specs.Candidates.{bound}
-use Rattle.rg_compiled.specs.Bounds.{policy_forms, row_forms}
-use Rattle.rg_compiled.specs.Seen.{Policies, Rows}
+use Rattle.rg_compiled.specs.Bounds.{row_forms}
 use Rattle.rg_engine.specs.Asked.{Finds}
-use Rattle.rg_engine.specs.Bounds.{TriesWithin, tag_bound}
-use Rattle.rg_engine.specs.Parts.{Compiled, IsTagSet, compiled_of, row_set, tag_policies_of, tag_set}
+use Rattle.rg_engine.specs.Parts.{Compiled, IsTagSet, tag_policies_of}
 use Rattle.rg_engine.proofs.Counting.{more_tries, no_try}
-use Rattle.rg_engine.proofs.Tagged.{found_untagged, is_row_set, is_tag_set, tag_tries_are, tagged_tries}
+use Rattle.rg_engine.proofs.Tagged.{found_untagged, is_row_set, is_tag_set, tagged_tries}
 use Rattle.rg_engine.proofs.sets.Sets.ask_tag_policies.Goals as goal
 
 pub ask_tagged-requires-clause-side : goal.ask_tagged-requires-clause-side

@@ -1,4 +1,4 @@
-use Rattle.std.proofs.Common.{◌≡◌, ◌≤◌, ◌+◌, true, None, sym, ap, subst, ◌∙◌}
+use Rattle.std.proofs.Common.{sym, ap, subst, ◌∙◌}
 use Rattle.std.specs.List.{list_all}
 use Rattle.rg_defs.specs.Rules.{def_fault}
 use Rattle.rg_resmatch.specs.Rules.{tagged_fit}
@@ -8,7 +8,7 @@ use Rattle.rg_evalr.specs.declared.frame.Frame.{Frame}
 use Rattle.rg_evalr.specs.declared.frame.Side.TheVariants.{Resource, Tag}
 use Rattle.rg_facts.specs.Sound.{passes}
 use Rattle.rg_compiled.specs.Seen.{Policies, Rows}
-use Rattle.rg_engine.specs.Parts.{Compiled, IsTagSet}
+use Rattle.rg_engine.specs.Parts.{IsTagSet}
 use Rattle.rg_engine.proofs.Counting.{one_built, three_built, two_built}
 use Rattle.rg_engine.proofs.sets.Sets.build.Goals as goal
 
