@@ -100,11 +100,13 @@ fn answer<R: Wait, S: Source, K: Sink, C: Clock>(
             };
             work_script(alloc, &mut replay, source, sink, clock)
         }
-        Some(Command::Drill {
-            seed,
-            policies,
-            requests,
-        }) => drill(rt, alloc, seed, policies, requests, sink),
+        Some(
+            Command::Drill {
+                seed,
+                policies,
+                requests,
+            },
+        ) => drill(rt, alloc, seed, policies, requests, sink),
         // `serve` isn't built yet.
         _ => match write_all(
             sink,

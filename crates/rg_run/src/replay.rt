@@ -249,7 +249,11 @@ impl<'a, R: Wait> Replay<'a, R> {
                 let decision = engine.decide(alloc, request, &mut Steps::silent())?;
                 Ok(Some(numbered(decision, Serial(1))))
             }
-            Stage::Config(running) => Ok(Some(running.decide(alloc, request, &mut Steps::silent())?)),
+            Stage::Config(running) => Ok(Some(running.decide(
+                alloc,
+                request,
+                &mut Steps::silent(),
+            )?)),
         }
     }
 

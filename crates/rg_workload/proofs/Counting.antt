@@ -1,5 +1,5 @@
 -- What one more request adds to the numbers.
-use Rattle.std.proofs.Common.{◌≡◌, ◌∙◌, ℕ, ◌+◌, Bool, true, false, cond, List, [], ◌∷◌, ◌++◌, append-nil, length, length-append, filter, ap, ap₃, arith, sym}
+use Rattle.std.proofs.Common.{◌≡◌, ◌∙◌, ℕ, ◌+◌, Bool, true, false, cond, List, [], ◌∷◌, ◌++◌, append-nil, length, length-append, filter, ap, ap₂, arith}
 use Rattle.std.proofs.lemmas.List.Elements.{filter-append}
 use Rattle.rg_policy.specs.declared.request.AccessRequest.{AccessRequest}
 use Rattle.rg_facts.specs.Flow.{eval, is_allowed}
@@ -22,11 +22,14 @@ module _ (facts : Facts) (qs : List AccessRequest) (q : AccessRequest) where
   abbrev made : ℕ → ℕ → ℕ → Answers
   made a d u = record { allowed = a; denied = d; undetermined = u }
 
+  same : {a a' d d' u u' : ℕ} → a ≡ a' → d ≡ d' → u ≡ u' → made a d u ≡ made a' d' u'
+  same p q r = ap₂ (λ (f : ℕ → Answers) (n : ℕ). f n) (ap₂ made p q) r
+
   -- the numbers after one more request, which the flow answers so
   pub one_more_answer : (a : Access) → (eval facts q).access ≡ a → answers_to facts (qs ++ q ∷ []) ≡ with_answer a (answers_to facts qs)
-  one_more_answer Allowed is = ap₃ made (counted_in (so is_allowed) qs q (ap is_allowed is)) (counted_out (so is_denied) qs q (ap is_denied is)) (counted_out (so is_undetermined) qs q (ap is_undetermined is))
-  one_more_answer Denied is = ap₃ made (counted_out (so is_allowed) qs q (ap is_allowed is)) (counted_in (so is_denied) qs q (ap is_denied is)) (counted_out (so is_undetermined) qs q (ap is_undetermined is))
-  one_more_answer Undetermined is = ap₃ made (counted_out (so is_allowed) qs q (ap is_allowed is)) (counted_out (so is_denied) qs q (ap is_denied is)) (counted_in (so is_undetermined) qs q (ap is_undetermined is))
+  one_more_answer Allowed is = same (counted_in (so is_allowed) qs q (ap is_allowed is)) (counted_out (so is_denied) qs q (ap is_denied is)) (counted_out (so is_undetermined) qs q (ap is_undetermined is))
+  one_more_answer Denied is = same (counted_out (so is_allowed) qs q (ap is_allowed is)) (counted_in (so is_denied) qs q (ap is_denied is)) (counted_out (so is_undetermined) qs q (ap is_undetermined is))
+  one_more_answer Undetermined is = same (counted_out (so is_allowed) qs q (ap is_allowed is)) (counted_out (so is_denied) qs q (ap is_denied is)) (counted_in (so is_undetermined) qs q (ap is_undetermined is))
 
 -- one more is answered
 pub one_more_answered : (a : Access) (t : Answers) → answered (with_answer a t) ≡ answered t + 1

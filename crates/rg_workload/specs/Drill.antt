@@ -2,6 +2,7 @@
 use Rattle.std.specs.Prelude.{◌≡◌, ◌≤◌, ℕ, zero, suc, ◌+◌, ◌*◌, ◌/◌, ◌%◌, ◌==◌, ◌||◌, Bool, true, false, List, codes, filter, length, Option, Some, option_map, option_and_then, if◌then◌else◌}
 use Rattle.std.specs.List.{sum_by}
 use Rattle.std.specs.Str.{chars}
+use Rattle.rg_base.specs.declared.steps.Counted.{Counted}
 use Rattle.rg_policy.specs.declared.policy.Policy.{Policy}
 use Rattle.rg_policy.specs.declared.request.AccessRequest.{AccessRequest}
 use Rattle.rg_facts.specs.Flow.{eval, is_allowed}
@@ -34,14 +35,14 @@ abbrev pub refreshed_newest : Running → Option Running
 refreshed_newest r = option_map (refreshed r) (newest r)
 
 -- after the policy was created, and the plugin refreshed where that is due
-unfoldable pub created : Bool → Running → Policy → Option Running
+abbrev pub created : Bool → Running → Policy → Option Running
 created due r p = if due then refreshed_newest (asked r (creation p)) else Some (asked r (creation p))
 
 -- after the first k of so many policies, drawn from x on
-pub prepared : Option Running → ℕ → ℕ → ℕ → Option Running
+abbrev pub prepared : Option Running → ℕ → ℕ → ℕ → Option Running
 prepared start policies zero x = start
 prepared start policies (suc k) x =
-    option_and_then (λ r. created (is_due policies (suc k)) r (policy_of (k + 1) (policies_of k x).next).value) (prepared start policies k x)
+    option_and_then (λ r. created (is_due policies (k + 1)) r (policy_of (k + 1) (policies_of k x).next).value) (prepared start policies k x)
 
 -- how often the plugin is refreshed
 abbrev pub refreshes : ℕ → ℕ
@@ -89,10 +90,30 @@ drawn_requests seed policies requests = (requests_of policies requests (policies
 
 -- ---- the whole
 
--- where so many policies were created, published in steps, and so many requests were decided by the last publication
-pub record IsCarriedOut (seed policies requests : ℕ) (t : Totals) : Type 0 where
+abbrev pub totals : ℕ → ℕ → ℕ → Counted → Answers → Totals
+totals policies requests publications work answers = record {
+  policies = policies;
+  publications = publications;
+  compiles = work.compiles;
+  edits = work.edits;
+  requests = requests;
+  allowed = answers.allowed;
+  denied = answers.denied;
+  undetermined = answers.undetermined;
+  tries = work.tries;
+}
+
+-- the numbers, where each refresh published and the work is within its bounds
+pub record IsTotal (policies requests publications : ℕ) (work : Counted) (answers : Answers) (t : Totals) : Type 0 where
+  pub total : t ≡ totals policies requests publications work answers
+  pub published : publications ≡ 1 + refreshes policies
+  pub compiled : work.compiles ≤ policies
+  pub edited : work.edits ≤ 3 * policies
+
+-- where from this start on so many policies were created, published in steps, and so many requests were decided by the last publication
+pub record IsCarriedFrom (start : Option Running) (seed policies requests : ℕ) (t : Totals) : Type 0 where
   pub running : Running
-  pub prepares : prepared (opened_unless (start_fault drill_config) drill_config) policies policies seed ≡ Some running
+  pub prepares : prepared start policies policies seed ≡ Some running
   pub last : Publication
   pub newest_is : newest running ≡ Some last
   -- what was asked for
@@ -109,3 +130,7 @@ pub record IsCarriedOut (seed policies requests : ℕ) (t : Totals) : Type 0 whe
   pub compiles_within : t.compiles ≤ policies
   pub edits_within : t.edits ≤ 3 * policies
   pub tries_within : t.tries ≤ sum_by (bound_on last.facts) (drawn_requests seed policies requests)
+
+-- from the start of the drill's configuration on
+abbrev pub IsCarriedOut : ℕ → ℕ → ℕ → Totals → Type 0
+IsCarriedOut = IsCarriedFrom (opened_unless (start_fault drill_config) drill_config)

@@ -1,6 +1,6 @@
 // The drill.
-ghost use Rattle.std.specs.Prelude.{◌≡◌, IfOk};
-ghost use Rattle.rg_workload.specs.Drill.{IsCarriedOut, refreshes};
+ghost use Rattle.std.specs.Prelude.{◌≡◌, IfOk, Some};
+ghost use Rattle.rg_workload.specs.Drill.{IsCarriedFrom, IsCarriedOut, IsTotal, refreshes};
 
 use crate::answers::{Answers, decide_all};
 use crate::preparing::{PUBLISHED_AT_ONCE, prepare};
@@ -17,6 +17,62 @@ fn refreshes(policies: u32) -> u64
 {
     let last = PUBLISHED_AT_ONCE - 1;
     (u64::from(policies) + u64::from(last)) / u64::from(PUBLISHED_AT_ONCE)
+}
+
+/// All numbers, where each refresh published and the work is within its bounds.
+fn total(
+    policies: u32,
+    requests: u32,
+    publications: u64,
+    work: Counted,
+    answers: Answers,
+) -> Result<Totals, NoMemory>
+    ensures { IfOk result (IsTotal policies requests publications work answers) }
+{
+    let most = u64::from(policies);
+    if publications != 1 + refreshes(policies) {
+        return Err(NoMemory);
+    }
+    if work.compiles > most || work.edits > 3 * most {
+        return Err(NoMemory);
+    }
+    Ok(Totals {
+        policies,
+        publications,
+        compiles: work.compiles,
+        edits: work.edits,
+        requests,
+        allowed: answers.allowed,
+        denied: answers.denied,
+        undetermined: answers.undetermined,
+        tries: work.tries,
+    })
+}
+
+/// The policies and then the requests of the workload.
+fn carry_on<W: Wait>(
+    rt: &W,
+    alloc: Global,
+    running: &mut Running<&W>,
+    seed: u32,
+    policies: u32,
+    requests: u32,
+) -> Result<Totals, NoMemory>
+    ensures { IfOk result (IsCarriedFrom (Some running.old) seed policies requests) }
+{
+    let mut generator = Generator::new(u64::from(seed));
+    let mut steps = Steps::counted();
+    prepare(rt, alloc, running, &mut generator, policies, &mut steps)?;
+    let answers = decide_all(
+        alloc,
+        running,
+        &mut generator,
+        policies,
+        requests,
+        &mut steps,
+    )?;
+    let work = *steps.ledger();
+    total(policies, requests, running.publications(), work, answers)
 }
 
 /// Carries out the drill: an administration starts over the definition `hive`, `root` creates so many policies of the
@@ -36,34 +92,7 @@ pub fn carry_out<W: Wait>(
     let Some(mut running) = Running::start(rt, alloc, config)? else {
         return Err(NoMemory);
     };
-    let mut generator = Generator::new(u64::from(seed));
-    let mut steps = Steps::counted();
-    prepare(rt, alloc, &mut running, &mut generator, policies, &mut steps)?;
-    let answers = decide_all(alloc, &mut running, &mut generator, policies, requests, &mut steps)?;
-    let Counted {
-        compiles,
-        edits,
-        tries,
-    } = *steps.ledger();
-    let publications = running.publications();
-    let most = u64::from(policies);
-    if publications != 1 + refreshes(policies) || compiles > most || edits > 3 * most {
-        return Err(NoMemory);
-    }
-    let Answers {
-        allowed,
-        denied,
-        undetermined,
-    } = answers;
-    Ok(Totals {
-        policies,
-        publications,
-        compiles,
-        edits,
-        requests,
-        allowed,
-        denied,
-        undetermined,
-        tries,
-    })
+    let carried = carry_on(rt, alloc, &mut running, seed, policies, requests);
+    drop(running);
+    carried
 }

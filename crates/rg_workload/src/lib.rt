@@ -10,6 +10,3 @@ mod totals;
 pub use drill::carry_out;
 pub use report::add_report;
 pub use totals::Totals;
-
-#[cfg(test)]
-mod tests;
