@@ -166,13 +166,13 @@ fn serve_named<
     Ok(Served { links, totals })
 }
 
-/// Listens at the address, and serves up to so many links, at least one, with as many threads as hooks, each by a worker of its own.
-/// Beside them the publications are kept up with the history. When the last link is served it refreshes once more, and closes
-/// the service. All memory that doesn't depend on the links is taken before it listens.
+/// Listens at the address, and serves up to so many links, with a thread for each of the hooks, which are those of a worker.
+/// Beside them another thread keeps the publications up with the history. When the last link is served it refreshes once more,
+/// and closes the service. The memory of the queue and the locks is taken before it listens.
 ///
 /// A fault of a link ends that link alone. Where `accept` fails the links taken before are served too. Want of memory that a
-/// worker or a refresh meets ends a link or nothing, and is answered at the end. The work of a thread that can't be started is
-/// done by the others, or by the calling thread.
+/// worker or a refresh meets is answered when all are served. The work of a worker whose thread can't be started is done by the
+/// others, or by the calling thread.
 pub fn serve<
     N: Listener,
     C: Clock,
