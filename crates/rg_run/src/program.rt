@@ -92,7 +92,7 @@ fn answer<R: Wait, S: Source, K: Sink, C: Clock>(
     ensures clock_stays { (result ≡ Status.ReadFault) ⊎ (result ≡ Status.TooLong) → clock.new ≡ clock.old }
     ensures untouched { reads (only_built command) ≡ false → (source.new ≡ source.old) × (clock.new ≡ clock.old) }
 {
-    match command {
+    match &command {
         Some(Command::Replay) => {
             let mut replay = Replay {
                 rt,
