@@ -106,7 +106,7 @@ fn answer<R: Wait, S: Source, K: Sink, C: Clock>(
                 policies,
                 requests,
             },
-        ) => drill(rt, alloc, seed, policies, requests, sink),
+        ) => drill(rt, alloc, *seed, *policies, *requests, sink),
         // `serve` isn't built yet.
         _ => match write_all(
             sink,
