@@ -1,0 +1,67 @@
+// What a line is.
+ghost use Rattle.std.specs.Prelude.{◌≡◌, IfOk};
+ghost use Rattle.rg_check.specs.Checking.{kind_at};
+ghost use Rattle.rg_check.specs.Kinds.{kind_word, place_after};
+
+use rg_base::{Moment, NoMemory};
+use rg_script::{Line, LineFault, Place, read_line};
+use std::alloc::Global;
+
+/// What a line is.
+#[derive(Clone, Copy, Debug, PartialEq, Eq)]
+pub(crate) enum LineKind {
+    Blank,
+    Facts,
+    Config,
+    Admin,
+    Refresh,
+    Decide,
+}
+
+impl LineKind {
+    /// What the line is; None where it isn't read.
+    pub(crate) fn of(alloc: Global, line: &[u8], now: Moment) -> Result<Option<LineKind>, NoMemory>
+        ensures { IfOk result (λ kind. kind ≡ kind_at line.now now) }
+    {
+        match read_line(alloc, line, now) {
+            Ok(Line::Blank) => Ok(Some(LineKind::Blank)),
+            Ok(Line::Facts(_facts)) => Ok(Some(LineKind::Facts)),
+            Ok(Line::Config(_config)) => Ok(Some(LineKind::Config)),
+            Ok(Line::Admin(_ask)) => Ok(Some(LineKind::Admin)),
+            Ok(Line::Refresh) => Ok(Some(LineKind::Refresh)),
+            Ok(Line::Decide(_request)) => Ok(Some(LineKind::Decide)),
+            Err(LineFault::Bad) => Ok(None),
+            Err(LineFault::NoMemory) => Err(NoMemory),
+        }
+    }
+
+    /// The word that such a line begins with.
+    #[tactic(auto, unfolding(crate::specs::Kinds::kind_word))]
+    pub(crate) fn word(self) -> &'static str
+        ensures { result.now ≡ kind_word self }
+    {
+        match self {
+            LineKind::Blank => "#",
+            LineKind::Facts => "facts",
+            LineKind::Config => "config",
+            LineKind::Admin => "admin",
+            LineKind::Refresh => "refresh",
+            LineKind::Decide => "decide",
+        }
+    }
+}
+
+/// Where the lines stand that follow this line, which isn't bad.
+pub(crate) fn place_after(alloc: Global, place: Place, line: &[u8], now: Moment) -> Result<Place, NoMemory>
+    ensures { IfOk result (λ next. next ≡ place_after place (kind_at line.now now)) }
+{
+    match place {
+        Place::Start => match LineKind::of(alloc, line, now)? {
+            Some(LineKind::Facts) => Ok(Place::Facts),
+            Some(LineKind::Config) => Ok(Place::Config),
+            _ => Ok(Place::Start),
+        },
+        Place::Facts => Ok(Place::Facts),
+        Place::Config => Ok(Place::Config),
+    }
+}
