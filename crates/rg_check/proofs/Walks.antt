@@ -1,6 +1,7 @@
 -- From a check line by line to all that is found.
 use Rattle.std.proofs.Common.{◌≡◌, ◌⊎◌, ◌+◌, ◌-◌, ◌<◌, ◌≤◌, ◌^◌, ◌==◌, ◌∙◌, ◌++◌, ◌∷◌, [], arith, inl, inr, min, ℕ, Bool, true, false, List, length, Option, Some, None, option_map, refl, ap, ap₂, sym, subst, if◌then◌else◌}
 use Rattle.std.specs.Option.{option_map_or}
+use Rattle.std.proofs.Math.Nat.{min-eq_left}
 use Rattle.std.proofs.lemmas.Bool.Decides.{nat_tests}
 use Rattle.rg_base.specs.declared.numbers.Moment.{Moment}
 use Rattle.rg_script.specs.declared.cause.Cause.{Cause}
@@ -12,12 +13,13 @@ use Rattle.rg_run.specs.declared.status.Status.TheVariants.{Done, Usage, BadLine
 use Rattle.rg_run.specs.Follow.{Comes, Decided, Output, Script, Work, before, worked}
 use Rattle.rg_run.specs.Limits.{is_too_long, limit}
 use Rattle.rg_run.specs.Ports.{Ports}
-use Rattle.rg_run.specs.Runs.{EndsIn, Follows, IsRun, Stands}
+use Rattle.rg_run.specs.Runs.{EndsIn, Follows, IsRun, OfStatus, Stands}
 use Rattle.rg_run.specs.Streams.{Wrote, WrotePrefix}
 use Rattle.rg_check.specs.declared.checker.Checker.{Checker}
 use Rattle.rg_check.specs.declared.kind.LineKind.{LineKind}
 use Rattle.rg_check.specs.Causes.{cause_text}
 use Rattle.rg_check.specs.Checking.{Finding, checked, finding, finding_line, found, kind_at, outcome, report, status_of}
+use Rattle.rg_check.specs.Ends.{IsEnd}
 use Rattle.rg_check.specs.Kinds.{place_after}
 use Rattle.rg_check.specs.Walking.{begins, check_step, ended_by, line_work, next_number}
 
@@ -56,13 +58,13 @@ status_after false fs = status_of fs
 
 -- what is found in these lines from here on is what the output says
 record Walked (lines : List (List ℕ)) (moments : List Moment) (c : Checker) (o : Output Checker) : Type 0 where
-  pub even : (length lines == length moments) ≡ true
+  pub even : length lines ≡ length moments
   pub done : o.status ≡ Done
   pub text : o.text ≡ report (found c.place c.number lines moments)
   pub status : ended_by Done o.state.found ≡ status_after c.found (found c.place c.number lines moments)
 
 next_is : (n k : ℕ) → n + (k + 1) < 2 ^ 64 → next_number n ≡ n + 1
-next_is n k h = grind (arith, nat_tests)
+next_is n k h = min-eq_left (omega (arith, h))
 
 status_more : (b : Bool) (f : Finding) (fs : List Finding) → status_after true fs ≡ status_after b (f ∷ fs)
 status_more true f fs = refl
@@ -75,7 +77,7 @@ module _ (line : List ℕ) (lines : List (List ℕ)) (m : Moment) (ms : List Mom
       (found (place_after c.place (kind_at line m)) (c.number + 1) lines ms)
 
   record WalkedOn (fs : List Finding) (o : Output Checker) : Type 0 where
-    pub even : (length lines == length ms) ≡ true
+    pub even : length lines ≡ length ms
     pub done : o.status ≡ Done
     pub text : o.text ≡ report fs
     pub status : ended_by Done o.state.found ≡ status_after c.found fs
@@ -111,12 +113,12 @@ module _ (line : List ℕ) (lines : List (List ℕ)) (m : Moment) (ms : List Mom
     where
       whole_of : WalkedOn line lines m ms c few (found_with line lines m ms c few (cause_of c.place line m)) (before (line_work c (cause_of c.place line m) (kind_at line m)).text [] r)
           → Walked (line ∷ lines) (m ∷ ms) c (before (line_work c (cause_of c.place line m) (kind_at line m)).text [] r)
-      whole_of w = record { even = w.even; done = w.done; text = w.text; status = w.status }
+      whole_of w = record { even = ap (λ n. n + 1) w.even; done = w.done; text = w.text; status = w.status }
 
 later_few : (c : Checker) (cause : Option Cause) (kind : Option LineKind) (k : ℕ) → c.number + (k + 1) < 2 ^ 64
     → (line_work c cause kind).state.number + k < 2 ^ 64
-later_few c None kind k h = rw (next_is c.number k h) (omega arith)
-later_few c (Some cause) kind k h = rw (next_is c.number k h) (omega arith)
+later_few c None kind k h = rw (next_is c.number k h) (omega (arith, h))
+later_few c (Some cause) kind k h = rw (next_is c.number k h) (omega (arith, h))
 
 not_found : (b : Bool) → ended_by Done b ≡ status_after b []
 not_found true = refl
@@ -128,9 +130,13 @@ walks [] [] c k o few e = subst (Walked [] [] c) (some_same _ o e) (record { eve
 walks [] (m ∷ ms) c k o few e = none_some e
 walks (line ∷ lines) [] c k o few e = none_some e
 walks (line ∷ lines) (m ∷ ms) c k o few e =
-    on line lines m ms c k few o
-    (λ r is. walks lines ms (line_work c (cause_of c.place line m) (kind_at line m)).state (k + 1) r (later_few c (cause_of c.place line m) (kind_at line m) (length lines) few) is)
+    let less : c.number + (length lines + 1) < 2 ^ 64 = omega (arith, few) in
+    on line lines m ms c k less o
+    (λ r is. walks lines ms (line_work c (cause_of c.place line m) (kind_at line m)).state (k + 1) r (later_few c (cause_of c.place line m) (kind_at line m) (length lines) less) is)
     (worked check_step (line_work c (cause_of c.place line m) (kind_at line m)).state (k + 1) lines ms) refl e
+
+same_lengths : (lines : List (List ℕ)) (moments : List Moment) → length lines ≡ length moments → (length lines == length moments) ≡ true
+same_lengths lines moments same = grind (arith, nat_tests)
 
 -- ---- a run
 
@@ -163,7 +169,7 @@ converted p q later o f =
         comes = record {
           moments = f.comes.moments;
           given = f.comes.given;
-          defined = ap (λ (b : Bool). if b then Some (outcome fs) else None) w.even;
+          defined = ap (λ (b : Bool). if b then Some (outcome fs) else None) (same_lengths lines moments w.even);
         };
       };
       text = sym w.text;
@@ -211,3 +217,6 @@ module _ (p q : Ports) (c : Checker) where
       no_memory (inr s) = let v = converted p q s.0 s.1 s.2 in inr (s.0, outcome v.fs, v.follows)
   answered Usage run ends = absurd run.stands
   answered NetFault run ends = absurd run.stands
+
+pub ended_so : (p q : Ports) (n m : ℕ) → m ≡ n → OfStatus n (IsRun (Stands (List Finding) checked) p q) → IsEnd m
+ended_so p q n m same of = (p, q, subst (λ k. OfStatus k (IsRun (Stands (List Finding) checked) p q)) (sym same) of)

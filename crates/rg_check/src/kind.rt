@@ -1,7 +1,7 @@
 // What a line is.
 ghost use Rattle.std.specs.Prelude.{◌≡◌, IfOk};
 ghost use Rattle.rg_check.specs.Checking.{kind_at};
-ghost use Rattle.rg_check.specs.Kinds.{kind_word, place_after};
+ghost use Rattle.rg_check.specs.Kinds.{kind_of, kind_word, place_after};
 
 use rg_base::{Moment, NoMemory};
 use rg_script::{Line, LineFault, Place, read_line};
@@ -19,17 +19,29 @@ pub(crate) enum LineKind {
 }
 
 impl LineKind {
+    fn of_line(line: &Line) -> LineKind
+        ensures { result ≡ kind_of line.now }
+    {
+        match line {
+            Line::Blank => LineKind::Blank,
+            Line::Facts(_) => LineKind::Facts,
+            Line::Config(_) => LineKind::Config,
+            Line::Admin(_) => LineKind::Admin,
+            Line::Refresh => LineKind::Refresh,
+            Line::Decide(_) => LineKind::Decide,
+        }
+    }
+
     /// What the line is; None where it isn't read.
     pub(crate) fn of(alloc: Global, line: &[u8], now: Moment) -> Result<Option<LineKind>, NoMemory>
         ensures { IfOk result (λ kind. kind ≡ kind_at line.now now) }
     {
         match read_line(alloc, line, now) {
-            Ok(Line::Blank) => Ok(Some(LineKind::Blank)),
-            Ok(Line::Facts(_facts)) => Ok(Some(LineKind::Facts)),
-            Ok(Line::Config(_config)) => Ok(Some(LineKind::Config)),
-            Ok(Line::Admin(_ask)) => Ok(Some(LineKind::Admin)),
-            Ok(Line::Refresh) => Ok(Some(LineKind::Refresh)),
-            Ok(Line::Decide(_request)) => Ok(Some(LineKind::Decide)),
+            Ok(read) => {
+                let kind = LineKind::of_line(&read);
+                drop(read);
+                Ok(Some(kind))
+            }
             Err(LineFault::Bad) => Ok(None),
             Err(LineFault::NoMemory) => Err(NoMemory),
         }

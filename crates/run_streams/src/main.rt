@@ -158,10 +158,8 @@ fn tell(alloc: Global, told: &mut String, link: &mut MemLink) -> Result<(), Allo
 }
 
 /// What the framer answers for the stream of a row.
-fn tell_stream<'r>(
-    alloc: Global,
-    mut fields: impl Iterator<Item = &'r str>,
-) -> Result<String, AllocError> {
+fn tell_stream(alloc: Global, row: &str) -> Result<String, AllocError> {
+    let mut fields = row.split('|');
     let piece = number(fields.next());
     let call = number(fields.next());
     let mut bytes = Vec::new(alloc);
@@ -190,15 +188,14 @@ fn letters(alloc: Global, bytes: &[u8]) -> Result<String, AllocError> {
 }
 
 /// The bytes of the response of a row.
-fn tell_response(
-    alloc: Global,
-    status: u32,
-    close: bool,
-    body: &str,
-) -> Result<String, AllocError> {
+fn tell_response(alloc: Global, row: &str) -> Result<String, AllocError> {
+    let mut fields = row.split('|');
+    let status = number(fields.next()).clamp(100, 999) as u16;
+    let close = fields.next() == Some("close");
+    let body = Vec::from_slice(alloc, fields.next().unwrap_or("").as_bytes())?;
     let response = Response {
-        status: status.clamp(100, 999) as u16,
-        body: Seq::from_vec(Vec::from_slice(alloc, body.as_bytes())?),
+        status,
+        body: Seq::from_vec(body),
         close,
     };
     match print_response(alloc, &response) {
@@ -209,14 +206,9 @@ fn tell_response(
 
 /// What is printed for a row.
 fn answer(alloc: Global, row: &str) -> Result<String, AllocError> {
-    let mut fields = row.split('|');
-    match fields.next() {
-        Some("stream") => tell_stream(alloc, fields),
-        Some("response") => {
-            let status = number(fields.next());
-            let close = fields.next() == Some("close");
-            tell_response(alloc, status, close, fields.next().unwrap_or(""))
-        }
+    match row.split_once('|') {
+        Some(("stream", fields)) => tell_stream(alloc, fields),
+        Some(("response", fields)) => tell_response(alloc, fields),
         _ => String::from_str(alloc, row),
     }
 }
