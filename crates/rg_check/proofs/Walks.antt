@@ -104,7 +104,7 @@ module _ (line : List ℕ) (lines : List (List ℕ)) (m : Moment) (ms : List Mom
 
 module _ (line : List ℕ) (lines : List (List ℕ)) (m : Moment) (ms : List Moment) (c : Checker) (k : ℕ) (few : c.number + (length lines + 1) < 2 ^ 64)
     (o : Output Checker) (rest : (r : Output Checker) → worked check_step (line_work c (cause_of c.place line m) (kind_at line m)).state (k + 1) lines ms ≡ Some r
-        → Walked lines ms (line_work c (cause_of c.place line m) (kind_at line m)).state r) where
+    → Walked lines ms (line_work c (cause_of c.place line m) (kind_at line m)).state r) where
   on : (r : Option (Output Checker)) → worked check_step (line_work c (cause_of c.place line m) (kind_at line m)).state (k + 1) lines ms ≡ r
       → option_map (before (line_work c (cause_of c.place line m) (kind_at line m)).text []) r ≡ Some o → Walked (line ∷ lines) (m ∷ ms) c o
   on None is e = none_some e

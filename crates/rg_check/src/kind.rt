@@ -64,7 +64,12 @@ impl LineKind {
 }
 
 /// Where the lines stand that follow this line, which isn't bad.
-pub(crate) fn place_after(alloc: Global, place: Place, line: &[u8], now: Moment) -> Result<Place, NoMemory>
+pub(crate) fn place_after(
+    alloc: Global,
+    place: Place,
+    line: &[u8],
+    now: Moment,
+) -> Result<Place, NoMemory>
     ensures { IfOk result (λ next. next ≡ place_after place (kind_at line.now now)) }
 {
     match place {

@@ -4,10 +4,10 @@
 mod checker;
 mod kind;
 mod laws;
-mod meaning;
+mod meanings;
 mod program;
 mod words;
 
 pub use laws::bad_where_replay_is;
-pub use meaning::meaning;
+pub use meanings::meaning;
 pub use program::{check, start};

@@ -8,7 +8,7 @@ ghost use Rattle.rg_check.specs.Checking.{kind_at};
 ghost use Rattle.rg_check.specs.Causes.{at_place, broken_text, cause_text, json_text, misplaced_text, no_word_text, policy_rule, role_text, standing, tag_row_rule, unsound_text, wire_name, zone_rule};
 
 use crate::kind::LineKind;
-use crate::meaning::meaning;
+use crate::meanings::meaning;
 use rg_base::{Moment, NoMemory, PolicyId, Text, is_empty};
 use rg_cmd::Rule;
 use rg_roles::RoleFault;

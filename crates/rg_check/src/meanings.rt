@@ -24,7 +24,8 @@ pub fn meaning(rule: Rule) -> &'static str
         Rule::S4 => "there are 1 to 1,024 access types with distinct names of 1 to 256 characters",
         Rule::S5 => "each implied grant is an access type of the definition",
         Rule::S6 => "there are at most 64 conditions, with distinct names that aren't empty",
-        Rule::S7 => "there are at most 64 mask types, with distinct names that aren't empty, and the parts for masks and filters name access types and levels of the definition",
+        Rule::S7 =>
+            "there are at most 64 mask types, with distinct names that aren't empty, and the parts for masks and filters name access types and levels of the definition",
         Rule::S8 => "a definition named tag has the one level tag",
         Rule::C1 => "what its services have passes under the new definition",
         Rule::C2 => "the name has 1 to 256 characters and no service has it",
@@ -36,10 +37,13 @@ pub fn meaning(rule: Rule) -> &'static str
         Rule::V2 => "no other policy of the service and zone has the name",
         Rule::V3 => "the type is 0, 1 or 2, and the definition has masks for 1 and filters for 2",
         Rule::V4 => "the priority is 0 or 1",
-        Rule::V5 => "there is a level, and the levels are distinct, of the definition, on one path, with the mandatory ones above them, and of the part for masks or filters",
-        Rule::V6 => "each level has a value, each value is a pattern, and isExcludes and isRecursive stand only where the level supports them",
+        Rule::V5 =>
+            "there is a level, and the levels are distinct, of the definition, on one path, with the mandatory ones above them, and of the part for masks or filters",
+        Rule::V6 =>
+            "each level has a value, each value is a pattern, and isExcludes and isRecursive stand only where the level supports them",
         Rule::V7 => "items and isDenyAllElse fit the type",
-        Rule::V8 => "each item has an access type, and each is one of the definition, or of the part for masks or filters",
+        Rule::V8 =>
+            "each item has an access type, and each is one of the definition, or of the part for masks or filters",
         Rule::V9 => "each condition compiles",
         Rule::V10 => "each item names a user, group or role, and each role exists",
         Rule::V11 => "each mask and each filter is whole",
@@ -56,15 +60,18 @@ pub fn meaning(rule: Rule) -> &'static str
         Rule::O3 => "no role holds itself",
         Rule::O4 => "nothing names the role",
         Rule::Z1 => "the name has 1 to 256 characters",
-        Rule::Z2 => "each service exists and isn't of definition tag, each tag service exists and is, and none is listed twice",
-        Rule::Z3 => "each service has resources, whose levels are distinct, of the definition and on one path",
+        Rule::Z2 =>
+            "each service exists and isn't of definition tag, each tag service exists and is, and none is listed twice",
+        Rule::Z3 =>
+            "each service has resources, whose levels are distinct, of the definition and on one path",
         Rule::Z4 => "each level has a value, and each value is a pattern without {USER}",
         Rule::Z5 => "each role exists",
         Rule::Z6 => "no two zones overlap",
         Rule::Z7 => "the zone's policies are of its services",
         Rule::Z8 => "no policy is of the zone",
         Rule::G1 => "the service isn't of definition tag",
-        Rule::G2 => "the levels are distinct, of the definition and on one path, and each has a value that is a pattern without {USER}",
+        Rule::G2 =>
+            "the levels are distinct, of the definition and on one path, and each has a value that is a pattern without {USER}",
         Rule::G3 => "there are at most 64 tags, and each type has 1 to 256 characters",
         Rule::G4 => "the id is at least 1 and no row of another service has it",
         Rule::U1 => "the name and each group have 1 to 256 characters",
