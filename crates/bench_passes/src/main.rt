@@ -55,9 +55,7 @@ fn main(rt: HostRuntime) -> Result<()> {
     if load.is_timed {
         println!(rt;
             "microseconds={} publications={} serials={}",
-            done.micros,
-            done.publications,
-            done.serials
+            done.micros, done.publications, done.serials
         )?;
     }
     Ok(())

@@ -2,7 +2,8 @@
 use std::alloc::{AllocError, Global};
 
 /// A service with one definition, and an administrator.
-pub(crate) const CONFIG: &str = "{\"admins\":[\"root\"],\"plugin\":\"hive1\",\"serviceDefs\":[{\"name\":\"hive\",\"resources\":[{\"name\":\"database\",\"level\":10},{\"name\":\"table\",\"level\":20,\"parent\":\"database\"},{\"name\":\"column\",\"level\":30,\"parent\":\"table\"}],\"accessTypes\":[{\"name\":\"select\"},{\"name\":\"update\"}]}],\"services\":[{\"name\":\"hive1\",\"type\":\"hive\"}]}";
+pub(crate) const CONFIG: &str =
+    "{\"admins\":[\"root\"],\"plugin\":\"hive1\",\"serviceDefs\":[{\"name\":\"hive\",\"resources\":[{\"name\":\"database\",\"level\":10},{\"name\":\"table\",\"level\":20,\"parent\":\"database\"},{\"name\":\"column\",\"level\":30,\"parent\":\"table\"}],\"accessTypes\":[{\"name\":\"select\"},{\"name\":\"update\"}]}],\"services\":[{\"name\":\"hive1\",\"type\":\"hive\"}]}";
 
 /// Databases that the policies are spread over.
 const DATABASES: u32 = 50;

@@ -62,7 +62,7 @@ fn start_all<R: Threads>(
 }
 
 /// What all of them saw.
-fn join_all<R: Wait>(rt: &R, handles: Vec<JoinHandle<Seen>>) -> Seen {
+fn join_all<R: Threads + Wait>(rt: &R, handles: Vec<JoinHandle<Seen>>) -> Seen {
     let mut seen = Seen::nothing();
     for handle in handles {
         seen = seen.and(handle.join(rt));
@@ -90,7 +90,11 @@ fn decided<R: Threads + Wait + Clock, P: Wait + Drop>(
     let shared = (requests, finished);
     let start = Instant::now(rt)?;
     if load.passes == 0 {
-        let seen = judge(refresher.publisher.newest(), shared.0.as_slice(), load.rounds);
+        let seen = judge(
+            refresher.publisher.newest(),
+            shared.0.as_slice(),
+            load.rounds,
+        );
         return done(rt, start, seen, 0);
     }
     let handles = start_all(rt, alloc, passes, &shared, load.rounds)?;
@@ -114,18 +118,24 @@ fn done<R: Clock>(rt: &R, start: Instant, seen: Seen, publications: u64) -> Resu
 }
 
 /// Creates the policies, publishes them, and lets the passes decide.
-pub(crate) fn measured<R: Threads + Wait + Clock>(rt: &R, alloc: Global, load: Load) -> Result<Done> {
+pub(crate) fn measured<R: Threads + Wait + Clock>(
+    rt: &R,
+    alloc: Global,
+    load: Load,
+) -> Result<Done> {
     let Some(admin) = started(alloc) else {
         return Err(anyhow!("the configuration starts nothing"));
     };
     let passes = load.passes.clamp(1, 64);
     let opened = open(rt, alloc, admin, 1, passes, &mut Steps::silent());
-    let Ok(Service {
-        turn,
-        mut seats,
-        mut refresher,
-        passes,
-    }) = opened
+    let Ok(
+        Service {
+            turn,
+            mut seats,
+            mut refresher,
+            passes,
+        },
+    ) = opened
     else {
         return Err(anyhow!("memory was refused"));
     };

@@ -7,8 +7,8 @@ ghost use Rattle.rg_machine.specs.Starts.{IsStart};
 ghost use Rattle.rg_session.specs.Right.{AreRightFor};
 
 use crate::notation::written;
-use crate::telling::{tell_end, tell_responses};
-use crate::watched::{Lines, lines, tell_lines, watch};
+use crate::telling::told;
+use crate::watched::{Lines, lines, watch};
 use anyhow::{Result, anyhow};
 use rg_admin::Admin;
 use rg_base::{Moment, Seq, Steps};
@@ -122,21 +122,28 @@ fn serve_before<R: Wait, P: Wait + Drop>(
     Ok(())
 }
 
-/// What the sinks hold: the lines of the first, how many were dropped, and the lines of the second.
-fn tell_sinks(
-    told: &mut String,
+/// Serves the link with two sinks, which keep these lines. Gives how it ended, and how many sinks were dropped.
+fn serve_watched<R: Wait>(
+    rt: &R,
+    alloc: Global,
+    turn: &Turn<Admin>,
+    seat: &mut Seat<Admin>,
+    pass: &mut Pass,
+    link: &mut MemLink,
     first: &Lines,
-    dropped: u32,
     second: &Lines,
-) -> Result<(), AllocError> {
-    told.push_str("|audited")?;
-    tell_lines(told, first)?;
-    write!(told, "|dropped {dropped}")?;
-    if 0 < dropped {
-        told.push_str("|the second sink")?;
-        tell_lines(told, second)?;
-    }
-    Ok(())
+) -> Result<(Result<Report, LinkFault>, u32), AllocError>
+    requires { seat.old.turn ≡ turn.now.turn }
+{
+    let mut sinks: Vec<Box<dyn AuditSink + Send>> = Vec::new(alloc);
+    sinks.push(Box::new(alloc, watch(first)?)?)?;
+    sinks.push(Box::new(alloc, watch(second)?)?)?;
+    let mut hooks = WorkerHooks {
+        sinks: AuditFan::new(sinks),
+        enrichers: Enrichers::new(Vec::new(alloc)),
+    };
+    let end = serve(rt, alloc, turn, seat, pass, &mut hooks, link)?;
+    Ok((end, hooks.sinks.dropped()))
 }
 
 /// Serves the link, and tells what it left.
@@ -147,29 +154,17 @@ fn told_of_link<R: Wait>(
     seat: &mut Seat<Admin>,
     pass: &mut Pass,
     case: &Case,
-) -> Result<String>
+) -> Result<String, AllocError>
     requires { seat.old.turn ≡ turn.now.turn }
 {
     let first = lines(alloc, Vec::from_slice(alloc, case.sink)?)?;
     let second = lines(alloc, Vec::new(alloc))?;
-    let mut sinks: Vec<Box<dyn AuditSink + Send>> = Vec::new(alloc);
-    sinks.push(Box::new(alloc, watch(&first)?)?)?;
-    sinks.push(Box::new(alloc, watch(&second)?)?)?;
-    let mut hooks = WorkerHooks {
-        sinks: AuditFan::new(sinks),
-        enrichers: Enrichers::new(Vec::new(alloc)),
-    };
     let mut link = link_of(alloc, case.bytes, case.piece, case.fails)?;
     let calls = seat.calls();
-    let end = serve(rt, alloc, turn, seat, pass, &mut hooks, &mut link)?;
+    let (end, dropped) = serve_watched(rt, alloc, turn, seat, pass, &mut link, &first, &second)?;
     let calls = seat.calls().saturating_sub(calls);
-    let mut told = String::new(alloc);
-    tell_end(&mut told, &end)?;
-    write!(told, "|{calls}|")?;
     let text = written(alloc, link.held())?;
-    tell_responses(&mut told, text.as_str())?;
-    tell_sinks(&mut told, &first, hooks.sinks.dropped(), &second)?;
-    Ok(told)
+    told(alloc, &end, calls, text.as_str(), &first, dropped, &second)
 }
 
 /// Starts an administration, serves the case's link, and tells what that left.
@@ -192,7 +187,7 @@ pub(crate) fn told_of<R: Wait>(rt: &R, alloc: Global, case: &Case) -> Result<Str
     let (Some(mut seat), Some(mut pass)) = (seats.pop(), passes.pop()) else {
         return Err(anyhow!("there are a seat and a pass"));
     };
-    serve_before(
+    let told = match serve_before(
         rt,
         alloc,
         &turn,
@@ -200,6 +195,12 @@ pub(crate) fn told_of<R: Wait>(rt: &R, alloc: Global, case: &Case) -> Result<Str
         &mut refresher,
         &mut pass,
         case.before,
-    )?;
-    told_of_link(rt, alloc, &turn, &mut seat, &mut pass, case)
+    ) {
+        Ok(()) => told_of_link(rt, alloc, &turn, &mut seat, &mut pass, case),
+        Err(refused) => Err(refused),
+    };
+    match told {
+        Ok(told) => Ok(told),
+        Err(_) => Err(anyhow!("memory was refused")),
+    }
 }
