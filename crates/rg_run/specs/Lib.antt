@@ -2,9 +2,11 @@ pub mod CommandLine
 pub mod Commands
 pub mod Follow
 pub mod Limits
+pub mod Opening
 pub mod Moments
 pub mod Ports
 pub mod Replay
 pub mod Runs
+pub mod Serve
 pub mod Statuses
 pub mod Streams

@@ -11,11 +11,16 @@ use crate::command::{Command, command_of};
 use crate::follow::{Worker, follow};
 use crate::reading::{Stop, read_all};
 use crate::replay::{Replay, Stage};
+use crate::serve::{serve_links, taken};
 use crate::status::Status;
 use crate::writing::write_all;
-use rg_ports::{Clock, Sink, Source};
+use rg_base::Text;
+use rg_hook::RequestHooks;
+use rg_ports::{Clock, Gate, Listener, Sink, Source};
 use std::alloc::Global;
+use std::mem;
 use std::sync::Wait;
+use std::thread::Threads;
 
 /// Reads a script to its end, and then works it.
 fn work_script<W: Worker, S: Source, K: Sink, C: Clock>(
@@ -50,14 +55,83 @@ fn work_script<W: Worker, S: Source, K: Sink, C: Clock>(
     }
 }
 
+/// Reads a script to its end, works it, and then serves links.
+fn serve_script<
+    S: Source,
+    K: Sink,
+    C: Clock,
+    N: Listener,
+    G: Gate,
+    H: RequestHooks + Send,
+    R: Threads + Wait + Sync,
+>(
+    rt: &R,
+    alloc: Global,
+    address: &Text,
+    links: u32,
+    source: &mut S,
+    sink: &mut K,
+    clock: &mut C,
+    net: &mut N,
+    gate: &G,
+    hooks: Vec<H>,
+) -> Status
+    requires { (1 ≤ length hooks.items) × (length hooks.items ≤ 64) }
+    ensures run { IsServeRun links
+        (ports (S.left source.old) (S.ended source.old) (S.faults source.old) (C.given clock.old) (K.held sink.old) (K.faults sink.old))
+        (ports (S.left source.new) (S.ended source.new) (S.faults source.new) (C.given clock.new) (K.held sink.new) (K.faults sink.new))
+        (door (N.given net.old) (N.ended net.old) (N.faults net.old)) (door (N.given net.new) (N.ended net.new) (N.faults net.new)) result }
+    ensures clock_stays { (result ≡ Status.ReadFault) ⊎ (result ≡ Status.TooLong) → clock.new ≡ clock.old }
+{
+    let bytes = match read_all(alloc, source) {
+        Ok(bytes) => bytes,
+        Err(Stop::Fault) => return Status::ReadFault,
+        Err(Stop::NoMemory) => return Status::NoMemory,
+        Err(Stop::TooLong) => {
+            return match write_all(sink, b"too long\n") {
+                Ok(()) => Status::TooLong,
+                Err(_) => Status::WriteFault,
+            };
+        }
+    };
+    let Ok(script) = taken(rt, alloc, bytes.as_slice(), clock, hooks.len() as u32) else {
+        return Status::NoMemory;
+    };
+    if write_all(sink, script.text.as_bytes()).is_err() {
+        return Status::WriteFault;
+    }
+    let Some(opened) = script.opened else {
+        return script.status;
+    };
+    let text = match serve_links(rt, alloc, opened, hooks, net, address.as_str(), clock, gate, links) {
+        Ok(text) => text,
+        Err(status) => return status,
+    };
+    match write_all(sink, text.as_bytes()) {
+        Ok(()) => Status::Done,
+        Err(_) => Status::WriteFault,
+    }
+}
+
 /// Answers a command; None is that of words that ask for none.
-fn answer<R: Wait, S: Source, K: Sink, C: Clock>(
+fn answer<
+    S: Source,
+    K: Sink,
+    C: Clock,
+    N: Listener,
+    G: Gate,
+    H: RequestHooks + Send,
+    R: Threads + Wait + Sync,
+>(
     rt: &R,
     alloc: Global,
     command: Option<Command>,
     source: &mut S,
     sink: &mut K,
     clock: &mut C,
+    net: &mut N,
+    gate: &G,
+    hooks: &mut Vec<H>,
 ) -> Status
     ensures run { IsRun (Answers (only_built command))
         (ports (S.left source.old) (S.ended source.old) (S.faults source.old) (C.given clock.old) (K.held sink.old) (K.faults sink.old))
@@ -73,7 +147,11 @@ fn answer<R: Wait, S: Source, K: Sink, C: Clock>(
             };
             work_script(alloc, &mut replay, source, sink, clock)
         }
-        // The other commands aren't built yet.
+        Some(Command::Serve { address, links }) => {
+            let hooks = mem::replace(hooks, Vec::new(alloc));
+            serve_script(rt, alloc, &address, links, source, sink, clock, net, gate, hooks)
+        }
+        // The drill isn't built yet.
         _ => match write_all(
             sink,
             b"usage: rangerd replay | serve ADDRESS LINKS | drill SEED POLICIES REQUESTS\n",
@@ -85,14 +163,19 @@ fn answer<R: Wait, S: Source, K: Sink, C: Clock>(
 }
 
 /// Runs the command that the words ask for, and answers the number of its status.
-pub fn run<S: Source, K: Sink, C: Clock>(
-    rt: &impl Wait,
+/// `serve` takes the hooks of its workers, 1 to 64, and leaves none; every other command leaves them.
+pub fn run<S: Source, K: Sink, C: Clock, N: Listener, G: Gate, H: RequestHooks + Send>(
+    rt: &(impl Threads + Wait + Sync),
     alloc: Global,
     words: &[String],
     source: &mut S,
     sink: &mut K,
     clock: &mut C,
+    net: &mut N,
+    gate: &G,
+    hooks: &mut Vec<H>,
 ) -> u8
+    requires { (1 ≤ length hooks.old.items) × (length hooks.old.items ≤ 64) }
     // Each status comes as `Answers` says: with Done and BadLine the sink got exactly the text of the command's definition over the source's
     // lines and the clock's moments, after a failed write a prefix of the one text that belongs to the words, the bytes and these moments,
     // and a count of faults rose exactly where the status says so.
@@ -110,7 +193,7 @@ pub fn run<S: Source, K: Sink, C: Clock>(
         (bytes : List ℕ) → S.left source.old ≡ Some bytes → is_too_long bytes ≡ false → (result ≡ 0) ⊎ ((result ≡ 2) ⊎ (result ≡ 9)) }
 {
     match command_of(alloc, words) {
-        Ok(command) => answer(rt, alloc, command, source, sink, clock).number(),
+        Ok(command) => answer(rt, alloc, command, source, sink, clock, net, gate, hooks).number(),
         Err(_) => Status::NoMemory.number(),
     }
 }
