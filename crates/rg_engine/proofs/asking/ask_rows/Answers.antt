@@ -30,7 +30,7 @@ rows-preserved-then-reaches g c =
     let more = c.ask_tags-best.ensures.tries.tries in
     record {
       found = λ b rest. c.rows.invariant.found b (subst (λ (rs : List RowSource). Finds s (all_tagged set (reaching_tags elements rs)) c.rows.best b) (sym listed)
-      (finds_row s set elements row later c.rows.best c.ask_tags-best.result b reached asked rest));
+          (finds_row s set elements row later c.rows.best c.ask_tags-best.result b reached asked rest));
       tries = omega (arith, sum, count, so_far, one, more);
       compiles = c.ask_tags-best.ensures.tries.compiles ∙ c.reaches.ensures.tries.compiles ∙ c.rows.invariant.compiles;
       edits = c.ask_tags-best.ensures.tries.edits ∙ c.reaches.ensures.tries.edits ∙ c.rows.invariant.edits;
