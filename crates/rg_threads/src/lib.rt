@@ -1,13 +1,16 @@
-// What the threads of a service share: a queue of links, a clock, and what runs beside the workers.
+// The threads of a service: workers that serve links from a queue, and one that watches.
 #![tactic(auto)]
 
+mod accepting;
 mod queue;
+mod roles;
 mod shared_clock;
-mod watcher;
+mod threads;
 
 pub use queue::Queue;
+pub use roles::{Watcher, Worker};
 pub use shared_clock::SharedClock;
-pub use watcher::Watcher;
+pub use threads::serve_links;
 
 #[cfg(test)]
 mod tests;

@@ -1,3 +1,0 @@
-mod Alls
-mod Bounds
-mod Opening

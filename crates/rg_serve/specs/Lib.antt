@@ -1,4 +1,0 @@
-pub mod Held
-pub mod Names
-pub mod Opened
-pub mod Served
