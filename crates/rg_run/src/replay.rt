@@ -23,11 +23,11 @@ use std::sync::Wait;
 
 /// How far a script has come.
 #[derive(Drop)]
-pub(crate) enum Stage<A> {
+pub(crate) enum Stage<E, A> {
     /// There were only blank lines.
     Empty,
     /// Facts are published.
-    Facts(Engine),
+    Facts(E),
     /// An administration is running.
     Config(A),
 }
@@ -36,7 +36,7 @@ pub(crate) enum Stage<A> {
 #[derive(Drop)]
 pub(crate) struct Replay<'a, R: Wait> {
     pub rt: &'a R,
-    pub stage: Stage<Running<&'a R>>,
+    pub stage: Stage<Engine, Running<&'a R>>,
 }
 
 impl<'a, R: Wait> Model for Replay<'a, R> {
