@@ -19,7 +19,22 @@ use rg_sound::facts_fault;
 use rg_wire::print_decision;
 use std::alloc::Global;
 use std::marker::Model;
-use std::sync::Wait;
+use std::sync::{Arc, Wait};
+
+/// The engine over the facts of a script. Contracts see the facts.
+#[derive(Drop)]
+pub(crate) struct Published {
+    engine: Arc<Engine>,
+}
+
+impl Model for Published {
+    ghost use Rattle.std.specs.Arc.{arc_value};
+    ghost use Rattle.rg_facts.specs.declared.facts.Facts.{Facts};
+
+    ghost Value = { Facts };
+
+    ghost view = { λ p. arc_value p.engine };
+}
 
 /// How far a script has come.
 #[derive(Drop)]
@@ -36,7 +51,7 @@ pub(crate) enum Stage<E, A> {
 #[derive(Drop)]
 pub(crate) struct Replay<'a, R: Wait> {
     pub rt: &'a R,
-    pub stage: Stage<Engine, Running<&'a R>>,
+    pub stage: Stage<Published, Running<&'a R>>,
 }
 
 impl<'a, R: Wait> Model for Replay<'a, R> {
@@ -100,18 +115,17 @@ fn add_refresh(text: &mut String, published: Option<Serial>) -> Result<(), NoMem
 // ---- the work of a line
 
 /// The engine over facts that are sound.
-fn build(alloc: Global, facts: Facts) -> Result<Option<Engine>, NoMemory>
+fn build(alloc: Global, facts: Facts) -> Result<Option<Published>, NoMemory>
     requires { sound facts ≡ true }
     ensures { IfOk result (λ engine. engine ≡ Some facts) }
 {
-    match Engine::build(alloc, facts, &mut Steps::silent()) {
-        Ok(engine) => return Ok(Some(engine)),
-        Err(refused) => return Err(refused),
-    }
+    let engine = Engine::build(alloc, facts, &mut Steps::silent())?;
+    let engine = Arc::new(alloc, engine)?;
+    Ok(Some(Published { engine }))
 }
 
 /// The engine over facts that are sound; None for facts that aren't.
-fn publish(alloc: Global, facts: Facts) -> Result<Option<Engine>, NoMemory>
+fn publish(alloc: Global, facts: Facts) -> Result<Option<Published>, NoMemory>
     ensures { IfOk result (λ engine. engine ≡ published_facts facts) }
 {
     match facts_fault(alloc, &facts) {
@@ -174,8 +188,8 @@ impl<'a, R: Wait> Replay<'a, R> {
         }
         match publish(alloc, facts) {
             Ok(None) => Err(LineFault::Bad),
-            Ok(Some(engine)) => {
-                self.stage = Stage::Facts(engine);
+            Ok(Some(published)) => {
+                self.stage = Stage::Facts(published);
                 Ok(())
             }
             Err(_) => Err(LineFault::NoMemory),
@@ -245,7 +259,8 @@ impl<'a, R: Wait> Replay<'a, R> {
     {
         match &mut self.stage {
             Stage::Empty => Ok(None),
-            Stage::Facts(engine) => {
+            Stage::Facts(published) => {
+                let engine = &*published.engine;
                 let decision = engine.decide(alloc, request, &mut Steps::silent())?;
                 Ok(Some(numbered(decision, Serial(1))))
             }
