@@ -1,4 +1,2 @@
-pub mod Asked
 pub mod Bases
 pub mod Bounds
-pub mod Parts

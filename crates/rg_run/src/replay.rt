@@ -19,30 +19,15 @@ use rg_sound::facts_fault;
 use rg_wire::print_decision;
 use std::alloc::Global;
 use std::marker::Model;
-use std::sync::{Arc, Wait};
-
-/// The engine over the facts of a script. Contracts see the facts.
-#[derive(Drop)]
-pub(crate) struct Published {
-    engine: Arc<Engine>,
-}
-
-impl Model for Published {
-    ghost use Rattle.std.specs.Arc.{arc_value};
-    ghost use Rattle.rg_facts.specs.declared.facts.Facts.{Facts};
-
-    ghost Value = { Facts };
-
-    ghost view = { λ p. arc_value p.engine };
-}
+use std::sync::Wait;
 
 /// How far a script has come.
 #[derive(Drop)]
-pub(crate) enum Stage<E, A> {
+pub(crate) enum Stage<A> {
     /// There were only blank lines.
     Empty,
     /// Facts are published.
-    Facts(E),
+    Facts(Engine),
     /// An administration is running.
     Config(A),
 }
@@ -51,7 +36,7 @@ pub(crate) enum Stage<E, A> {
 #[derive(Drop)]
 pub(crate) struct Replay<'a, R: Wait> {
     pub rt: &'a R,
-    pub stage: Stage<Published, Running<&'a R>>,
+    pub stage: Stage<Running<&'a R>>,
 }
 
 impl<'a, R: Wait> Model for Replay<'a, R> {
@@ -115,17 +100,18 @@ fn add_refresh(text: &mut String, published: Option<Serial>) -> Result<(), NoMem
 // ---- the work of a line
 
 /// The engine over facts that are sound.
-fn build(alloc: Global, facts: Facts) -> Result<Option<Published>, NoMemory>
+fn build(alloc: Global, facts: Facts) -> Result<Option<Engine>, NoMemory>
     requires { sound facts ≡ true }
     ensures { IfOk result (λ engine. engine ≡ Some facts) }
 {
-    let engine = Engine::build(alloc, facts, &mut Steps::silent())?;
-    let engine = Arc::new(alloc, engine)?;
-    Ok(Some(Published { engine }))
+    match Engine::build(alloc, facts, &mut Steps::silent()) {
+        Ok(engine) => return Ok(Some(engine)),
+        Err(refused) => return Err(refused),
+    }
 }
 
 /// The engine over facts that are sound; None for facts that aren't.
-fn publish(alloc: Global, facts: Facts) -> Result<Option<Published>, NoMemory>
+fn publish(alloc: Global, facts: Facts) -> Result<Option<Engine>, NoMemory>
     ensures { IfOk result (λ engine. engine ≡ published_facts facts) }
 {
     match facts_fault(alloc, &facts) {
@@ -164,7 +150,7 @@ fn refresh_and_print<R: Wait>(
 ) -> Result<(), NoMemory>
     ensures { OnOk result (IsWorked (refresh_work (Stage.Config running.old)) (Stage.Config running.new) (string_bytes text.old) (string_bytes text.new)) }
 {
-    let published = running.refresh(rt, alloc, &mut Steps::silent())?;
+    let published = running.refresh(rt, alloc)?;
     add_refresh(text, published)
 }
 
@@ -188,8 +174,8 @@ impl<'a, R: Wait> Replay<'a, R> {
         }
         match publish(alloc, facts) {
             Ok(None) => Err(LineFault::Bad),
-            Ok(Some(published)) => {
-                self.stage = Stage::Facts(published);
+            Ok(Some(engine)) => {
+                self.stage = Stage::Facts(engine);
                 Ok(())
             }
             Err(_) => Err(LineFault::NoMemory),
@@ -259,16 +245,11 @@ impl<'a, R: Wait> Replay<'a, R> {
     {
         match &mut self.stage {
             Stage::Empty => Ok(None),
-            Stage::Facts(published) => {
-                let engine = &*published.engine;
+            Stage::Facts(engine) => {
                 let decision = engine.decide(alloc, request, &mut Steps::silent())?;
                 Ok(Some(numbered(decision, Serial(1))))
             }
-            Stage::Config(running) => Ok(Some(running.decide(
-                alloc,
-                request,
-                &mut Steps::silent(),
-            )?)),
+            Stage::Config(running) => Ok(Some(running.decide(alloc, request)?)),
         }
     }
 
