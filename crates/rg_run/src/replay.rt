@@ -3,6 +3,8 @@ ghost use Rattle.std.specs.Prelude.{◌≡◌, ◌++◌, [], Err, None, Some, tr
 ghost use Rattle.std.specs.Str.{encode_utf8_all};
 ghost use Rattle.rg_cmd_wire.specs.PrintedReplies.{reply_text};
 ghost use Rattle.rg_facts.specs.Sound.{sound};
+ghost use Rattle.rg_admin.specs.Starting.{start_fault};
+ghost use Rattle.rg_running.specs.Running.{opened_unless};
 ghost use Rattle.rg_run.specs.Follow.{IsWorked};
 ghost use Rattle.rg_run.specs.Replay.{admin_work, config_work, decide_work, decision_by_newest, decision_line, facts_work, published_facts, refresh_line, refresh_work, reply_line};
 
@@ -36,6 +38,21 @@ impl Model for Published {
     ghost view = { λ p. arc_value p.engine };
 }
 
+/// The administration of a script. Contracts see it as it is running.
+#[derive(Drop)]
+pub(crate) struct Administered<'a, R: Wait> {
+    running: Box<Running<&'a R>>,
+}
+
+impl<'a, R: Wait> Model for Administered<'a, R> {
+    ghost use Rattle.std.specs.Box.{box_value};
+    ghost use Rattle.rg_running.specs.Running as the;
+
+    ghost Value = { the.Running };
+
+    ghost view = { λ a. box_value a.running };
+}
+
 /// How far a script has come.
 #[derive(Drop)]
 pub(crate) enum Stage<E, A> {
@@ -51,7 +68,7 @@ pub(crate) enum Stage<E, A> {
 #[derive(Drop)]
 pub(crate) struct Replay<'a, R: Wait> {
     pub rt: &'a R,
-    pub stage: Stage<Published, Running<&'a R>>,
+    pub stage: Stage<Published, Administered<'a, R>>,
 }
 
 impl<'a, R: Wait> Model for Replay<'a, R> {
@@ -141,6 +158,21 @@ fn publish(alloc: Global, facts: Facts) -> Result<Option<Published>, NoMemory>
     }
 }
 
+/// The administration that the configuration starts; None where it breaks a rule.
+fn administer<'a, R: Wait>(
+    rt: &'a R,
+    alloc: Global,
+    config: Config,
+) -> Result<Option<Administered<'a, R>>, NoMemory>
+    ensures { IfOk result (λ running. running ≡ opened_unless (start_fault config) config) }
+{
+    let Some(running) = Running::start(rt, alloc, config)? else {
+        return Ok(None);
+    };
+    let running = Box::new(alloc, running)?;
+    Ok(Some(Administered { running }))
+}
+
 /// Asks the administration, and adds the line of its reply.
 fn ask_and_print<R: Wait>(
     rt: &R,
@@ -206,7 +238,7 @@ impl<'a, R: Wait> Replay<'a, R> {
             Stage::Empty => {}
             _ => return Err(LineFault::Bad),
         }
-        match Running::start(self.rt, alloc, config) {
+        match administer(self.rt, alloc, config) {
             Ok(None) => Err(LineFault::Bad),
             Ok(Some(running)) => {
                 self.stage = Stage::Config(running);
@@ -224,7 +256,7 @@ impl<'a, R: Wait> Replay<'a, R> {
         ensures unwritten { result ≡ Err LineFault.Bad → string_bytes text.new ≡ string_bytes text.old }
     {
         match &mut self.stage {
-            Stage::Config(running) => match ask_and_print(self.rt, alloc, running, ask, text) {
+            Stage::Config(a) => match ask_and_print(self.rt, alloc, &mut a.running, ask, text) {
                 Ok(()) => Ok(()),
                 Err(_) => Err(LineFault::NoMemory),
             },
@@ -240,7 +272,7 @@ impl<'a, R: Wait> Replay<'a, R> {
         ensures unwritten { result ≡ Err LineFault.Bad → string_bytes text.new ≡ string_bytes text.old }
     {
         match &mut self.stage {
-            Stage::Config(running) => match refresh_and_print(self.rt, alloc, running, text) {
+            Stage::Config(a) => match refresh_and_print(self.rt, alloc, &mut a.running, text) {
                 Ok(()) => Ok(()),
                 Err(_) => Err(LineFault::NoMemory),
             },
@@ -264,11 +296,7 @@ impl<'a, R: Wait> Replay<'a, R> {
                 let decision = engine.decide(alloc, request, &mut Steps::silent())?;
                 Ok(Some(numbered(decision, Serial(1))))
             }
-            Stage::Config(running) => Ok(Some(running.decide(
-                alloc,
-                request,
-                &mut Steps::silent(),
-            )?)),
+            Stage::Config(a) => Ok(Some(a.running.decide(alloc, request, &mut Steps::silent())?)),
         }
     }
 
