@@ -30,6 +30,7 @@ def seconds(lines):
 
 
 def tell(what, before, commands, unit=1e3):
+    "Milliseconds for each command."
     took = (seconds(before + commands) - seconds(before)) / len(commands)
     print(f"{what}: {took * unit:.3f} ms")
 
@@ -43,5 +44,5 @@ tell(f"createPolicy by a delegate into {MANY} delegating policies", DELEGATED, [
 tell(f"createPolicy that authority refuses, {MANY} delegating policies", DELEGATED, [line("dan", "createPolicy", policy=policy(f"q{n}", f"y{n}")) for n in range(500)])
 tell(f"updatePolicy of {MANY} policies", BASE, [line("root", "updatePolicy", policy=policy(f"p{n}", f"y{n}", id=n)) for n in range(1, 501)])
 tell(f"deletePolicy of {MANY} policies", BASE, [line("root", "deletePolicy", id=n) for n in range(1, 501)])
-tell(f"putDef over {MANY} policies", BASE, [line("root", "putDef", **{"def": {**DEF, "accessTypes": DEF["accessTypes"] + [{"name": f"a{n}"}]}}) for n in range(5)])
-tell("putZone against 1,000 zones", START + ZONES, [line("root", "putZone", zone={"name": f"y{n}", "services": {"hive1": {"resources": [{"database": ["y%d" % n]}]}}}) for n in range(20)])
+tell(f"putDef over {MANY} policies", BASE, [line("root", "putDef", **{"def": {**DEF, "accessTypes": DEF["accessTypes"] + [{"name": f"a{n}"}]}}) for n in range(40)])
+tell("putZone against 1,000 zones", START + ZONES, [line("root", "putZone", zone={"name": f"y{n}", "services": {"hive1": {"resources": [{"database": ["y%d" % n]}]}}}) for n in range(200)])
