@@ -1,2 +1,4 @@
+pub mod Asked
 pub mod Bases
 pub mod Bounds
+pub mod Parts

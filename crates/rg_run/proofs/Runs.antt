@@ -118,16 +118,26 @@ completes p q n TooLong bytes e run reads writes told within = absurd (in_limits
 completes p q n Usage bytes e run reads writes told within = absurd run.stands
 completes p q n NetFault bytes e run reads writes told within = absurd run.stands
 
-pub completed : (asked : Option Command) (p q : Ports) (n : ℕ) (status : Status) (bytes : List ℕ) → asked ≡ Some Replay → n ≡ number_of status → IsRun (Answers asked) p q status
-    → q.read_faults ≡ p.read_faults → q.write_faults ≡ p.write_faults → p.left ≡ Some bytes → is_too_long bytes ≡ false → (n ≡ 0) ⊎ ((n ≡ 2) ⊎ (n ≡ 9))
-completed asked p q n status bytes is e run = completes p q n status bytes e (subst (λ k. IsRun (Answers k) p q status) is run)
+-- a drill whose sink doesn't fail is carried out, or lacks memory
+drilled : (seed policies requests : ℕ) (p q : Ports) (n : ℕ) (status : Status) → n ≡ number_of status → IsRun (Answers (Some (Drill seed policies requests))) p q status
+    → q.write_faults ≡ p.write_faults → (n ≡ 0) ⊎ ((n ≡ 2) ⊎ (n ≡ 9))
+drilled seed policies requests p q n Done e run writes = inl e
+drilled seed policies requests p q n NoMemory e run writes = inr (inr e)
+drilled seed policies requests p q n WriteFault e run writes = absurd (omega (arith, run.writes))
+drilled seed policies requests p q n BadLine e run writes = absurd run.stands
+drilled seed policies requests p q n ReadFault e run writes = absurd run.stands
+drilled seed policies requests p q n TooLong e run writes = absurd run.stands
+drilled seed policies requests p q n Usage e run writes = absurd run.stands
+drilled seed policies requests p q n NetFault e run writes = absurd run.stands
 
--- the one command that is built
-pub built : (asked : Option Command) (command : Command) → only_built asked ≡ Some command → command ≡ Replay
-built (Some Replay) command e = cc
-built (Some (Serve address links)) command e = cc
-built (Some (Drill seed policies requests)) command e = cc
-built None command e = cc
+-- for each command that is built
+pub completed : (asked : Option Command) (command : Command) (p q : Ports) (n : ℕ) (status : Status) (bytes : List ℕ) → only_built asked ≡ Some command
+    → n ≡ number_of status → IsRun (Answers (only_built asked)) p q status
+    → q.read_faults ≡ p.read_faults → q.write_faults ≡ p.write_faults → p.left ≡ Some bytes → is_too_long bytes ≡ false → (n ≡ 0) ⊎ ((n ≡ 2) ⊎ (n ≡ 9))
+completed (Some Replay) command p q n status bytes named e run reads writes told within = completes p q n status bytes e run reads writes told within
+completed (Some (Drill seed policies requests)) command p q n status bytes named e run reads writes told within = drilled seed policies requests p q n status e run writes
+completed (Some (Serve address links)) command p q n status bytes named e run reads writes told within = cc
+completed None command p q n status bytes named e run reads writes told within = cc
 
 pub ended_so : (command : Option Command) (p q : Ports) (n m : ℕ) → m ≡ n → OfStatus n (IsRun (Answers command) p q) → IsEndOf command m
 ended_so command p q n m same of = (p, q, subst (λ k. OfStatus k (IsRun (Answers command) p q)) (sym same) of)

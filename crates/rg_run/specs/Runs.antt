@@ -1,6 +1,9 @@
 -- What a run does: the text that belongs to its words, its bytes and its moments, and what stands of it by the status.
 use Rattle.std.specs.Prelude.{◌≡◌, ◌⊎◌, ◌<◌, ◌≤◌, ℕ, List, [], ◌++◌, codes, length, Bool, true, false, Option, Some, None}
 use Rattle.rg_base.specs.declared.numbers.Moment.{Moment}
+use Rattle.rg_workload.specs.Drill.{IsCarriedOut}
+use Rattle.rg_workload.specs.Report.{report_text}
+use Rattle.rg_workload.specs.declared.totals.Totals.{Totals}
 use Rattle.rg_run.specs.declared.command.Command.{Command}
 use Rattle.rg_run.specs.declared.command.Command.TheVariants.{Replay, Serve, Drill}
 use Rattle.rg_run.specs.declared.status.Status.{Status}
@@ -56,9 +59,17 @@ IsTold p q WriteFault = WrotePrefix p.held q.held usage_text
 IsTold p q NoMemory = q.held ≡ p.held
 IsTold p q _ = ⊥
 
+-- what a drill leaves in the sink: its report, or after a failed write a prefix of it
+abbrev pub Drilled : ℕ → ℕ → ℕ → Option (List ℕ) → Option (List ℕ) → Status → Type 0
+Drilled seed policies requests old new Done = (t : Totals) × IsCarriedOut seed policies requests t × Wrote old new (report_text t)
+Drilled seed policies requests old new WriteFault = (t : Totals) × IsCarriedOut seed policies requests t × WrotePrefix old new (report_text t)
+Drilled seed policies requests old new NoMemory = new ≡ old
+Drilled seed policies requests old new _ = ⊥
+
 -- what stands after the command, None for words that ask for none
 abbrev pub Answers : Option Command → Ports → Ports → Status → Type 0
 Answers (Some Replay) p q status = Stands _ replayed p q status
+Answers (Some (Drill seed policies requests)) p q status = Drilled seed policies requests p.held q.held status
 Answers _ p q status = IsTold p q status
 
 -- the source's count of faults rose where the status says that it failed, and else it stayed
@@ -67,9 +78,12 @@ CountsReads p q ReadFault = p.read_faults < q.read_faults
 CountsReads p q _ = q.read_faults ≡ p.read_faults
 
 -- the same of the sink
+abbrev pub WriteFaults : Status → ℕ → ℕ → Type 0
+WriteFaults WriteFault old new = old < new
+WriteFaults _ old new = new ≡ old
+
 abbrev pub CountsWrites : Ports → Ports → Status → Type 0
-CountsWrites p q WriteFault = p.write_faults < q.write_faults
-CountsWrites p q _ = q.write_faults ≡ p.write_faults
+CountsWrites p q status = WriteFaults status p.write_faults q.write_faults
 
 -- a run from the ports p to the ports q: what stands, and both counts
 pub record IsRun (Standing : Ports → Ports → Status → Type 0) (p q : Ports) (status : Status) : Type 0 where

@@ -1,11 +1,11 @@
 // From words and bytes to bytes and a status.
 ghost use Rattle.std.specs.Prelude.{◌≡◌, ◌⊎◌, ℕ, List, Some, None, false, map, string_bytes};
 ghost use Rattle.rg_run.specs.declared.command.Command.{Command};
-ghost use Rattle.rg_run.specs.Commands.{command_of, only_built};
+ghost use Rattle.rg_run.specs.Commands.{command_of, only_built, reads};
 ghost use Rattle.rg_run.specs.Follow.{worked};
 ghost use Rattle.rg_run.specs.Limits.{is_too_long};
 ghost use Rattle.rg_run.specs.Ports.{ports};
-ghost use Rattle.rg_run.specs.Runs.{Answers, IsRun, OfStatus, Stands};
+ghost use Rattle.rg_run.specs.Runs.{Answers, Drilled, IsRun, OfStatus, Stands, WriteFaults};
 
 use crate::command::{Command, command_of};
 use crate::follow::{Worker, follow};
@@ -14,6 +14,7 @@ use crate::replay::{Replay, Stage};
 use crate::status::Status;
 use crate::writing::write_all;
 use rg_ports::{Clock, Sink, Source};
+use rg_workload::{add_report, carry_out};
 use std::alloc::Global;
 use std::sync::Wait;
 
@@ -50,6 +51,32 @@ fn work_script<W: Worker, S: Source, K: Sink, C: Clock>(
     }
 }
 
+/// Carries out a drill, and writes its report.
+fn drill<R: Wait, K: Sink>(
+    rt: &R,
+    alloc: Global,
+    seed: u32,
+    policies: u32,
+    requests: u32,
+    sink: &mut K,
+) -> Status
+    ensures stands { Drilled seed policies requests (K.held sink.old) (K.held sink.new) result }
+    ensures writes { WriteFaults result (K.faults sink.old) (K.faults sink.new) }
+{
+    let mut text = String::new(alloc);
+    let totals = match carry_out(rt, alloc, seed, policies, requests) {
+        Ok(totals) => totals,
+        Err(_) => return Status::NoMemory,
+    };
+    if add_report(&mut text, &totals).is_err() {
+        return Status::NoMemory;
+    }
+    match write_all(sink, text.as_bytes()) {
+        Ok(()) => Status::Done,
+        Err(_) => Status::WriteFault,
+    }
+}
+
 /// Answers a command; None is that of words that ask for none.
 fn answer<R: Wait, S: Source, K: Sink, C: Clock>(
     rt: &R,
@@ -63,9 +90,9 @@ fn answer<R: Wait, S: Source, K: Sink, C: Clock>(
         (ports (S.left source.old) (S.ended source.old) (S.faults source.old) (C.given clock.old) (K.held sink.old) (K.faults sink.old))
         (ports (S.left source.new) (S.ended source.new) (S.faults source.new) (C.given clock.new) (K.held sink.new) (K.faults sink.new)) result }
     ensures clock_stays { (result ≡ Status.ReadFault) ⊎ (result ≡ Status.TooLong) → clock.new ≡ clock.old }
-    ensures untouched { only_built command ≡ None → (source.new ≡ source.old) × (clock.new ≡ clock.old) }
+    ensures untouched { reads (only_built command) ≡ false → (source.new ≡ source.old) × (clock.new ≡ clock.old) }
 {
-    match command {
+    match &command {
         Some(Command::Replay) => {
             let mut replay = Replay {
                 rt,
@@ -73,7 +100,14 @@ fn answer<R: Wait, S: Source, K: Sink, C: Clock>(
             };
             work_script(alloc, &mut replay, source, sink, clock)
         }
-        // The other commands aren't built yet.
+        Some(
+            Command::Drill {
+                seed,
+                policies,
+                requests,
+            },
+        ) => drill(rt, alloc, *seed, *policies, *requests, sink),
+        // `serve` isn't built yet.
         _ => match write_all(
             sink,
             b"usage: rangerd replay | serve ADDRESS LINKS | drill SEED POLICIES REQUESTS\n",
@@ -100,8 +134,8 @@ pub fn run<S: Source, K: Sink, C: Clock>(
         (ports (S.left source.old) (S.ended source.old) (S.faults source.old) (C.given clock.old) (K.held sink.old) (K.faults sink.old))
         (ports (S.left source.new) (S.ended source.new) (S.faults source.new) (C.given clock.new) (K.held sink.new) (K.faults sink.new))) }
 
-    // Words that ask for no command leave source and clock alone, and limits are decided before the clock is asked.
-    ensures untouched { only_built (command_of (map string_bytes words.now)) ≡ None → (source.new ≡ source.old) × (clock.new ≡ clock.old) }
+    // Words that ask for no command, and a drill, leave source and clock alone, and limits are decided before the clock is asked.
+    ensures untouched { reads (only_built (command_of (map string_bytes words.now))) ≡ false → (source.new ≡ source.old) × (clock.new ≡ clock.old) }
     ensures clock_stays { (result ≡ 1) ⊎ ((result ≡ 3) ⊎ (result ≡ 6)) → clock.new ≡ clock.old }
 
     // Completeness: a command, bytes within the limits and no fault give the script's status, or want of memory.

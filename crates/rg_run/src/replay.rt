@@ -3,6 +3,8 @@ ghost use Rattle.std.specs.Prelude.{◌≡◌, ◌++◌, [], Err, None, Some, tr
 ghost use Rattle.std.specs.Str.{encode_utf8_all};
 ghost use Rattle.rg_cmd_wire.specs.PrintedReplies.{reply_text};
 ghost use Rattle.rg_facts.specs.Sound.{sound};
+ghost use Rattle.rg_admin.specs.Starting.{start_fault};
+ghost use Rattle.rg_running.specs.Running.{opened_unless};
 ghost use Rattle.rg_run.specs.Follow.{IsWorked};
 ghost use Rattle.rg_run.specs.Replay.{admin_work, config_work, decide_work, decision_by_newest, decision_line, facts_work, published_facts, refresh_line, refresh_work, reply_line};
 
@@ -19,15 +21,45 @@ use rg_sound::facts_fault;
 use rg_wire::print_decision;
 use std::alloc::Global;
 use std::marker::Model;
-use std::sync::Wait;
+use std::sync::{Arc, Wait};
+
+/// The engine over the facts of a script. Contracts see the facts.
+#[derive(Drop)]
+pub(crate) struct Published {
+    engine: Arc<Engine>,
+}
+
+impl Model for Published {
+    ghost use Rattle.std.specs.Arc.{arc_value};
+    ghost use Rattle.rg_facts.specs.declared.facts.Facts.{Facts};
+
+    ghost Value = { Facts };
+
+    ghost view = { λ p. arc_value p.engine };
+}
+
+/// The administration of a script. Contracts see it as it is running.
+#[derive(Drop)]
+pub(crate) struct Administered<'a, R: Wait> {
+    running: Box<Running<&'a R>>,
+}
+
+impl<'a, R: Wait> Model for Administered<'a, R> {
+    ghost use Rattle.std.specs.Box.{box_value};
+    ghost use Rattle.rg_running.specs.Running as the;
+
+    ghost Value = { the.Running };
+
+    ghost view = { λ a. box_value a.running };
+}
 
 /// How far a script has come.
 #[derive(Drop)]
-pub(crate) enum Stage<A> {
+pub(crate) enum Stage<E, A> {
     /// There were only blank lines.
     Empty,
     /// Facts are published.
-    Facts(Engine),
+    Facts(E),
     /// An administration is running.
     Config(A),
 }
@@ -36,7 +68,7 @@ pub(crate) enum Stage<A> {
 #[derive(Drop)]
 pub(crate) struct Replay<'a, R: Wait> {
     pub rt: &'a R,
-    pub stage: Stage<Running<&'a R>>,
+    pub stage: Stage<Published, Administered<'a, R>>,
 }
 
 impl<'a, R: Wait> Model for Replay<'a, R> {
@@ -100,18 +132,17 @@ fn add_refresh(text: &mut String, published: Option<Serial>) -> Result<(), NoMem
 // ---- the work of a line
 
 /// The engine over facts that are sound.
-fn build(alloc: Global, facts: Facts) -> Result<Option<Engine>, NoMemory>
+fn build(alloc: Global, facts: Facts) -> Result<Option<Published>, NoMemory>
     requires { sound facts ≡ true }
     ensures { IfOk result (λ engine. engine ≡ Some facts) }
 {
-    match Engine::build(alloc, facts, &mut Steps::silent()) {
-        Ok(engine) => return Ok(Some(engine)),
-        Err(refused) => return Err(refused),
-    }
+    let engine = Engine::build(alloc, facts, &mut Steps::silent())?;
+    let engine = Arc::new(alloc, engine)?;
+    Ok(Some(Published { engine }))
 }
 
 /// The engine over facts that are sound; None for facts that aren't.
-fn publish(alloc: Global, facts: Facts) -> Result<Option<Engine>, NoMemory>
+fn publish(alloc: Global, facts: Facts) -> Result<Option<Published>, NoMemory>
     ensures { IfOk result (λ engine. engine ≡ published_facts facts) }
 {
     match facts_fault(alloc, &facts) {
@@ -125,6 +156,21 @@ fn publish(alloc: Global, facts: Facts) -> Result<Option<Engine>, NoMemory>
             Err(refused)
         }
     }
+}
+
+/// The administration that the configuration starts; None where it breaks a rule.
+fn administer<'a, R: Wait>(
+    rt: &'a R,
+    alloc: Global,
+    config: Config,
+) -> Result<Option<Administered<'a, R>>, NoMemory>
+    ensures { IfOk result (λ running. running ≡ opened_unless (start_fault config) config) }
+{
+    let Some(running) = Running::start(rt, alloc, config)? else {
+        return Ok(None);
+    };
+    let running = Box::new(alloc, running)?;
+    Ok(Some(Administered { running }))
 }
 
 /// Asks the administration, and adds the line of its reply.
@@ -150,7 +196,7 @@ fn refresh_and_print<R: Wait>(
 ) -> Result<(), NoMemory>
     ensures { OnOk result (IsWorked (refresh_work (Stage.Config running.old)) (Stage.Config running.new) (string_bytes text.old) (string_bytes text.new)) }
 {
-    let published = running.refresh(rt, alloc)?;
+    let published = running.refresh(rt, alloc, &mut Steps::silent())?;
     add_refresh(text, published)
 }
 
@@ -174,8 +220,8 @@ impl<'a, R: Wait> Replay<'a, R> {
         }
         match publish(alloc, facts) {
             Ok(None) => Err(LineFault::Bad),
-            Ok(Some(engine)) => {
-                self.stage = Stage::Facts(engine);
+            Ok(Some(published)) => {
+                self.stage = Stage::Facts(published);
                 Ok(())
             }
             Err(_) => Err(LineFault::NoMemory),
@@ -192,7 +238,7 @@ impl<'a, R: Wait> Replay<'a, R> {
             Stage::Empty => {}
             _ => return Err(LineFault::Bad),
         }
-        match Running::start(self.rt, alloc, config) {
+        match administer(self.rt, alloc, config) {
             Ok(None) => Err(LineFault::Bad),
             Ok(Some(running)) => {
                 self.stage = Stage::Config(running);
@@ -210,7 +256,7 @@ impl<'a, R: Wait> Replay<'a, R> {
         ensures unwritten { result ≡ Err LineFault.Bad → string_bytes text.new ≡ string_bytes text.old }
     {
         match &mut self.stage {
-            Stage::Config(running) => match ask_and_print(self.rt, alloc, running, ask, text) {
+            Stage::Config(a) => match ask_and_print(self.rt, alloc, &mut a.running, ask, text) {
                 Ok(()) => Ok(()),
                 Err(_) => Err(LineFault::NoMemory),
             },
@@ -226,7 +272,7 @@ impl<'a, R: Wait> Replay<'a, R> {
         ensures unwritten { result ≡ Err LineFault.Bad → string_bytes text.new ≡ string_bytes text.old }
     {
         match &mut self.stage {
-            Stage::Config(running) => match refresh_and_print(self.rt, alloc, running, text) {
+            Stage::Config(a) => match refresh_and_print(self.rt, alloc, &mut a.running, text) {
                 Ok(()) => Ok(()),
                 Err(_) => Err(LineFault::NoMemory),
             },
@@ -245,11 +291,12 @@ impl<'a, R: Wait> Replay<'a, R> {
     {
         match &mut self.stage {
             Stage::Empty => Ok(None),
-            Stage::Facts(engine) => {
+            Stage::Facts(published) => {
+                let engine = &*published.engine;
                 let decision = engine.decide(alloc, request, &mut Steps::silent())?;
                 Ok(Some(numbered(decision, Serial(1))))
             }
-            Stage::Config(running) => Ok(Some(running.decide(alloc, request)?)),
+            Stage::Config(a) => Ok(Some(a.running.decide(alloc, request, &mut Steps::silent())?)),
         }
     }
 

@@ -1,13 +1,14 @@
 // An administration that is running, with what is published to its plugin.
-ghost use Rattle.std.specs.Prelude.{◌≡◌, Some, IfOk};
+ghost use Rattle.std.specs.Prelude.{◌≡◌, Some, IfOk, length};
 ghost use Rattle.rg_admin.specs.Starting.{start_fault};
+ghost use Rattle.rg_engine.specs.Bounds.{TriesWithin, bound_on};
 ghost use Rattle.rg_machine.specs.Starts.{IsStart};
 ghost use Rattle.rg_machine.specs.Steps.{step};
 ghost use Rattle.rg_publish.specs.Passes.{Ends, decision_of};
 ghost use Rattle.rg_running.specs.Running.{IsRefreshed, asked, opened, opened_unless, serial_in};
 
 use rg_admin::{Admin, StartFault};
-use rg_base::{NoMemory, Serial, Steps};
+use rg_base::{Ledger, NoMemory, Serial, Steps};
 use rg_cmd::{AdminReply, Ask, Config};
 use rg_facts::Decision;
 use rg_policy::AccessRequest;
@@ -100,18 +101,20 @@ impl<R: Wait + Drop> Running<R> {
 
     /// Publishes what has changed since the newest publication, and gives its serial; None where nothing has. Where memory is
     /// refused nothing is published.
-    pub fn refresh<W: Wait>(&mut self, rt: &W, alloc: Global) -> Result<Option<Serial>, NoMemory>
-        ensures { IfOk result (λ serial. Ends self.old.published (λ p. IsRefreshed self.old p serial self.new)) }
+    pub fn refresh<W: Wait, L: Ledger>(
+        &mut self,
+        rt: &W,
+        alloc: Global,
+        steps: &mut Steps<L>,
+    ) -> Result<Option<Serial>, NoMemory>
+        ensures refreshed { IfOk result (λ serial. Ends self.old.published (λ p. IsRefreshed self.old p serial self.new)) }
+        ensures tries { steps.new.tries ≡ steps.old.tries }
     {
         documents_lead();
         one_more_entry::<Admin>();
-        let refreshed = self.refresher.refresh(
-            rt,
-            alloc,
-            &self.turn,
-            &mut self.seat,
-            &mut Steps::silent(),
-        );
+        let refreshed = self
+            .refresher
+            .refresh(rt, alloc, &self.turn, &mut self.seat, steps);
         self.turn.knows(&self.seat);
         match refreshed {
             Ok(refresh) => return Ok(serial_in(refresh)),
@@ -121,16 +124,29 @@ impl<R: Wait + Drop> Running<R> {
 
     /// Decides the request by the newest publication. Want of memory is also answered where the pass decides by another one
     /// than the publisher's newest: of what others publish nothing is known, and there are none here.
-    pub fn decide(&mut self, alloc: Global, request: &AccessRequest) -> Result<Decision, NoMemory>
+    pub fn decide<L: Ledger>(
+        &mut self,
+        alloc: Global,
+        request: &AccessRequest,
+        steps: &mut Steps<L>,
+    ) -> Result<Decision, NoMemory>
         ensures same { self.new ≡ self.old }
         ensures decision { IfOk result (λ d. Ends self.old.published (λ p. d ≡ decision_of p request.now)) }
+        ensures steps { IfOk result (λ d. Ends self.old.published (λ p. TriesWithin (bound_on p.facts request.now) steps.old steps.new)) }
     {
         let told = self.refresher.publisher.tell()?;
         self.pass.learn(told);
-        let decision = self.pass.decide(alloc, request, &mut Steps::silent())?;
+        let decision = self.pass.decide(alloc, request, steps)?;
         if self.pass.serial().0 != self.refresher.publisher.serial().0 {
             return Err(NoMemory);
         }
         Ok(decision)
+    }
+
+    /// How many publications there are.
+    pub fn publications(&self) -> u64
+        ensures { result ≡ length self.now.published }
+    {
+        self.refresher.publisher.serial().0
     }
 }

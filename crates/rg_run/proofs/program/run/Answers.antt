@@ -1,12 +1,12 @@
-use Rattle.std.proofs.Common.{◌∙◌, Some, ap, rules}
+use Rattle.std.proofs.Common.{◌∙◌, ap, rules}
 use Rattle.rg_run.specs.declared.status.Status.TheVariants.{NoMemory}
 use Rattle.rg_run.specs.Commands.{only_built}
-use Rattle.rg_run.proofs.Runs.{built, completed, undone}
+use Rattle.rg_run.proofs.Runs.{completed, undone}
 use Rattle.rg_run.proofs.program.run.Goals as goal
 
 pub returns-in-Ok-clause-complete : goal.returns-in-Ok-clause-complete
 returns-in-Ok-clause-complete g c = λ command named reads writes bytes told within.
-    completed (only_built c.in-Ok.command) _ _ _ c.answer.result bytes (ap only_built c.in-Ok.ensures ∙ named ∙ ap Some (built _ command named))
+    completed c.in-Ok.command command _ _ _ c.answer.result bytes (ap only_built c.in-Ok.ensures ∙ named)
     c.number.ensures c.answer.ensures.run reads writes told within
 
 pub returns-in-Err-clause-answers : goal.returns-in-Err-clause-answers

@@ -3,8 +3,8 @@ use Rattle.rg_running.specs.Held.{held}
 use Rattle.rg_running.proofs.Holding.{refreshed_as, refreshed_then}
 use Rattle.rg_running.proofs.running.Running.refresh.Goals as goal
 
-pub returns-in-Ok : goal.returns-in-Ok
-returns-in-Ok g c =
+pub returns-in-Ok-clause-refreshed : goal.returns-in-Ok-clause-refreshed
+returns-in-Ok-clause-refreshed g c =
     let turn = c.self.inside.turn in
     let refresher = c.self.inside.refresher in
     let after = c.refresh-refreshed.new.seat in

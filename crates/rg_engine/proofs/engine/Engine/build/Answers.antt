@@ -1,0 +1,41 @@
+use Rattle.std.proofs.Common.{◌≡◌, sym, ap, ◌∙◌, arith}
+use Rattle.std.specs.Arc.{arc_value}
+use Rattle.rg_defs.specs.Rules.{def_fault}
+use Rattle.rg_zones.specs.Rules.{all_maps_fit}
+use Rattle.rg_facts.specs.Candidates.{frame_of}
+use Rattle.rg_facts.specs.Sound.{sound}
+use Rattle.rg_facts.specs.declared.facts.Facts.{Facts}
+use Rattle.rg_facts.proofs.Soundness.{lawful, zones_of}
+use Rattle.rg_engine.specs.Bounds.{pairs_in, policies_in}
+use Rattle.rg_engine.specs.Parts.{compiled_of, joined}
+use Rattle.rg_engine.proofs.Counting.{more_work, no_work}
+use Rattle.rg_engine.proofs.Parts.{may_compile}
+use Rattle.rg_engine.proofs.engine.Engine.build.Goals as goal
+
+pub returns-in_err-frame-clause-steps : goal.returns-in_err-frame-clause-steps
+returns-in_err-frame-clause-steps g c = more_work 0 (policies_in c.args.facts) 0 (pairs_in c.args.facts) c.args.steps.now c.args.steps.now (omega arith) (omega arith) (no_work c.args.steps.now)
+
+pub build-requires-clause-frame : goal.build-requires-clause-frame
+build-requires-clause-frame g c = c.in_ok-frame.ensures
+
+pub build-requires-clause-may : goal.build-requires-clause-may
+build-requires-clause-may g c = may_compile c.args.facts c.requires
+
+pub build-requires-2-clause-frame : goal.build-requires-2-clause-frame
+build-requires-2-clause-frame g c = c.in_ok-frame.ensures ∙ sym (ap frame_of c.take.ensures.left)
+
+pub build-requires-2-clause-lawful : goal.build-requires-2-clause-lawful
+build-requires-2-clause-lawful g c = ap (λ (f : Facts). def_fault f.def) c.take.ensures.left ∙ lawful c.args.facts c.requires
+
+pub build-requires-2-clause-zones : goal.build-requires-2-clause-zones
+build-requires-2-clause-zones g c = ap (λ (f : Facts). all_maps_fit f.service f.def f.zones.items) c.take.ensures.left ∙ zones_of c.args.facts c.requires
+
+pub invariant_of-result : goal.invariant_of-result
+invariant_of-result g c =
+    let same : joined (arc_value c.in_ok-setup.setup) c.of-versions.result c.take.result ≡ c.args.facts =
+    (λ i. joined ((c.in_ok-setup.ensures.ok ∙ c.in_ok-build.ensures ∙ c.take.ensures.left) i) (c.of-versions.ensures i) (c.take.ensures.taken i)) in
+    (ap sound same ∙ c.requires, c.in_ok-sets.ensures.made ∙ ap compiled_of (sym same))
+
+pub returns-clause-facts : goal.returns-clause-facts
+returns-clause-facts g c =
+    (λ i. joined ((c.in_ok-setup.ensures.ok ∙ c.in_ok-build.ensures ∙ c.take.ensures.left) i) (c.of-versions.ensures i) (c.take.ensures.taken i))
