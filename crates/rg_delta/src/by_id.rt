@@ -8,7 +8,7 @@ use std::collections::BTreeMap;
 
 /// The id of a policy or of a tag row.
 #[derive(Clone, Copy)]
-pub(crate) struct Id(pub(crate) i64);
+pub struct Id(pub i64);
 
 /// The value of the id.
 pub(crate) fn value_at<V: Copy>(values: &BTreeMap<i64, V>, id: Id) -> Option<V>

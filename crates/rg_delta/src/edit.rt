@@ -5,7 +5,7 @@ use rg_tags::TagRow;
 use std::marker::Model;
 
 /// A thing with an id.
-pub(crate) trait Identified {
+pub trait Identified {
     ghost use Rattle.std.specs.Prelude.{◌≡◌, ℤ};
 
     /// Its id.
@@ -34,9 +34,11 @@ impl Identified for TagRow {
 
 /// A thing that was created, updated or deleted. Contracts see the thing itself.
 #[derive(Drop)]
-pub(crate) struct Edit<'a, X> {
-    pub(crate) change_type: u8,
-    pub(crate) item: &'a X,
+pub struct Edit<'a, X> {
+    /// `CREATED`, `UPDATED` or `DELETED`.
+    pub change_type: u8,
+    /// The thing as it is now, or was before it was deleted.
+    pub item: &'a X,
 }
 
 impl<'a, X> Model for Edit<'a, X> {

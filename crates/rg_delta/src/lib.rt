@@ -11,8 +11,11 @@ mod plain;
 mod sides;
 mod touch;
 
+pub use by_id::Id;
+pub use edit::{Edit, Identified};
 pub use log::{DeltaLog, Since};
 pub use plain::apply_plain;
+pub use sides::{policy_edits, row_edits};
 pub use touch::Touch;
 
 #[cfg(test)]

@@ -16,7 +16,7 @@ use std::mem;
 
 /// The changes of the service's own policies, or of its tag service's.
 #[tactic(auto, using(crate::proofs::Sided::edits_next))]
-fn policy_edits<'a>(
+pub fn policy_edits<'a>(
     alloc: Global,
     changes: &'a [PolicyChange],
     tag: bool,
@@ -35,8 +35,12 @@ fn policy_edits<'a>(
     Ok(edits)
 }
 
+/// The changes of tag rows.
 #[tactic(auto, using(crate::proofs::Sided::row_edits_next))]
-fn row_edits<'a>(alloc: Global, changes: &'a [TagChange]) -> Result<Vec<Edit<'a, TagRow>>, NoMemory>
+pub fn row_edits<'a>(
+    alloc: Global,
+    changes: &'a [TagChange],
+) -> Result<Vec<Edit<'a, TagRow>>, NoMemory>
     ensures { IfOk result (λ edits. edits.items ≡ map row_edit changes.now) }
 {
     let mut edits = Vec::new(alloc);

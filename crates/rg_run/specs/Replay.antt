@@ -26,7 +26,7 @@ use Rattle.rg_run.specs.Follow.{Output, Work, worked}
 
 -- how far a script has come: only blank lines, facts that are published, or an administration that is running
 abbrev pub State : Type 0
-State = Stage Facts Running
+State = Stage Running
 
 -- ---- what is printed, each with an LF
 

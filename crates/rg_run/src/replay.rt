@@ -55,11 +55,11 @@ impl<'a, R: Wait> Model for Administered<'a, R> {
 
 /// How far a script has come.
 #[derive(Drop)]
-pub(crate) enum Stage<E, A> {
+pub(crate) enum Stage<A> {
     /// There were only blank lines.
     Empty,
     /// Facts are published.
-    Facts(E),
+    Facts(Published),
     /// An administration is running.
     Config(A),
 }
@@ -68,7 +68,7 @@ pub(crate) enum Stage<E, A> {
 #[derive(Drop)]
 pub(crate) struct Replay<'a, R: Wait> {
     pub rt: &'a R,
-    pub stage: Stage<Published, Administered<'a, R>>,
+    pub stage: Stage<Administered<'a, R>>,
 }
 
 impl<'a, R: Wait> Model for Replay<'a, R> {

@@ -116,7 +116,8 @@ fn each_resource_in(
     Ok(true)
 }
 
-fn same_levels(
+/// Whether each resource of either list is in the other, with the same flags and the same values.
+pub fn same_levels(
     alloc: Global,
     resources: &[PolicyResource],
     others: &[PolicyResource],
