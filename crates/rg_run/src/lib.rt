@@ -11,6 +11,7 @@ mod status;
 mod writing;
 
 pub use command::Command;
+pub use follow::Worker;
 pub use machine::start;
-pub use program::run;
+pub use program::{run, work_script};
 pub use status::Status;

@@ -1,0 +1,3 @@
+pub mod Agreeing
+pub mod Starts
+pub mod Walks

@@ -1,0 +1,6 @@
+pub mod Causes
+pub mod Checking
+pub mod Ends
+pub mod Kinds
+pub mod Meanings
+pub mod Walking

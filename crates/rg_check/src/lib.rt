@@ -1,0 +1,11 @@
+// Every bad line of a script, with its cause in words.
+#![tactic(auto)]
+
+mod checker;
+mod kind;
+mod meanings;
+mod program;
+mod words;
+
+pub use meanings::meaning;
+pub use program::{check, start};
