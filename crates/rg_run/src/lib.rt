@@ -14,5 +14,5 @@ pub use command::Command;
 pub use follow::Worker;
 pub use machine::start;
 pub use program::{run, work_script};
-pub use replay::{Published, Stage};
+pub use replay::Stage;
 pub use status::Status;
