@@ -38,13 +38,13 @@ pub fn meaning(rule: Rule) -> &'static str
         Rule::V3 => "the type is 0, 1 or 2, and the definition has masks for 1 and filters for 2",
         Rule::V4 => "the priority is 0 or 1",
         Rule::V5 =>
-            "there is a level, and the levels are distinct, of the definition, on one path, with the mandatory ones above them, and of the part for masks or filters",
+            "each of at most 16 resource maps names levels of the definition, distinct and on one path, with the mandatory ones above them, and for masks or filters levels of that part",
         Rule::V6 =>
             "each level has a value, each value is a pattern, and isExcludes and isRecursive stand only where the level supports them",
         Rule::V7 => "items and isDenyAllElse fit the type",
         Rule::V8 =>
             "each item has an access type, and each is one of the definition, or of the part for masks or filters",
-        Rule::V9 => "each condition compiles",
+        Rule::V9 => "each condition is supported and has fitting values",
         Rule::V10 => "each item names a user, group or role, and each role exists",
         Rule::V11 => "each mask and each filter is whole",
         Rule::V12 => "each schedule reads and isn't recurring",
@@ -71,7 +71,7 @@ pub fn meaning(rule: Rule) -> &'static str
         Rule::Z8 => "no policy is of the zone",
         Rule::G1 => "the service isn't of definition tag",
         Rule::G2 =>
-            "the levels are distinct, of the definition and on one path, and each has a value that is a pattern without {USER}",
+            "the levels are distinct, of the definition and on one path, each has a value, each value is a pattern without {USER}, and isExcludes and isRecursive stand only where the level supports them",
         Rule::G3 => "there are at most 64 tags, and each type has 1 to 256 characters",
         Rule::G4 => "the id is at least 1 and no row of another service has it",
         Rule::U1 => "the name and each group have 1 to 256 characters",
