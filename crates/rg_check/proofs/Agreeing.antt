@@ -41,15 +41,13 @@ use Rattle.rg_check.specs.Checking.{finding, found, kind_at, place_of}
 use Rattle.rg_check.specs.Kinds.{kind_of, place_after}
 use Rattle.rg_check.specs.Walking.{found_from}
 use Rattle.rg_check.proofs.Starts.{starts}
+use Rattle.rg_check.proofs.Walks.{none_some}
 
 -- an administration that is running has published
 HasPublished : State → Type 0
 HasPublished state.Empty = Unit {0}
 HasPublished (state.Facts facts) = Unit {0}
 HasPublished (state.Config r) = 0 < length r.published
-
-none_some : {X A : Type 0} {x : X} → None ≡ Some x → A
-none_some e = absurd (let no : ⊥ = cc in no)
 
 -- ---- publications
 

@@ -46,10 +46,10 @@ not_over bytes h = grind (arith, nat_tests)
 
 -- ---- one line
 
-some_same : {X : Type 0} (a b : X) → Some a ≡ Some b → a ≡ b
+pub some_same : {X : Type 0} (a b : X) → Some a ≡ Some b → a ≡ b
 some_same a b e = ap (λ o. option_map_or (λ (x : X). x) o a) e
 
-none_some : {X A : Type 0} {x : X} → None ≡ Some x → A
+pub none_some : {X A : Type 0} {x : X} → None ≡ Some x → A
 none_some e = absurd (let no : ⊥ = cc in no)
 
 -- the status of a check in which lines were bad before

@@ -3,4 +3,5 @@ pub mod Checking
 pub mod Ends
 pub mod Kinds
 pub mod Meanings
+pub mod Naming
 pub mod Walking

@@ -3,9 +3,11 @@
 
 mod checker;
 mod kind;
+mod laws;
 mod meanings;
 mod program;
 mod words;
 
+pub use laws::replays_end_at_first;
 pub use meanings::meaning;
 pub use program::{check, start};
