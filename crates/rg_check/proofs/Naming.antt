@@ -4,7 +4,7 @@ use Rattle.std.specs.Option.{option_map_or}
 use Rattle.rg_base.specs.declared.numbers.Moment.{Moment}
 use Rattle.rg_run.specs.Follow.{Decided, Output, Work, bad_line_text, before, ends_bad, worked}
 use Rattle.rg_run.specs.Replay.{State, replay_step}
-use Rattle.rg_check.specs.Checking.{Finding, finding, found, why}
+use Rattle.rg_check.specs.Checking.{Finding, finding, found, reason}
 use Rattle.rg_check.specs.Naming.{EndsAtFirst}
 use Rattle.rg_check.proofs.Walks.{none_some, some_same}
 
@@ -26,8 +26,8 @@ goes_on text decided (Some q) o fs e rest = subst (λ r. EndsAtFirst r fs) (some
 one_line : (s : State) (n : ℕ) (line : List ℕ) (lines : List (List ℕ)) (m : Moment) (ms later : List Moment) (o : Output State) (w : Option (Work State))
     → option_map_or (λ (x : Work State). option_map (before x.text x.decided) (worked replay_step x.state (n + 1) lines ms)) w (ends_bad s n ms) ≡ Some o
     → ((t : State) (q : Output State) → worked replay_step t (n + 1) lines ms ≡ Some q → EndsAtFirst q (found t (n + 1) lines (ms ++ later)))
-    → EndsAtFirst o (option_map_or (λ (x : Work State). found x.state (n + 1) lines (ms ++ later)) w (finding n (why s line m) ∷ found s (n + 1) lines (ms ++ later)))
-one_line s n line lines m ms later o None e rest = ends_here s n ms o (why s line m) (found s (n + 1) lines (ms ++ later)) e
+    → EndsAtFirst o (option_map_or (λ (x : Work State). found x.state (n + 1) lines (ms ++ later)) w (finding n (reason s line m) ∷ found s (n + 1) lines (ms ++ later)))
+one_line s n line lines m ms later o None e rest = ends_here s n ms o (reason s line m) (found s (n + 1) lines (ms ++ later)) e
 one_line s n line lines m ms later o (Some w) e rest =
     goes_on w.text w.decided (worked replay_step w.state (n + 1) lines ms) o (found w.state (n + 1) lines (ms ++ later)) e (rest w.state)
 

@@ -1,5 +1,5 @@
 -- From a check line by line to all that is found.
-use Rattle.std.proofs.Common.{◌≡◌, ◌⊎◌, ◌+◌, ◌-◌, ◌<◌, ◌≤◌, ◌^◌, ◌==◌, ◌∙◌, ◌++◌, ◌∷◌, [], arith, inl, inr, min, ℕ, Bool, true, false, List, length, Option, Some, None, option_map, refl, ap, ap₂, sym, subst, if◌then◌else◌}
+use Rattle.std.proofs.Common.{◌≡◌, ◌⊎◌, ◌+◌, ◌-◌, ◌<◌, ◌≤◌, ◌^◌, ◌==◌, ◌&&◌, ◌∙◌, ◌++◌, ◌∷◌, [], arith, inl, inr, min, ℕ, Bool, true, false, List, length, Option, Some, None, option_map, refl, ap, ap₂, sym, subst, if◌then◌else◌}
 use Rattle.std.specs.Option.{option_map_or}
 use Rattle.std.proofs.Math.Nat.{min-eq_left}
 use Rattle.std.proofs.lemmas.Bool.Decides.{nat_tests}

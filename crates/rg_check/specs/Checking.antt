@@ -34,8 +34,8 @@ place_of (state.Facts facts) = place.Facts
 place_of (state.Config r) = place.Config
 
 -- why a line is bad in this state
-abbrev pub why : State → List ℕ → Moment → List ℕ
-why s bytes now = option_map_or (cause_text (place_of s) (kind_at bytes now)) (cause_of (place_of s) bytes now) []
+abbrev pub reason : State → List ℕ → Moment → List ℕ
+reason s bytes now = option_map_or (cause_text (place_of s) (kind_at bytes now)) (cause_of (place_of s) bytes now) []
 
 -- the bad lines among these, the first of them being line n, which comes in this state: a line is bad exactly where the replay's
 -- step is None, and then the replay goes on as if the line weren't there
@@ -43,7 +43,7 @@ abbrev pub found : State → ℕ → List (List ℕ) → List Moment → List Fi
 found s n [] ms = []
 found s n (line ∷ lines) [] = []
 found s n (line ∷ lines) (m ∷ ms) =
-    option_map_or (λ (w : Work State). found w.state (n + 1) lines ms) (replay_step s line m) (finding n (why s line m) ∷ found s (n + 1) lines ms)
+    option_map_or (λ (w : Work State). found w.state (n + 1) lines ms) (replay_step s line m) (finding n (reason s line m) ∷ found s (n + 1) lines ms)
 
 -- ---- what is printed
 
