@@ -44,7 +44,7 @@ use Rattle.rg_check.proofs.Starts.{starts}
 use Rattle.rg_check.proofs.Walks.{none_some}
 
 -- an administration that is running has published
-HasPublished : State → Type 0
+abbrev HasPublished : State → Type 0
 HasPublished state.Empty = Unit {0}
 HasPublished (state.Facts facts) = Unit {0}
 HasPublished (state.Config r) = 0 < length r.published

@@ -1,7 +1,8 @@
 -- From a check line by line to all that is found.
-use Rattle.std.proofs.Common.{◌≡◌, ◌⊎◌, ◌+◌, ◌-◌, ◌<◌, ◌≤◌, ◌^◌, ◌==◌, ◌&&◌, ◌∙◌, ◌++◌, ◌∷◌, [], arith, inl, inr, min, ℕ, Bool, true, false, List, length, Option, Some, None, option_map, refl, ap, ap₂, sym, subst, if◌then◌else◌}
+use Rattle.std.proofs.Common.{◌≡◌, ◌⊎◌, ◌+◌, ◌-◌, ◌<◌, ◌≤◌, ◌^◌, ◌==◌, ◌&&◌, ◌∙◌, ◌++◌, ◌∷◌, [], arith, inl, inr, min, ℕ, suc, Bool, true, false, List, length, Option, Some, None, option_map, refl, ap, ap₂, sym, subst, if◌then◌else◌}
 use Rattle.std.specs.Option.{option_map_or}
 use Rattle.std.proofs.Math.Nat.{min-eq_left}
+use Rattle.std.proofs.Math.Numerals.{suc-eq-add-one}
 use Rattle.std.proofs.lemmas.Bool.Decides.{nat_tests}
 use Rattle.rg_base.specs.declared.numbers.Moment.{Moment}
 use Rattle.rg_script.specs.declared.cause.Cause.{Cause}
@@ -38,7 +39,8 @@ line_more false false b n lines h = onto_length b n lines h
 
 few_lines : (bytes : List ℕ) → length (lines_of bytes) ≤ length bytes
 few_lines [] = omega arith
-few_lines (b ∷ bs) = line_more (b == 10) (b == 13 && begins_with_feed bs) b (length bs) (lines_of bs) (few_lines bs)
+few_lines (b ∷ bs) =
+    subst (λ n. length (lines_of (b ∷ bs)) ≤ n) (sym (suc-eq-add-one (length bs))) (line_more (b == 10) (b == 13 && begins_with_feed bs) b (length bs) (lines_of bs) (few_lines bs))
 
 not_over : (bytes : List ℕ) → is_too_long bytes ≡ false → length bytes ≤ limit
 unfolding is_too_long
@@ -47,7 +49,7 @@ not_over bytes h = grind (arith, nat_tests)
 -- ---- one line
 
 pub some_same : {X : Type 0} (a b : X) → Some a ≡ Some b → a ≡ b
-some_same a b e = ap (λ o. option_map_or (λ (x : X). x) o a) e
+some_same {X} a b e = ap (λ o. option_map_or (λ (x : X). x) o a) e
 
 pub none_some : {X A : Type 0} {x : X} → None ≡ Some x → A
 none_some e = absurd (let no : ⊥ = cc in no)
@@ -114,7 +116,7 @@ module _ (line : List ℕ) (lines : List (List ℕ)) (m : Moment) (ms : List Mom
     where
       whole_of : WalkedOn line lines m ms c few (found_with line lines m ms c few (cause_of c.place line m)) (before (line_work c (cause_of c.place line m) (kind_at line m)).text [] r)
           → Walked (line ∷ lines) (m ∷ ms) c (before (line_work c (cause_of c.place line m) (kind_at line m)).text [] r)
-      whole_of w = record { even = ap (λ n. n + 1) w.even; done = w.done; text = w.text; status = w.status }
+      whole_of w = record { even = ap suc w.even; done = w.done; text = w.text; status = w.status }
 
 later_few : (c : Checker) (cause : Option Cause) (kind : Option LineKind) (k : ℕ) → c.number + (k + 1) < 2 ^ 64
     → (line_work c cause kind).state.number + k < 2 ^ 64
@@ -181,7 +183,7 @@ module _ (by_place : (lines : List (List ℕ)) (moments : List Moment) → found
       }
 
   module _ (p q : Ports) (c : Checker) where
-    Ended : Status → Bool → Type 0
+    abbrev Ended : Status → Bool → Type 0
     Ended status found = IsRun (Stands (List Finding) checked) p q (ended_by status found)
 
     not_bad : (status : Status) → status ≡ Done → status ≡ BadLine → ⊥

@@ -19,10 +19,18 @@ use Rattle.rg_check.specs.Kinds.{place_after}
 abbrev pub next_number : ℕ → ℕ
 next_number n = min (n + 1) (2 ^ 64 - 1)
 
--- the work of a line with this cause
+-- what is printed for a line with this cause
+abbrev pub told : Checker → Option Cause → Option LineKind → List ℕ
+told c None kind = []
+told c (Some cause) kind = finding_line c.number (cause_text c.place kind cause)
+
+-- the checker after such a line
+abbrev pub moved : Checker → Option Cause → Option LineKind → Checker
+moved c None kind = record { place = place_after c.place kind; number = next_number c.number; found = c.found }
+moved c (Some cause) kind = record { place = c.place; number = next_number c.number; found = true }
+
 abbrev pub line_work : Checker → Option Cause → Option LineKind → Work Checker
-line_work c None kind = record { text = []; state = record { place = place_after c.place kind; number = next_number c.number; found = c.found }; decided = [] }
-line_work c (Some cause) kind = record { text = finding_line c.number (cause_text c.place kind cause); state = record { place = c.place; number = next_number c.number; found = true }; decided = [] }
+line_work c cause kind = record { text = told c cause kind; state = moved c cause kind; decided = [] }
 
 -- no line ends a check
 abbrev pub check_step : Checker → List ℕ → Moment → Option (Work Checker)
