@@ -18,7 +18,7 @@ use Rattle.rg_admin.specs.Starting.{bare_state, last_rules, put_all, put_fault, 
 use Rattle.rg_admin.proofs.Putting.{bare_starts, is_start, put_starts, same_rules}
 
 -- each of the commands puts a row
-ArePuts : List AdminCommand → Type 0
+abbrev ArePuts : List AdminCommand → Type 0
 ArePuts [] = Unit {0}
 ArePuts (c ∷ cs) = (is_put c ≡ true) × ArePuts cs
 
