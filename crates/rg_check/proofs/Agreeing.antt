@@ -1,5 +1,5 @@
 -- A line is bad where it stands exactly where the replay's step is None; so what is found goes by places alone.
-use Rattle.std.proofs.Common.{◌≡◌, ◌+◌, ◌-◌, ◌<◌, ◌∙◌, ◌++◌, ◌∷◌, [], arith, ℕ, suc, zero, Bool, true, false, List, length, slice_get, Option, Some, None, option_map, is_none, Result, Ok, Err, refl, ap, sym, subst, length-append, if◌then◌else◌}
+use Rattle.std.proofs.Common.{◌≡◌, ◌+◌, ◌-◌, ◌<◌, ◌∙◌, ◌∷◌, [], arith, ℕ, suc, zero, Bool, true, false, List, length, slice_get, Option, Some, None, option_map, is_none, Result, Ok, Err, refl, ap, sym, subst, length-append, if◌then◌else◌}
 use Rattle.std.specs.Option.{option_map_or}
 use Rattle.std.specs.Result.{result_ok}
 use Rattle.rg_base.specs.Texts.{all_distinct}

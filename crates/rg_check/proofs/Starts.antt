@@ -1,5 +1,5 @@
 -- A configuration that breaks no rule starts an administration.
-use Rattle.std.proofs.Common.{◌≡◌, ◌∙◌, ℕ, Bool, true, List, [], ◌∷◌, ◌++◌, map, Option, Some, None, is_none, refl}
+use Rattle.std.proofs.Common.{◌≡◌, ◌∙◌, ℕ, true, List, [], ◌∷◌, ◌++◌, map, Option, Some, None, is_none, refl}
 use Rattle.std.specs.Option.{option_or}
 use Rattle.rg_base.specs.Texts.{all_distinct}
 use Rattle.rg_defs.specs.declared.service_def.ServiceDef.{ServiceDef}
@@ -8,7 +8,6 @@ use Rattle.rg_zones.specs.declared.row.ZoneRow.{ZoneRow}
 use Rattle.rg_cmd.specs.declared.ask.AdminCommand.{AdminCommand}
 use Rattle.rg_cmd.specs.declared.ask.AdminCommand.TheVariants.{CreateService, PutDef, PutUser}
 use Rattle.rg_cmd.specs.declared.config.Config.{Config}
-use Rattle.rg_cmd.specs.declared.rule.Rule.{Rule}
 use Rattle.rg_cmd.specs.declared.state.State.{State}
 use Rattle.rg_validate.specs.Failing.{first_failing}
 use Rattle.rg_machine.specs.Changes.{after_command}

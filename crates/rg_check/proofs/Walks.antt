@@ -1,18 +1,17 @@
 -- From a check line by line to all that is found.
-use Rattle.std.proofs.Common.{◌≡◌, ◌⊎◌, ◌+◌, ◌-◌, ◌<◌, ◌≤◌, ◌^◌, ◌==◌, ◌&&◌, ◌∙◌, ◌++◌, ◌∷◌, [], arith, inl, inr, min, ℕ, suc, Bool, true, false, List, length, Option, Some, None, option_map, refl, ap, ap₂, sym, subst, if◌then◌else◌}
+use Rattle.std.proofs.Common.{◌≡◌, ◌⊎◌, ◌+◌, ◌<◌, ◌≤◌, ◌^◌, ◌==◌, ◌&&◌, ◌∙◌, ◌++◌, ◌∷◌, [], arith, inl, inr, ℕ, suc, Bool, true, false, List, length, Option, Some, None, option_map, refl, ap, sym, subst, if◌then◌else◌}
 use Rattle.std.specs.Option.{option_map_or}
 use Rattle.std.proofs.Math.Nat.{min-eq_left}
 use Rattle.std.proofs.Math.Numerals.{suc-eq-add-one}
 use Rattle.std.proofs.lemmas.Bool.Decides.{nat_tests}
 use Rattle.rg_base.specs.declared.numbers.Moment.{Moment}
 use Rattle.rg_script.specs.declared.cause.Cause.{Cause}
-use Rattle.rg_script.specs.declared.cause.Place.{Place}
 use Rattle.rg_script.specs.Causes.{cause_of}
 use Rattle.rg_script.specs.Lines.{begins_with_feed, lines_of, onto}
 use Rattle.rg_run.specs.declared.replay.Stage.TheVariants.{Empty}
 use Rattle.rg_run.specs.declared.status.Status.{Status}
 use Rattle.rg_run.specs.declared.status.Status.TheVariants.{Done, Usage, BadLine, ReadFault, WriteFault, NetFault, TooLong, NoMemory}
-use Rattle.rg_run.specs.Follow.{Comes, Decided, Output, Script, Work, before, worked}
+use Rattle.rg_run.specs.Follow.{Output, Script, before, worked}
 use Rattle.rg_run.specs.Limits.{is_too_long, limit}
 use Rattle.rg_run.specs.Ports.{Ports}
 use Rattle.rg_run.specs.Runs.{EndsIn, Follows, IsRun, OfStatus, Stands}

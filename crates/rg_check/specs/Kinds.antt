@@ -1,5 +1,5 @@
 -- What a line is, and where the lines after it stand.
-use Rattle.std.specs.Prelude.{ℕ, List, codes, Option, Some, None}
+use Rattle.std.specs.Prelude.{ℕ, List, codes, Option, Some}
 use Rattle.rg_script.specs.declared.cause.Place.{Place}
 use Rattle.rg_script.specs.declared.cause.Place.TheVariants as place
 use Rattle.rg_script.specs.declared.line.Line.{Line}

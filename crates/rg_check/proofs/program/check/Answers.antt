@@ -1,5 +1,4 @@
 use Rattle.rg_run.specs.declared.replay.Stage.TheVariants.{Empty}
-use Rattle.rg_check.specs.Walking.{ended_by}
 use Rattle.rg_check.proofs.Agreeing.{all_lines}
 use Rattle.rg_check.proofs.Walks.{answered}
 use Rattle.rg_check.proofs.program.check.Goals as goal
