@@ -101,7 +101,9 @@ fn answer<R: Wait, S: Source, K: Sink, C: Clock>(
                 rt,
                 stage: Stage::Empty,
             };
-            work_script(alloc, &mut replay, source, sink, clock)
+            let status = work_script(alloc, &mut replay, source, sink, clock);
+            drop(replay);
+            status
         }
         Some(
             Command::Drill {

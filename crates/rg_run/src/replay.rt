@@ -21,6 +21,7 @@ use rg_sound::facts_fault;
 use rg_wire::print_decision;
 use std::alloc::Global;
 use std::marker::Model;
+use std::mem;
 use std::sync::{Arc, Wait};
 
 /// The engine over the facts of a script. Contracts see the facts.
@@ -177,13 +178,13 @@ fn administer<'a, R: Wait>(
 fn ask_and_print<R: Wait>(
     rt: &R,
     alloc: Global,
-    running: &mut Running<&R>,
+    administered: &mut Administered<R>,
     ask: Ask,
     text: &mut String,
 ) -> Result<(), NoMemory>
-    ensures { OnOk result (IsWorked (admin_work (Stage.Config running.old) ask) (Stage.Config running.new) (string_bytes text.old) (string_bytes text.new)) }
+    ensures { OnOk result (IsWorked (admin_work (Stage.Config administered.old) ask) (Stage.Config administered.new) (string_bytes text.old) (string_bytes text.new)) }
 {
-    let reply = running.ask(rt, alloc, ask)?;
+    let reply = administered.running.ask(rt, alloc, ask)?;
     add_reply(alloc, text, reply)
 }
 
@@ -191,12 +192,14 @@ fn ask_and_print<R: Wait>(
 fn refresh_and_print<R: Wait>(
     rt: &R,
     alloc: Global,
-    running: &mut Running<&R>,
+    administered: &mut Administered<R>,
     text: &mut String,
 ) -> Result<(), NoMemory>
-    ensures { OnOk result (IsWorked (refresh_work (Stage.Config running.old)) (Stage.Config running.new) (string_bytes text.old) (string_bytes text.new)) }
+    ensures { OnOk result (IsWorked (refresh_work (Stage.Config administered.old)) (Stage.Config administered.new) (string_bytes text.old) (string_bytes text.new)) }
 {
-    let published = running.refresh(rt, alloc, &mut Steps::silent())?;
+    let published = administered
+        .running
+        .refresh(rt, alloc, &mut Steps::silent())?;
     add_refresh(text, published)
 }
 
@@ -221,7 +224,7 @@ impl<'a, R: Wait> Replay<'a, R> {
         match publish(alloc, facts) {
             Ok(None) => Err(LineFault::Bad),
             Ok(Some(published)) => {
-                self.stage = Stage::Facts(published);
+                drop(mem::replace(&mut self.stage, Stage::Facts(published)));
                 Ok(())
             }
             Err(_) => Err(LineFault::NoMemory),
@@ -240,8 +243,8 @@ impl<'a, R: Wait> Replay<'a, R> {
         }
         match administer(self.rt, alloc, config) {
             Ok(None) => Err(LineFault::Bad),
-            Ok(Some(running)) => {
-                self.stage = Stage::Config(running);
+            Ok(Some(administered)) => {
+                drop(mem::replace(&mut self.stage, Stage::Config(administered)));
                 Ok(())
             }
             Err(_) => Err(LineFault::NoMemory),
@@ -256,7 +259,13 @@ impl<'a, R: Wait> Replay<'a, R> {
         ensures unwritten { result ≡ Err LineFault.Bad → string_bytes text.new ≡ string_bytes text.old }
     {
         match &mut self.stage {
-            Stage::Config(a) => match ask_and_print(self.rt, alloc, &mut a.running, ask, text) {
+            Stage::Config(administered) => match ask_and_print(
+                self.rt,
+                alloc,
+                administered,
+                ask,
+                text,
+            ) {
                 Ok(()) => Ok(()),
                 Err(_) => Err(LineFault::NoMemory),
             },
@@ -272,7 +281,12 @@ impl<'a, R: Wait> Replay<'a, R> {
         ensures unwritten { result ≡ Err LineFault.Bad → string_bytes text.new ≡ string_bytes text.old }
     {
         match &mut self.stage {
-            Stage::Config(a) => match refresh_and_print(self.rt, alloc, &mut a.running, text) {
+            Stage::Config(administered) => match refresh_and_print(
+                self.rt,
+                alloc,
+                administered,
+                text,
+            ) {
                 Ok(()) => Ok(()),
                 Err(_) => Err(LineFault::NoMemory),
             },
