@@ -1,4 +1,0 @@
-pub mod Agreeing
-pub mod Naming
-pub mod Starts
-pub mod Walks
