@@ -1,15 +1,15 @@
 // The lines of a script of grants, read.
-ghost use Rattle.std.specs.Prelude.{◌≡◌, Err, None, Some, IfOk, option_and_then, option_map};
+ghost use Rattle.std.specs.Prelude.{◌≡◌, Err, None, Some, IfOk, option_and_then};
 ghost use Rattle.rg_script.specs.Line.{actor_of, line_of};
 ghost use Rattle.rg_script.specs.Words.{behind_space, front_word};
 ghost use Rattle.rg_granting.specs.Lines.{Reads, asked, change_of, grant_line_of, plain_line, row_read};
 
-use rg_base::{Moment, NoMemory, Text, is_name};
+use rg_base::{Moment, Text};
 use rg_cmd::Config;
 use rg_grant::{GrantAsk, GrantRow, read_grant};
 use rg_json::WireFault;
 use rg_policy::AccessRequest;
-use rg_script::{Line, LineFault, read_line};
+use rg_script::{Line, LineFault, actor_of, read_line, split_word};
 use std::alloc::Global;
 
 /// A line of a script of grants.
@@ -44,35 +44,6 @@ fn change_of(word: &[u8]) -> Option<Change>
         return Some(Change::Revoke);
     }
     None
-}
-
-/// What stands before the first space of a line, and what follows that space, where there is one.
-#[tactic(auto, unfolding(rg_script::specs::Words::front_word, rg_script::specs::Words::behind_space))]
-fn split_word(line: &[u8]) -> (&[u8], Option<&[u8]>)
-    ensures word { result.0.now ≡ front_word line.now }
-    ensures rest { option_map (λ rest. rest.now) result.1 ≡ behind_space line.now }
-{
-    match line.iter().position(|byte| *byte == b' ') {
-        Some(n) => (&line[..n], Some(&line[n + 1..])),
-        None => (line, None),
-    }
-}
-
-/// The text, where it is 1 to 256 characters of UTF-8.
-#[tactic(auto, unfolding(rg_script::specs::Line::actor_of))]
-fn actor_of(alloc: Global, text: &[u8]) -> Result<Option<Text>, NoMemory>
-    ensures { IfOk result (λ actor. actor ≡ actor_of text.now) }
-{
-    let Ok(actor) = str::from_utf8(text) else {
-        return Ok(None);
-    };
-    if !is_name(actor) {
-        return Ok(None);
-    }
-    match Text::copy_of(alloc, actor) {
-        Ok(actor) => Ok(Some(actor)),
-        Err(NoMemory) => Err(NoMemory),
-    }
 }
 
 /// What the actor asks of the row.
