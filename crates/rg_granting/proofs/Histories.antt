@@ -1,11 +1,14 @@
 -- What a start and an ask make of a history, and that what is seen is sound.
-use Rattle.std.proofs.Common.{arith, ◌≡◌, ◌∙◌, ◌≤◌, ◌<◌, ◌^◌, ◌++◌, ℕ, true, List, [], ◌∷◌, length, Some, Result, Ok, Err, IfOk, OnErr, ap, refl, subst, sym}
+use Rattle.std.proofs.Common.{arith, ◌≡◌, ◌∙◌, ◌≤◌, ◌<◌, ◌^◌, ◌++◌, ℕ, true, List, [], ◌∷◌, length, Some, option_map, Result, Ok, Err, IfOk, OnErr, ap, refl, subst, sym}
 use Rattle.std.proofs.lemmas.List.{take_all}
 use Rattle.rg_base.specs.declared.numbers.NoMemory.{NoMemory}
+use Rattle.rg_policy.specs.declared.request.AccessRequest.{AccessRequest}
 use Rattle.rg_turn.specs.History.{state_after, state_at}
 use Rattle.rg_turn.specs.declared.rule.Entry.{Entry}
 use Rattle.rg_turn.proofs.Histories.{state_after_snoc}
 use Rattle.rg_facts.specs.Sound.{sound}
+use Rattle.rg_facts.specs.Texts.{decide}
+use Rattle.rg_facts.specs.declared.decision.Decision.{Decision}
 use Rattle.rg_facts.specs.declared.facts.Facts.{Facts}
 use Rattle.rg_cmd.specs.declared.ask.AdminReply.{AdminReply}
 use Rattle.rg_cmd.specs.declared.ask.Ask.{Ask}
@@ -17,6 +20,7 @@ use Rattle.rg_machine.proofs.Lawful.{count_after}
 use Rattle.rg_grant.specs.Planning.{planned}
 use Rattle.rg_grant.specs.Steps.{granted}
 use Rattle.rg_grant.specs.declared.ask.GrantAsk.{GrantAsk}
+use Rattle.rg_granting.specs.Granting.{decision_now}
 use Rattle.rg_granting.specs.Held.{IsLed}
 
 pub led_start : (a : Administration) → IsStart a → IsLed a
@@ -53,3 +57,9 @@ led_sound law a l few service facts seen =
     let ends : state_at step l.start l.history (length l.history) ≡ a = ap (state_after step l.start) (take_all (length l.history) l.history (omega arith)) ∙ l.now in
     law l.start l.history l.starts (length l.history) (omega arith) (omega (arith, none, count, here, few)) service facts
     (subst (λ (b : Administration). view b service ≡ Some facts) (sym ends) seen)
+
+-- a decision by an engine over what is seen
+pub decided_now : (a : Administration) (q : AccessRequest) (facts engine : Facts) (d : Decision) → view a a.state.plugin ≡ Some facts → engine ≡ facts
+    → d ≡ decide engine q (record { 0 = 0 }) → decision_now a q ≡ Some d
+decided_now a q facts engine d seen made is =
+    ap (option_map (λ (f : Facts). decide f q (record { 0 = 0 }))) seen ∙ ap Some (sym (is ∙ ap (λ (f : Facts). decide f q (record { 0 = 0 })) made))
