@@ -15,6 +15,7 @@ use rg_policy::AccessRequest;
 use rg_script::LineFault;
 use std::alloc::Global;
 use std::marker::Model;
+use std::mem;
 
 /// A script of grants that is worked. Contracts see its administration, None before the configuration.
 #[derive(Drop)]
@@ -64,7 +65,7 @@ impl Grants {
         match Granting::start(alloc, config) {
             Ok(None) => Err(LineFault::Bad),
             Ok(Some(granting)) => {
-                self.granting = Some(granting);
+                drop(mem::replace(&mut self.granting, Some(granting)));
                 Ok(())
             }
             Err(_) => Err(LineFault::NoMemory),

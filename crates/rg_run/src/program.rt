@@ -115,7 +115,9 @@ fn answer<R: Wait, S: Source, K: Sink, C: Clock>(
         ) => drill(rt, alloc, *seed, *policies, *requests, sink),
         Some(Command::Grants) => {
             let mut grants = Grants { granting: None };
-            work_script(alloc, &mut grants, source, sink, clock)
+            let status = work_script(alloc, &mut grants, source, sink, clock);
+            drop(grants);
+            status
         }
         // `serve` isn't built yet.
         _ => match write_all(
