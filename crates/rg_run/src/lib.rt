@@ -4,9 +4,12 @@
 mod command;
 mod follow;
 mod machine;
+mod preparing;
 mod program;
 mod reading;
 mod replay;
+mod script;
+mod serving;
 mod status;
 mod writing;
 

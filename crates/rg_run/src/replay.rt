@@ -103,7 +103,7 @@ fn spelled(alloc: Global, reply: AdminReply) -> Result<Text, NoMemory>
 
 /// Adds the line of a reply.
 #[tactic(auto, unfolding(crate::specs::Replay::reply_line))]
-fn add_reply(alloc: Global, text: &mut String, reply: AdminReply) -> Result<(), NoMemory>
+pub(crate) fn add_reply(alloc: Global, text: &mut String, reply: AdminReply) -> Result<(), NoMemory>
     ensures { OnOk result (string_bytes text.new ≡ string_bytes text.old ++ reply_line reply) }
 {
     let printed = spelled(alloc, reply)?;

@@ -59,8 +59,8 @@ impl<R: Wait + Drop> Opened<R> {
         }
     }
 
-    /// The administration, with its plugin's view as publication 1.
-    fn over(rt: R, alloc: Global, admin: Admin, workers: u32) -> Result<Opened<R>, NoMemory>
+    /// The administration, with its plugin's view as publication 1, for 1 to 64 workers. Where memory is refused all is let go.
+    pub fn over(rt: R, alloc: Global, admin: Admin, workers: u32) -> Result<Opened<R>, NoMemory>
         requires start { IsStart admin }
         requires workers { (1 ≤ workers) × (workers ≤ 64) }
         ensures opened { IfOk result (λ o. opened workers admin ≡ Some o) }
