@@ -1,5 +1,5 @@
 -- From the parts of a run of `serve` to the whole.
-use Rattle.std.proofs.Common.{◌≡◌, ◌∙◌, ◌⊎◌, ◌<◌, ◌+◌, ◌++◌, ℕ, zero, suc, true, false, List, [], ◌∷◌, length, take, Option, Some, None, append_assoc, append-nil, arith, inl, inr, refl, ap, sym, subst}
+use Rattle.std.proofs.Common.{◌≡◌, ◌∙◌, ◌⊎◌, ◌<◌, ◌+◌, ◌++◌, ℕ, zero, suc, true, false, List, [], ◌∷◌, length, take, Option, Some, None, append_assoc, append-nil, zero-add, arith, inl, inr, refl, ap, sym, subst}
 use Rattle.rg_base.specs.declared.numbers.Moment.{Moment}
 use Rattle.rg_serve.specs.Opened.{Opened}
 use Rattle.rg_run.specs.declared.status.Status.{Status}
@@ -20,13 +20,14 @@ wrote_both : (old mid new : Option (List ℕ)) (a b : List ℕ) → Wrote old mi
 wrote_both None mid new a b first second = let t = rw first at second in t
 wrote_both (Some held) mid new a b first second = let t = rw first at second in t ∙ ap Some (append_assoc held a b)
 
-take_past : (a b : List ℕ) (n : ℕ) → take (length a + n) (a ++ b) ≡ a ++ take n b
-take_past [] b n = refl
-take_past (x ∷ a) b n = ap (λ l. x ∷ l) (take_past a b n)
+take_past : (a b : List ℕ) (n k : ℕ) → n ≡ length a + k → take n (a ++ b) ≡ a ++ take k b
+take_past [] b n k e = ap (λ m. take m b) (e ∙ zero-add k)
+take_past (x ∷ a) b zero k e = absurd (omega (arith, e))
+take_past (x ∷ a) b (suc n) k e = ap (λ l. x ∷ l) (take_past a b n k (omega (arith, e)))
 
 wrote_part : (old mid new : Option (List ℕ)) (a b : List ℕ) → Wrote old mid a → WrotePrefix mid new b → WrotePrefix old new (a ++ b)
 wrote_part old mid new a b first (n, second) =
-    (length a + n, subst (Wrote old new) (sym (take_past a b n)) (wrote_both old mid new a (take n b) first second))
+    (length a + n, subst (Wrote old new) (sym (take_past a b (length a + n) n refl)) (wrote_both old mid new a (take n b) first second))
 
 -- ---- the statuses
 

@@ -99,7 +99,7 @@ module _ (workers : ℕ) (admin : Administration) (asks : List Ask) (o mid later
   begins : (f : Facts) × (view admin admin.state.plugin ≡ Some f) × (record { start = admin; history = []; calls = 0; published = publication 1 0 f ∷ []; workers = workers } ≡ o)
   begins = mapped (λ f. record { start = admin; history = []; calls = 0; published = publication 1 0 f ∷ []; workers = workers }) (view admin admin.state.plugin) o opens
 
-  first : Facts
+  abbrev first : Facts
   first = begins.0
 
   starts : mid.start ≡ admin
@@ -199,9 +199,17 @@ quiet s n (line ∷ lines) (m ∷ ms) o e done =
 
 -- the lines were worked, and came to this
 module _ (workers : ℕ) (bytes : List ℕ) (clock clock' : Option (List Moment)) where
+  abbrev pub Worked_from : Asking → List ℕ → Status → Asking → Type 0
+  Worked_from s text status state =
+      (decided : List Decided) × Comes Asking (worked serve_step s 1) bytes clock clock' [] (record { text = text; status = status; state = state; decided = decided })
+
   abbrev pub Worked_to : List ℕ → Status → Asking → Type 0
-  Worked_to text status state =
-      (decided : List Decided) × Comes Asking (worked serve_step None 1) bytes clock clock' [] (record { text = text; status = status; state = state; decided = decided })
+  Worked_to = Worked_from None
+
+  -- a script begins before its configuration
+  pub from_none : (s state end : Asking) (text : List ℕ) (status : Status) → s ≡ None → end ≡ state → Worked_from s text status end → Worked_to text status state
+  from_none s state end text status begins ends came =
+      subst (λ (t : Asking). Worked_from t text status state) begins (subst (λ (t : Asking). Worked_from s text status t) ends came)
 
   concluded : (o : Output Asking) → Comes Asking (worked serve_step None 1) bytes clock clock' [] o → Comes Asking taken bytes clock clock' [] (unless_begun (length (lines_of bytes) + 1) o)
   concluded o comes = record {

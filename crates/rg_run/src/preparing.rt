@@ -119,7 +119,8 @@ impl Worker for Preparing {
 /// How many lines there are.
 fn count_lines(bytes: &[u8]) -> u64
     requires { length bytes.now < 2 ^ 32 }
-    ensures { result ≡ length (lines_of bytes.now) }
+    ensures value { result ≡ length (lines_of bytes.now) }
+    ensures few { result ≤ length bytes.now }
 {
     let mut rest = bytes;
     let mut count: u64 = 0;
@@ -201,9 +202,12 @@ pub(crate) fn prepare<'a, R: Wait, C: Clock>(
     let mut preparing = Preparing::new(alloc);
     let worked = follow(alloc, &mut preparing, bytes, clock)?;
     let Preparing { admin, asks } = preparing;
-    let Some(admin) = admin else {
-        let text = unless_bad(worked, bytes)?;
-        return Ok(Prepared { text, opened: None });
+    let admin = match admin {
+        Some(admin) => admin,
+        None => {
+            let text = unless_bad(worked, bytes)?;
+            return Ok(Prepared { text, opened: None });
+        }
     };
     let (opened, mut text) = ready(rt, alloc, admin, asks, workers)?;
     text.push_str(worked.text.as_str())?;
