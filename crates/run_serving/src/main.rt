@@ -1,5 +1,5 @@
 // Serves links in memory by threads. The first line of the input is the configuration of an administration; each other line that
-// isn't blank and begins with no `#` is a service that starts with it.
+// isn't blank and begins with no `#` is a run of `serve` that starts with it.
 #![tactic(auto)]
 
 mod links;

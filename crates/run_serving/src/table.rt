@@ -1,4 +1,4 @@
-// The table's rows: `name|workers|most|failing|meeting|command|bytes|bytes ..`. Of the bytes `~` is CR LF. A link whose bytes begin
+// The table's rows: `name|workers|most|failing|meeting|line|bytes|bytes ..`. Of the bytes `~` is CR LF. A link whose bytes begin
 // with `!` fails at its second read.
 ghost use Rattle.std.specs.Prelude.{◌≤◌, IfSome};
 
@@ -69,7 +69,7 @@ fn number_of(text: Option<&str>) -> u64 {
     text.unwrap_or("").parse::<u64>().unwrap_or(0)
 }
 
-/// Serves the row's links, and tells the totals and what each link took.
+/// Serves the row's links, and tells how the run ended and what each link took.
 pub(crate) fn told_of<R: Threads + Wait + Sync>(
     rt: &R,
     alloc: Global,
@@ -84,10 +84,10 @@ pub(crate) fn told_of<R: Threads + Wait + Sync>(
     let case = Case {
         config,
         workers,
-        most: number_of(fields.next()),
+        most: fields.next().unwrap_or(""),
         failing: number_of(fields.next()),
         meeting: number_of(fields.next()) as u32,
-        command: fields.next().unwrap_or(""),
+        line: fields.next().unwrap_or(""),
     };
     let mut links = Vec::new(alloc);
     let mut all_taken = Vec::new(alloc);
@@ -96,9 +96,9 @@ pub(crate) fn told_of<R: Threads + Wait + Sync>(
         links.push(link_of(alloc, text, Arc::try_clone(&taken)?)?)?;
         all_taken.push(taken)?;
     }
-    let totals = served(rt, alloc, &case, links)?;
+    let printed = served(rt, alloc, &case, links)?;
     let mut told = String::new(alloc);
-    write!(told, "{name}|{}", totals.as_str())?;
+    write!(told, "{name}|{}", printed.as_str())?;
     for taken in &all_taken {
         tell_bytes(&mut told, taken)?;
     }
