@@ -9,7 +9,7 @@ use Rattle.rg_run.specs.Commands.{only_built}
 use Rattle.rg_run.specs.Follow.{Comes, Decided, Output, Script}
 use Rattle.rg_run.specs.Limits.{is_too_long}
 use Rattle.rg_run.specs.Ports.{Ports}
-use Rattle.rg_run.specs.Runs.{Answers, CountsReads, CountsWrites, Follows, IsEndOf, IsRun, IsUnread, OfStatus, Overran, ServesLinks, Stands}
+use Rattle.rg_run.specs.Runs.{Answers, CountsReads, CountsWrites, Follows, IsEndOf, IsRun, OfStatus, Overran, ServesLinks, Stands}
 use Rattle.rg_run.specs.Replay.{replayed}
 use Rattle.rg_run.specs.Serve.{Door}
 use Rattle.rg_run.specs.Statuses.{number_of}
@@ -45,17 +45,6 @@ stood script p q output TooLong f w e (inl other) = cc
 stood script p q output TooLong f w e (inr other) = cc
 stood script p q output NoMemory f w e (inl other) = cc
 stood script p q output NoMemory f w e (inr other) = cc
-
--- a script that wasn't read
-pub unread_stands : {S : Type 0} (script : Script S) (p q : Ports) (status : Status) → IsRun IsUnread p q status → IsRun (Stands S script) p q status
-unread_stands script p q ReadFault r = record { stands = r.stands; reads = r.reads; writes = r.writes }
-unread_stands script p q TooLong r = record { stands = r.stands; reads = r.reads; writes = r.writes }
-unread_stands script p q WriteFault r = record { stands = inl r.stands; reads = r.reads; writes = r.writes }
-unread_stands script p q NoMemory r = record { stands = (r.stands.0, inl r.stands.1); reads = r.reads; writes = r.writes }
-unread_stands script p q Done r = absurd r.stands
-unread_stands script p q Usage r = absurd r.stands
-unread_stands script p q BadLine r = absurd r.stands
-unread_stands script p q NetFault r = absurd r.stands
 
 -- a call that answered Ok didn't fail
 module _ {A E : Type 0} where

@@ -21,7 +21,7 @@ fn plain_workers(alloc: Global) -> Result<Vec<WorkerHooks>, AllocError>
     ensures { IfOk result (λ hooks. length hooks.items ≡ 64) }
 {
     let mut workers = Vec::new(alloc);
-    for _ in 0..WORKERS {
+    for made in 0..WORKERS {
         workers.push(WorkerHooks {
             sinks: AuditFan::new(Vec::new(alloc)),
             enrichers: Enrichers::new(Vec::new(alloc)),

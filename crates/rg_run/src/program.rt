@@ -10,8 +10,8 @@ ghost use Rattle.rg_run.specs.Serve.{door};
 
 use crate::command::{Command, command_of};
 use crate::follow::{Worker, follow};
+use crate::reading::{Stop, read_all};
 use crate::replay::{Replay, Stage};
-use crate::script::read_script;
 use crate::serving::serve_script;
 use crate::status::Status;
 use crate::writing::write_all;
@@ -36,9 +36,16 @@ fn work_script<W: Worker, S: Source, K: Sink, C: Clock>(
         (ports (S.left source.new) (S.ended source.new) (S.faults source.new) (C.given clock.new) (K.held sink.new) (K.faults sink.new)) result }
     ensures clock_stays { (result ≡ Status.ReadFault) ⊎ (result ≡ Status.TooLong) → clock.new ≡ clock.old }
 {
-    let bytes = match read_script(alloc, source, sink) {
+    let bytes = match read_all(alloc, source) {
         Ok(bytes) => bytes,
-        Err(status) => return status,
+        Err(Stop::Fault) => return Status::ReadFault,
+        Err(Stop::NoMemory) => return Status::NoMemory,
+        Err(Stop::TooLong) => {
+            return match write_all(sink, b"too long\n") {
+                Ok(()) => Status::TooLong,
+                Err(_) => Status::WriteFault,
+            };
+        }
     };
     match follow(alloc, worker, bytes.as_slice(), clock) {
         Ok(worked) => match write_all(sink, worked.text.as_bytes()) {

@@ -51,7 +51,7 @@ fn hooks_of(alloc: Global, workers: u32) -> Result<Vec<WorkerHooks>, AllocError>
     ensures { IfOk result (λ hooks. length hooks.items ≡ workers) }
 {
     let mut all = Vec::new(alloc);
-    for _ in 0..workers {
+    for made in 0..workers {
         all.push(WorkerHooks {
             sinks: AuditFan::new(Vec::new(alloc)),
             enrichers: Enrichers::new(Vec::new(alloc)),
