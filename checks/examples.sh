@@ -1,17 +1,24 @@
 #!/usr/bin/env bash
-# Replays each script of examples/ and compares what is printed with the file beside it, byte for byte.
+# Replays each script of examples/ and compares what is printed with the file beside it, byte for byte. Each script is the one that
+# tools/script.py makes of the source beside it; where there is no Python this isn't looked at.
 # usage: checks/examples.sh [PROGRAM]      (the built rangerd where not given)
 # What is wanted was worked out from the rules by checks/admin_model.py, and not taken from the program.
 set -u
 cd "$(dirname "$0")/.." || exit 1
 program=${1:-crates/rangerd/out/rangerd}
 passed=0 failed=0
+told() {
+  echo "$1"
+  failed=$((failed + 1))
+}
 for script in examples/*.script; do
-  if "$program" replay < "$script" | cmp - "${script%.script}.out"; then
+  source=${script%.script}.source
+  if command -v python3 > /dev/null && ! tools/script.py pack < "$source" | cmp - "$script"; then
+    told "$script: not what tools/script.py makes of $source"
+  elif "$program" replay < "$script" | cmp - "${script%.script}.out"; then
     passed=$((passed + 1))
   else
-    echo "$script: not as wanted"
-    failed=$((failed + 1))
+    told "$script: not as wanted"
   fi
 done
 echo "examples: $passed passed, $failed failed"

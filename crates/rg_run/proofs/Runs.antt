@@ -9,7 +9,7 @@ use Rattle.rg_run.specs.Commands.{only_built}
 use Rattle.rg_run.specs.Follow.{Comes, Decided, Output, Script}
 use Rattle.rg_run.specs.Limits.{is_too_long}
 use Rattle.rg_run.specs.Ports.{Ports}
-use Rattle.rg_run.specs.Runs.{Answers, CountsReads, CountsWrites, Follows, IsEndOf, IsRun, OfStatus, Overran, ServesLinks, Stands}
+use Rattle.rg_run.specs.Runs.{Answers, CountsReads, CountsWrites, EndsIn, Follows, IsEndOf, IsRun, OfStatus, Overran, ServesLinks, Stands}
 use Rattle.rg_run.specs.Replay.{replayed}
 use Rattle.rg_run.specs.Serve.{Door}
 use Rattle.rg_run.specs.Statuses.{number_of}
@@ -76,6 +76,12 @@ module _ {S : Type 0} (script : Script S) (p q : Ports) (got seen : List ℕ) (a
         reads = counts.0;
         writes = counts.1;
       }
+
+  pub written_in : (text printed : List ℕ) (status : Status) (state : S) → Comes_to text status state → printed ≡ text → Wrote p.held q.held printed
+      → status ≡ Done → EndsIn script p q state
+  written_in text printed status state d spelled wrote done =
+      let output : Output S = record { text = text; status = status; state = state; decided = d.0 } in
+      (output, follows script p q got seen [] output all ended within same d.1, subst (Wrote p.held q.held) spelled wrote, done, refl)
 
   pub broken : (text printed : List ℕ) (status : Status) (state : S) → Comes_to text status state → printed ≡ text → WrotePrefix p.held q.held printed
       → p.write_faults < q.write_faults → IsRun (Stands S script) p q WriteFault

@@ -61,6 +61,10 @@ Stands S script p q NoMemory =
 Stands S script p q Usage = ⊥
 Stands S script p q NetFault = ⊥
 
+-- all was read, worked without a bad line and written, and the work came to this state
+abbrev pub EndsIn : {S : Type 0} → Script S → Ports → Ports → S → Type 0
+EndsIn {S} script p q state = (output : Output S) × Follows S script p q [] output × Wrote p.held q.held output.text × (output.status ≡ Done) × (output.state ≡ state)
+
 -- what stands after words that ask for no command
 abbrev pub IsTold : Ports → Ports → Status → Type 0
 IsTold p q Usage = Wrote p.held q.held usage_text

@@ -10,7 +10,7 @@ use rg_script::{LineFault, split_line};
 use std::alloc::Global;
 
 /// A command that works a script line by line, seen as the state that it is in.
-pub(crate) trait Worker {
+pub trait Worker {
     ghost use Rattle.std.specs.Prelude.{ℕ, List, Option};
     ghost use Rattle.rg_base.specs.declared.numbers.Moment.{Moment};
     ghost use Rattle.rg_run.specs.Follow.{Work};

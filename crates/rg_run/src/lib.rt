@@ -14,6 +14,8 @@ mod status;
 mod writing;
 
 pub use command::Command;
+pub use follow::Worker;
 pub use machine::start;
-pub use program::run;
+pub use program::{run, work_script};
+pub use replay::Stage;
 pub use status::Status;

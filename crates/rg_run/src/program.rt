@@ -5,7 +5,7 @@ ghost use Rattle.rg_run.specs.Commands.{command_of, only_built, reads, serves};
 ghost use Rattle.rg_run.specs.Follow.{worked};
 ghost use Rattle.rg_run.specs.Limits.{is_too_long};
 ghost use Rattle.rg_run.specs.Ports.{ports};
-ghost use Rattle.rg_run.specs.Runs.{Answers, Drilled, IsRun, OfStatus, Stands, WriteFaults};
+ghost use Rattle.rg_run.specs.Runs.{Answers, Drilled, EndsIn, IsRun, OfStatus, Stands, WriteFaults};
 ghost use Rattle.rg_run.specs.Serve.{door};
 
 use crate::command::{Command, command_of};
@@ -24,7 +24,7 @@ use std::sync::Wait;
 use std::thread::Threads;
 
 /// Reads a script to its end, and then works it.
-fn work_script<W: Worker, S: Source, K: Sink, C: Clock>(
+pub fn work_script<W: Worker, S: Source, K: Sink, C: Clock>(
     alloc: Global,
     worker: &mut W,
     source: &mut S,
@@ -35,6 +35,9 @@ fn work_script<W: Worker, S: Source, K: Sink, C: Clock>(
         (ports (S.left source.old) (S.ended source.old) (S.faults source.old) (C.given clock.old) (K.held sink.old) (K.faults sink.old))
         (ports (S.left source.new) (S.ended source.new) (S.faults source.new) (C.given clock.new) (K.held sink.new) (K.faults sink.new)) result }
     ensures clock_stays { (result ≡ Status.ReadFault) ⊎ (result ≡ Status.TooLong) → clock.new ≡ clock.old }
+    ensures ends_in { result ≡ Status.Done → EndsIn (worked W.step worker.old 1)
+        (ports (S.left source.old) (S.ended source.old) (S.faults source.old) (C.given clock.old) (K.held sink.old) (K.faults sink.old))
+        (ports (S.left source.new) (S.ended source.new) (S.faults source.new) (C.given clock.new) (K.held sink.new) (K.faults sink.new)) worker.new }
 {
     let bytes = match read_all(alloc, source) {
         Ok(bytes) => bytes,

@@ -25,7 +25,7 @@ use std::sync::{Arc, Wait};
 
 /// The engine over the facts of a script. Contracts see the facts.
 #[derive(Drop)]
-pub(crate) struct Published {
+pub struct Published {
     engine: Arc<Engine>,
 }
 
@@ -55,7 +55,7 @@ impl<'a, R: Wait> Model for Administered<'a, R> {
 
 /// How far a script has come.
 #[derive(Drop)]
-pub(crate) enum Stage<A> {
+pub enum Stage<A> {
     /// There were only blank lines.
     Empty,
     /// Facts are published.
