@@ -1,12 +1,14 @@
 // The threads.
 ghost use Rattle.std.specs.Prelude.{◌≡◌, ◌⊎◌, ◌+◌, ◌≤◌, ◌<◌, true, length, IfOk, OnOk, OnErr};
 
-use crate::accepting::{accept_all, serve_alone, serve_queue};
-use crate::queue::Queue;
-use crate::roles::{Watcher, Worker};
+use crate::naming::Naming;
+use crate::places::Place;
+use crate::sessions::Sessions;
 use rg_base::Failed;
-use rg_ports::Listener;
-use std::sync::Wait;
+use rg_hook::RequestHooks;
+use rg_ports::{Clock, Gate, Listener};
+use rg_threads::{Queue, Watcher};
+use std::sync::{Mutex, Wait};
 use std::thread;
 use std::thread::Threads;
 
@@ -15,25 +17,49 @@ fn given_back<N>(net: &mut N)
     ensures { net.new ≡ net.old }
 {}
 
+/// Puts up to so many links into the queue, and says how many were given.
+fn accept_all<N: Listener, R: Wait>(
+    rt: &R,
+    net: &mut N,
+    most: u64,
+    queue: &Queue<N::Link>,
+) -> Result<u64, Failed>
+    ensures given { IfOk result (λ n. N.given net.new ≡ N.given net.old + n) }
+    ensures all { IfOk result (λ n. (n ≤ most) × ((n ≡ most) ⊎ (N.ended net.new ≡ true))) }
+    ensures kept { OnOk result (N.faults net.new ≡ N.faults net.old) }
+    ensures failed { OnErr result (N.faults net.old < N.faults net.new) }
+{
+    for given in 0..most {
+        let link = match net.accept() {
+            Ok(Some(link)) => link,
+            Ok(None) => return Ok(given),
+            Err(failed) => return Err(failed),
+        };
+        let _pushed = queue.push(rt, link);
+    }
+    Ok(most)
+}
+
 /// Starts a thread for each worker, and accepts links meanwhile. All threads have ended when it returns. Where none could be
 /// started the calling thread serves with the things of the first.
 fn with_workers<
+    J: Naming + Send + Sync,
     N: Listener,
-    P: Sync,
-    K: Sync,
-    B: Worker<N::Link, P, K> + Sync,
+    C: Clock,
+    G: Gate,
+    H: RequestHooks + Send,
     R: Threads + Wait + Sync,
 >(
     rt: &R,
     net: &mut N,
     most: u64,
     queue: &Queue<N::Link>,
-    worker: &B,
-    first: (&P, &K),
-    places: &[P],
-    own: &[K],
+    sessions: &Sessions<J, C, G>,
+    first: (&Place<J>, &Mutex<H>),
+    places: &[Place<J>],
+    own: &[Mutex<H>],
 ) -> Result<u64, Failed>
-    requires { B.is_ready worker.now }
+    requires { sessions.now.turn.now.turn ≡ J.turn }
     ensures given { IfOk result (λ n. N.given net.new ≡ N.given net.old + n) }
     ensures all { IfOk result (λ n. (n ≤ most) × ((n ≡ most) ⊎ (N.ended net.new ≡ true))) }
     ensures kept { OnOk result (N.faults net.new ≡ N.faults net.old) }
@@ -43,7 +69,7 @@ fn with_workers<
         thread::scope_env(),
         rt,
         move |scope| -> (&mut N, Result<u64, Failed>)
-            requires { B.is_ready worker.now }
+            requires { sessions.now.turn.now.turn ≡ J.turn }
             ensures name { result.0.ghost_name ≡ net.entry.ghost_name }
             ensures given { IfOk result.1 (λ n. N.given result.0.now ≡ N.given net.entry.now + n) }
             ensures all { IfOk result.1 (λ n. (n ≤ most) × ((n ≡ most) ⊎ (N.ended result.0.now ≡ true))) }
@@ -54,8 +80,8 @@ fn with_workers<
             for (place, own) in places.iter().zip(own) {
                 let started = scope.spawn(
                     move ||
-                        requires { B.is_ready worker.now }
-                    { serve_queue(rt, queue, worker, place, own) },
+                        requires { sessions.now.turn.now.turn ≡ J.turn }
+                    { sessions.serve_queue(rt, queue, place, own) },
                 );
                 if started.is_ok() {
                     any_started = true;
@@ -64,26 +90,27 @@ fn with_workers<
             let accepted = if any_started {
                 accept_all(rt, net, most, queue)
             } else {
-                serve_alone(rt, net, most, worker, first.0, first.1)
+                sessions.serve_alone(rt, net, most, first.0, first.1)
             };
             queue.close(rt);
             (net, accepted)
         },
     );
     given_back(net);
-    serve_queue(rt, queue, worker, first.0, first.1);
+    sessions.serve_queue(rt, queue, first.0, first.1);
     accepted
 }
 
 /// Accepts up to so many links, which the workers serve, each on a thread of its own, while the watcher watches on another.
-/// There are as many workers as places, and as many things of their own. It says how many links were given. Where `accept`
+/// There are as many workers as places, and as many hooks of their own. It says how many links were given. Where `accept`
 /// fails, the links given before are served too. When it returns no thread is left, and the queue is closed. Where a thread
 /// can't be started the others do its work, and where none can the calling thread does; only the watcher's is then left undone.
-pub fn serve_links<
+pub(crate) fn serve_links<
+    J: Naming + Send + Sync,
     N: Listener,
-    P: Sync,
-    K: Sync,
-    B: Worker<N::Link, P, K> + Sync,
+    C: Clock,
+    G: Gate,
+    H: RequestHooks + Send,
     V: Watcher + Sync,
     R: Threads + Wait + Sync,
 >(
@@ -91,13 +118,13 @@ pub fn serve_links<
     net: &mut N,
     most: u64,
     queue: &Queue<N::Link>,
-    worker: &B,
-    places: &[P],
-    own: &[K],
+    sessions: &Sessions<J, C, G>,
+    places: &[Place<J>],
+    own: &[Mutex<H>],
     watcher: &V,
 ) -> Result<u64, Failed>
     requires some { (0 < length places.now) × (0 < length own.now) }
-    requires ready { B.is_ready worker.now }
+    requires ready { sessions.now.turn.now.turn ≡ J.turn }
     requires watcher { V.can_watch watcher.now }
     ensures given { IfOk result (λ n. N.given net.new ≡ N.given net.old + n) }
     ensures all { IfOk result (λ n. (n ≤ most) × ((n ≡ most) ⊎ (N.ended net.new ≡ true))) }
@@ -109,7 +136,7 @@ pub fn serve_links<
         thread::scope_env(),
         rt,
         move |scope| -> (&mut N, Result<u64, Failed>)
-            requires { B.is_ready worker.now × V.can_watch watcher.now }
+            requires { (sessions.now.turn.now.turn ≡ J.turn) × V.can_watch watcher.now }
             ensures name { result.0.ghost_name ≡ net.entry.ghost_name }
             ensures given { IfOk result.1 (λ n. N.given result.0.now ≡ N.given net.entry.now + n) }
             ensures all { IfOk result.1 (λ n. (n ≤ most) × ((n ≡ most) ⊎ (N.ended result.0.now ≡ true))) }
@@ -121,7 +148,7 @@ pub fn serve_links<
                     requires { V.can_watch watcher.now }
                 { watcher.watch(rt) },
             );
-            let accepted = with_workers(rt, net, most, queue, worker, first, places, own);
+            let accepted = with_workers(rt, net, most, queue, sessions, first, places, own);
             watcher.stop(rt);
             (net, accepted)
         },
