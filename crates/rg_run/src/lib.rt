@@ -7,6 +7,7 @@ mod machine;
 mod program;
 mod reading;
 mod replay;
+mod report;
 mod status;
 mod writing;
 

@@ -11,6 +11,7 @@ use crate::command::{Command, command_of};
 use crate::follow::{Worker, follow};
 use crate::reading::{Stop, read_all};
 use crate::replay::{Replay, Stage};
+use crate::report::Reporting;
 use crate::status::Status;
 use crate::writing::write_all;
 use rg_ports::{Clock, Sink, Source};
@@ -103,6 +104,7 @@ fn answer<R: Wait, S: Source, K: Sink, C: Clock>(
             };
             work_script(alloc, &mut replay, source, sink, clock)
         }
+        Some(Command::Report) => { work_script(alloc, &mut Reporting::new(), source, sink, clock) }
         Some(
             Command::Drill {
                 seed,
@@ -113,7 +115,7 @@ fn answer<R: Wait, S: Source, K: Sink, C: Clock>(
         // `serve` isn't built yet.
         _ => match write_all(
             sink,
-            b"usage: rangerd replay | serve ADDRESS LINKS | drill SEED POLICIES REQUESTS\n",
+            b"usage: rangerd replay | serve ADDRESS LINKS | drill SEED POLICIES REQUESTS | report\n",
         ) {
             Ok(()) => Status::Usage,
             Err(_) => Status::WriteFault,
