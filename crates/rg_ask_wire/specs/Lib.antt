@@ -1,0 +1,4 @@
+pub mod Asks
+pub mod KeyOrder
+pub mod Keeping
+pub mod Reading

@@ -1,0 +1,11 @@
+// Asks in JSON: the records of kept administration, printed and read.
+#![tactic(auto)]
+
+mod keeping;
+mod key;
+mod print;
+mod read;
+
+pub use keeping::is_keeping;
+pub use print::print_ask;
+pub use read::read_ask;
