@@ -347,7 +347,3 @@ printed_again a d seen back is keeps =
     let shallow : depth d ≤ max_depth = omega (arith, ap depth seen, ask_is_shallow a) in
     ap ask_in (subst (λ x. data_of (compact_text x) ≡ Some x) seen (back (ap has_float seen ∙ ask_has_no_float a) shallow))
     ∙ ask_again a keeps is
-
-pub weaker : {X Y A B : Type 0} (r : Result X Y) → (A → B) → IfOk r (λ x. A) → IfOk r (λ x. B)
-weaker (Ok x) f a = f a
-weaker (Err e) f a = tt

@@ -112,6 +112,14 @@ options_there : (l : Level) → unless_null (options_data l) ≡ Some (options_d
 unfolding options_data
 options_there l = refl
 
+wild_again : (l : Level) → truth_word_at true (name_of key.WildCard) (options_data l) ≡ l.wild
+unfolding options_data name_of printed_name
+wild_again l = truth_again true (name_of key.WildCard) l.wild (options_data l) (get_with printed_name (printed_name (Wire key.WildCard)) (options_members l) no_members)
+
+fold_again : (l : Level) → truth_word_at true (name_of key.IgnoreCase) (options_data l) ≡ l.fold
+unfolding options_data name_of printed_name
+fold_again l = truth_again true (name_of key.IgnoreCase) l.fold (options_data l) (get_with printed_name (printed_name (Wire key.IgnoreCase)) (options_members l) no_members)
+
 level_again : (l : Level) → IsLevel l → level_of (level_data l) ≡ l
 unfolding level_of level_data name_of printed_name
 level_again l own =
@@ -128,14 +136,6 @@ level_again l own =
       wild = (ap (truth_word_at true (name_of key.WildCard)) options ∙ wild_again l) i;
       fold = (ap (truth_word_at true (name_of key.IgnoreCase)) options ∙ fold_again l) i;
     }
-  where
-    wild_again : (l : Level) → truth_word_at true (name_of key.WildCard) (options_data l) ≡ l.wild
-    unfolding options_data name_of printed_name
-    wild_again l = truth_again true (name_of key.WildCard) l.wild (options_data l) (get_with printed_name (printed_name (Wire key.WildCard)) (options_members l) no_members)
-
-    fold_again : (l : Level) → truth_word_at true (name_of key.IgnoreCase) (options_data l) ≡ l.fold
-    unfolding options_data name_of printed_name
-    fold_again l = truth_again true (name_of key.IgnoreCase) l.fold (options_data l) (get_with printed_name (printed_name (Wire key.IgnoreCase)) (options_members l) no_members)
 
 masks_there : (d : ServiceDef) → unless_null (mask_part_data d) ≡ Some (mask_part_data d)
 unfolding mask_part_data

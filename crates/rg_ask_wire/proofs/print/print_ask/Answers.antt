@@ -1,4 +1,5 @@
-use Rattle.rg_ask_wire.proofs.Asked.{printed_again, weaker}
+use Rattle.rg_wire.proofs.Itself.{weaker}
+use Rattle.rg_ask_wire.proofs.Asked.{printed_again}
 use Rattle.rg_ask_wire.proofs.print.print_ask.Goals as goal
 
 pub returns-clause-again : goal.returns-clause-again

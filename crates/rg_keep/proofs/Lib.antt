@@ -1,0 +1,5 @@
+pub mod Alike
+pub mod Kept
+pub mod Lists
+pub mod Passing
+pub mod Written
