@@ -1,6 +1,8 @@
 pub mod Asked
 pub mod Depths
 pub mod Maps
+pub mod Orderly
+pub mod Owned
 pub mod Plain
 pub mod Refusals
 pub mod Right

@@ -3,9 +3,11 @@
 
 mod keeping;
 mod key;
+mod orderly;
 mod print;
 mod read;
 
 pub use keeping::is_keeping;
+pub use orderly::commands_are_in_order;
 pub use print::print_ask;
 pub use read::read_ask;

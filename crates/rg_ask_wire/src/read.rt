@@ -3,12 +3,15 @@ ghost use Rattle.std.specs.Prelude.{◌≡◌, ◌≤◌, IfOk, IfSome, Some, op
 ghost use Rattle.serde_json.specs.Data.{depth};
 ghost use Rattle.serde_json.specs.Read.{max_depth};
 ghost use Rattle.serde_json.specs.View.{view};
+ghost use Rattle.rg_cmd_wire.specs.Commands.{OwnsPolicy};
 ghost use Rattle.rg_cmd_wire.specs.Reading.{reading_in};
 ghost use Rattle.rg_json.specs.Reading.{Answers};
 ghost use Rattle.rg_json.specs.Texts.{data_of};
+ghost use Rattle.rg_ask_wire.specs.KeyOrder.{IsInKeyOrder};
 ghost use Rattle.rg_ask_wire.specs.Reading.{IsBelowCommand, ask_in, ask_reading};
 
 use crate::key::{AskKey, AskTable};
+use crate::orderly::see;
 use rg_base::{NoMemory, Text};
 use rg_cmd::{AdminCommand, Ask};
 use rg_cmd_wire::read_command;
@@ -36,7 +39,8 @@ fn shallow_json(alloc: Global, text: &[u8]) -> Result<Option<Value>, NoMemory>
 /// The command of a value, through its compact text.
 fn command_in(alloc: Global, value: &Value) -> Result<AdminCommand, WireFault>
     requires { depth (view value.now) ≤ max_depth }
-    ensures { Answers result (reading_in (Some (view value.now))) }
+    ensures reads { Answers result (reading_in (Some (view value.now))) }
+    ensures owned { IfOk result OwnsPolicy }
 {
     match value.to_string(alloc) {
         Ok(text) => read_command(alloc, text.as_bytes()),
@@ -67,8 +71,10 @@ fn below_command(alloc: Global, fault: WireFault) -> WireFault
 #[tactic(auto, using(crate::proofs::Refusals::refusals, crate::proofs::Depths::depths))]
 fn ask_of(alloc: Global, value: &Value) -> Result<Ask, WireFault>
     requires { depth (view value.now) ≤ max_depth }
-    ensures { Answers result (ask_in (Some (view value.now))) }
+    ensures reads { Answers result (ask_in (Some (view value.now))) }
+    ensures in_order { IfOk result IsInKeyOrder }
 {
+    see(value);
     judge::<AskKey, AskTable>(alloc, AskTable.fields(), value)?;
     let null = Value::Null;
     match command_in(alloc, find_or(value, AskKey::Command, &null)) {
@@ -80,10 +86,11 @@ fn ask_of(alloc: Global, value: &Value) -> Result<Ask, WireFault>
     }
 }
 
-/// Reads an ask from the record that is kept of it: a map with `actor` and `command`.
+/// Reads an ask from the record that is kept of it: a map with `actor` and `command`. It is in key order.
 #[tactic(auto, unfolding(crate::specs::Reading::ask_reading))]
 pub fn read_ask(alloc: Global, text: &[u8]) -> Result<Ask, WireFault>
-    ensures { Answers result (ask_reading text.now) }
+    ensures reads { Answers result (ask_reading text.now) }
+    ensures in_order { IfOk result IsInKeyOrder }
 {
     match shallow_json(alloc, text) {
         Err(_) => Err(WireFault::NoMemory),
