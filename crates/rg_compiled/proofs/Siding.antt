@@ -1,10 +1,8 @@
 -- Changes of policies and tag rows as edits of one list.
-use Rattle.std.proofs.Common.{◌≡◌, ◌<◌, ◌+◌, ◌++◌, ◌==◌, ℕ, length, take, get_or, Bool, true, false, not, cond, List, [], ◌∷◌, map, filter, fold, refl, sym, ap, ◌∙◌, arith}
-use Rattle.std.proofs.lemmas.List.{map-append}
-use Rattle.std.proofs.lemmas.List.Elements.{filter-append}
+use Rattle.std.proofs.Common.{◌≡◌, ◌+◌, ◌==◌, ℕ, length, Bool, true, false, not, cond, List, [], ◌∷◌, map, filter, fold, refl, sym, ap, ◌∙◌, arith}
 use Rattle.std.proofs.lemmas.List.Sums.{sum_by-cons}
+use Rattle.std.specs.Bool.{beq}
 use Rattle.std.specs.List.{sum_by}
-use Rattle.rg_base.proofs.Lists.{take_next}
 use Rattle.rg_policy.specs.declared.policy.Policy.{Policy}
 use Rattle.rg_defs.specs.declared.service_def.ServiceDef.{ServiceDef}
 use Rattle.rg_tags.specs.declared.row.TagRow.{TagRow}
@@ -14,7 +12,7 @@ use Rattle.rg_cmd.specs.declared.changes.PolicyChange.{PolicyChange}
 use Rattle.rg_cmd.specs.declared.changes.TagChange.{TagChange}
 use Rattle.rg_delta.specs.Applied.{rows_after}
 use Rattle.rg_delta.specs.Editing.{edited}
-use Rattle.rg_delta.specs.Sides.{policy_edit, row_edit}
+use Rattle.rg_delta.specs.Sides.{edits_with, policy_edit, row_edit}
 use Rattle.rg_evalr.specs.declared.frame.Side.{Side}
 use Rattle.rg_evalr.specs.declared.frame.Side.TheVariants.{Resource, Tag}
 use Rattle.rg_index.specs.Filing.{pairs}
@@ -22,22 +20,25 @@ use Rattle.rg_compiled.specs.Bounds.{is_on, made_on, pairs_on, policy_form, poli
 use Rattle.rg_compiled.specs.Moved.{edits_of, policy_id, policy_pairs, row_form_pairs, row_id}
 use Rattle.rg_compiled.specs.Plan.{weighed, weight_put}
 
--- ---- one more change
+-- ---- those of a side
 
-pub row_edits_next : (changes : List TagChange) (n : ℕ) (c : TagChange) → n < length changes → c ≡ get_or changes n c
-    → map row_edit (take (n + 1) changes) ≡ map row_edit (take n changes) ++ row_edit c ∷ []
-row_edits_next changes n c within is = ap (map row_edit) (take_next n changes c within is) ∙ map-append row_edit (take n changes) (c ∷ [])
+pub own_sided : (changes : List PolicyChange) → edits_with false changes ≡ edits_of Resource changes
+own_sided [] = refl
+own_sided (c ∷ cs) = at c.tag (own_sided cs) where
+  at : (b : Bool) → edits_with false cs ≡ edits_of Resource cs
+      → map policy_edit (cond (beq b false) (c ∷ filter (λ (d : PolicyChange). beq d.tag false) cs) (filter (λ (d : PolicyChange). beq d.tag false) cs))
+      ≡ map policy_edit (cond (not b) (c ∷ filter (is_on Resource) cs) (filter (is_on Resource) cs))
+  at true rest = rest
+  at false rest = ap (λ es. policy_edit c ∷ es) rest
 
-pub edits_next : (side : Side) (changes : List PolicyChange) (n : ℕ) (c : PolicyChange) → n < length changes → c ≡ get_or changes n c
-    → edits_of side (take (n + 1) changes) ≡ edits_of side (take n changes) ++ cond (is_on side c) (policy_edit c ∷ []) []
-edits_next side changes n c within is =
-    ap (edits_of side) (take_next n changes c within is)
-    ∙ ap (map policy_edit) (filter-append (is_on side) (take n changes) (c ∷ []))
-    ∙ map-append policy_edit (filter (is_on side) (take n changes)) (cond (is_on side c) (c ∷ []) [])
-    ∙ ap (λ l. edits_of side (take n changes) ++ l) (at (is_on side c)) where
-      at : (b : Bool) → map policy_edit (cond b (c ∷ []) []) ≡ cond b (policy_edit c ∷ []) []
-      at true = refl
-      at false = refl
+pub tag_sided : (changes : List PolicyChange) → edits_with true changes ≡ edits_of Tag changes
+tag_sided [] = refl
+tag_sided (c ∷ cs) = at c.tag (tag_sided cs) where
+  at : (b : Bool) → edits_with true cs ≡ edits_of Tag cs
+      → map policy_edit (cond (beq b true) (c ∷ filter (λ (d : PolicyChange). beq d.tag true) cs) (filter (λ (d : PolicyChange). beq d.tag true) cs))
+      ≡ map policy_edit (cond b (c ∷ filter (is_on Tag) cs) (filter (is_on Tag) cs))
+  at true rest = ap (λ es. policy_edit c ∷ es) rest
+  at false rest = rest
 
 -- ---- what they make of a list
 

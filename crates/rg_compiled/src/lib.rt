@@ -2,7 +2,6 @@
 #![tactic(auto)]
 
 mod compilers;
-mod edits;
 mod filling;
 mod held;
 mod moving;

@@ -10,9 +10,8 @@ ghost use Rattle.rg_compiled.specs.Kept.{are_rising, held_in, slot_form, slot_fo
 ghost use Rattle.rg_compiled.specs.Moved.{are_below, is_compiled, moved_slot, moved_slots};
 ghost use Rattle.rg_compiled.specs.Plan.{is_kept, lost, made_in, put_at, put_there, standing};
 
-use crate::edits::Made;
 use crate::held::Fileable;
-use crate::plan::{Fate, Place, Plan};
+use crate::plan::{Fate, Made, Place, Plan};
 use crate::shelf::Shelf;
 use crate::slots::{Slot, form_of};
 use rg_base::{Ledger, NoMemory, Steps};

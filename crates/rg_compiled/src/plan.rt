@@ -6,11 +6,25 @@ ghost use Rattle.rg_cmd.specs.Lists.{without};
 ghost use Rattle.rg_delta.specs.Editing.{edited, has_id_of};
 ghost use Rattle.rg_compiled.specs.Plan.{at_first, cleared, has_there, is_taken, or_new, plan_of, planned_put, planned_without, renewed, standing, with_edit};
 
-use crate::edits::{Edit, Id, Identified, Made};
 use rg_base::NoMemory;
 use rg_cmd::{CREATED, DELETED, UPDATED};
+use rg_delta::{Edit, Id, Identified};
 use std::alloc::Global;
 use std::marker::Model;
+
+/// A thing that an edit puts into the list. Contracts see the thing itself.
+#[derive(Drop)]
+pub(crate) struct Made<'a, X> {
+    pub(crate) item: &'a X,
+}
+
+impl<'a, X> Model for Made<'a, X> {
+    ghost use Rattle.std.specs.Prelude.{◌≡◌};
+
+    ghost Value = { X };
+
+    ghost view = { λ m. m.item.now };
+}
 
 /// What becomes of a thing that stood before.
 #[derive(Drop)]

@@ -105,7 +105,7 @@ impl PolicySet {
     }
 
     /// The policies after those of the changes that are of their side, in order. The frame is that of the set. No two policies
-    /// have one id, before and after, and those after pass their rules. Only policies that are new or other ones are compiled.
+    /// after them have one id, and they pass their rules. Only policies that are new or other ones are compiled.
     #[tactic(auto, using(crate::proofs::Counting::no_work))]
     pub fn apply<L: Ledger>(
         &self,
@@ -115,7 +115,6 @@ impl PolicySet {
         steps: &mut Steps<L>,
     ) -> Result<PolicySet, NoMemory>
         requires same { frame.now ≡ self.now.frame }
-        requires told { all_distinct same_id self.now.policies ≡ true }
         requires rules { list_all (passes self.now.frame self.now.side) (fold (side_after self.now.side) self.now.policies changes.now) ≡ true }
         requires distinct { all_distinct same_id (fold (side_after self.now.side) self.now.policies changes.now) ≡ true }
         ensures made { IfOk result (λ s. s ≡ record { frame = self.now.frame; side = self.now.side; policies = fold (side_after self.now.side) self.now.policies changes.now }) }

@@ -80,8 +80,8 @@ impl RowSet {
         Ok(RowSet { shelf })
     }
 
-    /// The rows after the changes, in order. The definition is that of the set. No two rows have one id, before and after, and
-    /// those after fit. Only rows that are new or other ones are compiled.
+    /// The rows after the changes, in order. The definition is that of the set. No two rows after them have one id, and
+    /// they fit. Only rows that are new or other ones are compiled.
     #[tactic(auto, using(crate::proofs::Counting::no_work))]
     pub fn apply<L: Ledger>(
         &self,
@@ -91,7 +91,6 @@ impl RowSet {
         steps: &mut Steps<L>,
     ) -> Result<RowSet, NoMemory>
         requires same { def.now ≡ self.now.def }
-        requires told { all_distinct int_eq (row_ids self.now.rows) ≡ true }
         requires fit { list_all (λ (row : TagRow). tagged_fit self.now.def row.resources.items) (fold rows_after self.now.rows changes.now) ≡ true }
         requires distinct { all_distinct int_eq (row_ids (fold rows_after self.now.rows changes.now)) ≡ true }
         ensures made { IfOk result (λ s. s ≡ record { def = self.now.def; rows = fold rows_after self.now.rows changes.now }) }

@@ -1,66 +1,34 @@
 // The plans of changes of policies and tag rows.
 ghost use Rattle.std.specs.Prelude.{◌≡◌, IfOk, map};
 ghost use Rattle.rg_delta.specs.Sides.{row_edit};
-ghost use Rattle.rg_compiled.specs.Bounds.{is_on};
 ghost use Rattle.rg_compiled.specs.Kept.{policies_in, rows_in};
 ghost use Rattle.rg_compiled.specs.Moved.{edits_of, policy_id, row_id};
 ghost use Rattle.rg_compiled.specs.Plan.{plan_of};
 
-use crate::edits::Edit;
 use crate::held::{HeldPolicy, HeldRow};
 use crate::plan::{Plan, plan_of};
 use crate::slots::Slot;
 use rg_base::NoMemory;
 use rg_cmd::{PolicyChange, TagChange};
+use rg_delta::{Edit, policy_edits, row_edits};
 use rg_evalr::Side;
 use rg_policy::Policy;
 use rg_tags::TagRow;
 use std::alloc::Global;
 
-/// Whether the change is of a policy of the side.
-fn is_on(side: Side, change: &PolicyChange) -> bool
-    ensures { result ≡ is_on side change.now }
-{
-    match side {
-        Side::Resource => !change.tag,
-        Side::Tag => change.tag,
-    }
-}
-
 /// The changes of the policies of the side.
-#[tactic(auto, using(crate::proofs::Siding::edits_next))]
-fn policy_edits<'a>(
+#[tactic(auto, using(crate::proofs::Siding::own_sided, crate::proofs::Siding::tag_sided))]
+fn edits_of<'a>(
     alloc: Global,
     side: Side,
     changes: &'a [PolicyChange],
 ) -> Result<Vec<Edit<'a, Policy>>, NoMemory>
     ensures { IfOk result (λ edits. edits.items ≡ edits_of side changes.now) }
 {
-    let mut edits = Vec::new(alloc);
-    for change in changes {
-        if is_on(side, change) {
-            edits.push(Edit {
-                change_type: change.change_type,
-                item: &change.policy,
-            })?;
-        }
+    match side {
+        Side::Resource => policy_edits(alloc, changes, false),
+        Side::Tag => policy_edits(alloc, changes, true),
     }
-    Ok(edits)
-}
-
-/// The changes of tag rows.
-#[tactic(auto, using(crate::proofs::Siding::row_edits_next))]
-fn row_edits<'a>(alloc: Global, changes: &'a [TagChange]) -> Result<Vec<Edit<'a, TagRow>>, NoMemory>
-    ensures { IfOk result (λ edits. edits.items ≡ map row_edit changes.now) }
-{
-    let mut edits = Vec::new(alloc);
-    for change in changes {
-        edits.push(Edit {
-            change_type: change.change_type,
-            item: &change.row,
-        })?;
-    }
-    Ok(edits)
 }
 
 /// The ids of the policies in the slots.
@@ -94,7 +62,7 @@ pub(crate) fn policy_plan<'a>(
 ) -> Result<Plan<'a, Policy>, NoMemory>
     ensures { IfOk result (λ p. p ≡ plan_of policy_id (map policy_id (policies_in slots.now)) (edits_of side changes.now)) }
 {
-    let edits = policy_edits(alloc, side, changes)?;
+    let edits = edits_of(alloc, side, changes)?;
     let ids = policy_ids(alloc, slots)?;
     plan_of(alloc, &ids, &edits)
 }

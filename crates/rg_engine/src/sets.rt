@@ -79,7 +79,6 @@ fn apply_tag_policies<L: Ledger>(
     steps: &mut Steps<L>,
 ) -> Result<Option<PolicySet>, NoMemory>
     requires set { IsTagSet frame.now set.now }
-    requires apart { all_distinct same_id (tag_policies_of set.now) ≡ true }
     requires rules { list_all (passes frame.now Tagged) (fold tag_policies_after (tag_policies_of set.now) changes.now) ≡ true }
     requires distinct { all_distinct same_id (fold tag_policies_after (tag_policies_of set.now) changes.now) ≡ true }
     requires none { frame.now.tag_def ≡ None → fold tag_policies_after (tag_policies_of set.now) changes.now ≡ [] }
@@ -150,7 +149,6 @@ impl Sets {
         steps: &mut Steps<L>,
     ) -> Result<Sets, NoMemory>
         requires frame { frame.now ≡ self.now.frame }
-        requires before { MayCompile self.now }
         requires after { MayCompile (compiled_after self.now policies.now tags.now) }
         ensures made { IfOk result (λ s. s ≡ compiled_after self.now policies.now tags.now) }
         ensures steps { let f = self.now.frame in

@@ -36,13 +36,13 @@ more_written : (logs : List Log) (log : Log) → AreWritten logs → written log
 more_written [] log all here = (here, tt)
 more_written (l ∷ logs) log all here = (all.0, more_written logs log all.1 here)
 
+chosen_written : (b : Bool) (log : Log) (rest : List Log) → written log (policy_book log) (tag_book log) ≡ log → AreWritten rest → AreWritten (cond b (log ∷ rest) rest)
+chosen_written true log rest here all = (here, all)
+chosen_written false log rest here all = all
+
 left_written : (leaves : Log → Bool) (logs : List Log) → AreWritten logs → AreWritten (filter leaves logs)
 left_written leaves [] all = tt
-left_written leaves (log ∷ logs) all = go (leaves log)
-  where
-    go : (b : Bool) → AreWritten (cond b (log ∷ filter leaves logs) (filter leaves logs))
-    go true = (all.0, left_written leaves logs all.1)
-    go false = left_written leaves logs all.1
+left_written leaves (log ∷ logs) all = chosen_written (leaves log) log (filter leaves logs) all.0 (left_written leaves logs all.1)
 
 logs_written : (s : State) (c : AdminCommand) (logs : List Log) → AreWritten logs → AreWritten (logs_after s c logs)
 logs_written s (PutDef def) logs all = touched_written s (PutDef def) logs

@@ -113,10 +113,14 @@ fn take_at<P: Keeper>(
         Err(KeeperFault::NoMemory) => Err(ReopenCause::NoMemory),
         Ok(None) => Ok(false),
         Ok(Some(entry)) => {
-            if place == MOST_KEPT || !take_entry(alloc, admin, entry.as_slice())? {
+            if place == MOST_KEPT {
                 return Err(ReopenCause::BadRecord(place));
             }
-            Ok(true)
+            if take_entry(alloc, admin, entry.as_slice())? {
+                Ok(true)
+            } else {
+                Err(ReopenCause::BadRecord(place))
+            }
         }
     }
 }
@@ -156,9 +160,9 @@ pub(crate) fn replay<P: Keeper>(
     config: Config,
     keeper: &mut P,
 ) -> Result<(Admin, u64), ReopenCause>
-    ensures kept { IfOk result (λ r. IsKept (P.kept keeper.old) config r.0) }
-    ensures replayed { IfOk result (λ r. IsReplayed (P.kept keeper.old) config r.0) }
-    ensures counts { IfOk result (λ r. HasLength (P.kept keeper.old) r.1) }
+    ensures kept { IfOk result (λ r. IsKept (P.kept keeper.new) config r.0) }
+    ensures replayed { IfOk result (λ r. IsReplayed (P.kept keeper.new) config r.0) }
+    ensures counts { IfOk result (λ r. HasLength (P.kept keeper.new) r.1) }
     ensures lawful { IfOk result (λ r. start_fault config ≡ None) }
     ensures cause { IfErr result (λ cause. IsCause cause (P.kept keeper.old) config (P.faults keeper.old) (P.faults keeper.new)) }
     ensures same { P.kept keeper.new ≡ P.kept keeper.old }

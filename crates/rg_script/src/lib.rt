@@ -9,5 +9,5 @@ mod tests;
 mod word;
 
 pub use cause::{Cause, Place, explain_line};
-pub use line::{Line, LineFault, read_line};
-pub use lines::split_line;
+pub use line::{Line, LineFault, actor_of, read_line};
+pub use lines::{split_line, split_word};

@@ -78,7 +78,7 @@ fn config_line(alloc: Global, json: &[u8]) -> Result<Line, Unread>
 
 /// The text, where it is 1 to 256 characters of UTF-8.
 #[tactic(auto, unfolding(crate::specs::Line::actor_of))]
-fn actor_of(alloc: Global, text: &[u8]) -> Result<Option<Text>, NoMemory>
+pub fn actor_of(alloc: Global, text: &[u8]) -> Result<Option<Text>, NoMemory>
     ensures { IfOk result (λ actor. actor ≡ actor_of text.now) }
 {
     let Ok(actor) = str::from_utf8(text) else {

@@ -47,7 +47,7 @@ pub fn split_line(bytes: &[u8]) -> (&[u8], &[u8])
 
 /// What stands before the first space of a line, and what follows that space, where there is one.
 #[tactic(auto, unfolding(crate::specs::Words::front_word, crate::specs::Words::behind_space))]
-pub(crate) fn split_word(line: &[u8]) -> (&[u8], Option<&[u8]>)
+pub fn split_word(line: &[u8]) -> (&[u8], Option<&[u8]>)
     ensures word { result.0.now ≡ front_word line.now }
     ensures rest { option_map (λ rest. rest.now) result.1 ≡ behind_space line.now }
 {

@@ -19,9 +19,6 @@ returns-in_err-check_bases-clause-steps g c =
 pub apply-requires-clause-frame : goal.apply-requires-clause-frame
 apply-requires-clause-frame g c = c.frame-frame.ensures ∙ ap frame_of c.deref.ensures ∙ sym (ap (λ (x : Compiled). x.frame) c.self.invariant.1)
 
-pub apply-requires-clause-before : goal.apply-requires-clause-before
-apply-requires-clause-before g c = subst MayCompile (sym c.self.invariant.1) (may_compile _ c.self.invariant.0)
-
 pub apply-requires-clause-after : goal.apply-requires-clause-after
 apply-requires-clause-after g c =
     subst (λ (x : Compiled). MayCompile x) (sym (λ i. compiled_after ((c.self.invariant.1 ∙ ap compiled_of c.self.view_is) i) (c.as_slice-changes.ensures i) (c.as_slice-rows.ensures i)))

@@ -19,9 +19,6 @@ use Rattle.rg_engine.proofs.sets.Sets.apply.Goals as goal
 pub apply-requires-clause-same : goal.apply-requires-clause-same
 apply-requires-clause-same g c = c.requires.frame ∙ sym (ap (λ (x : Compiled). x.frame) c.self.view_is)
 
-pub apply-requires-clause-told : goal.apply-requires-clause-told
-apply-requires-clause-told g c = ap (λ (x : Compiled). all_distinct same_id x.policies) c.self.view_is ∙ c.requires.before.apart
-
 pub apply-requires-clause-rules : goal.apply-requires-clause-rules
 apply-requires-clause-rules g c =
     let own = c.self.inside.policies in
@@ -43,9 +40,6 @@ returns-in_err-own-clause-steps g c =
 pub apply_tag_policies-requires-clause-set : goal.apply_tag_policies-requires-clause-set
 apply_tag_policies-requires-clause-set g c =
     subst (λ (f : Frame). IsTagSet f c.self.inside.tag_policies) (ap (λ (x : Compiled). x.frame) c.self.view_is ∙ sym c.requires.frame) c.self.invariant.1
-
-pub apply_tag_policies-requires-clause-apart : goal.apply_tag_policies-requires-clause-apart
-apply_tag_policies-requires-clause-apart g c = ap (λ (x : Compiled). all_distinct same_id x.tag_policies) c.self.view_is ∙ c.requires.before.tag_apart
 
 pub apply_tag_policies-requires-clause-rules : goal.apply_tag_policies-requires-clause-rules
 apply_tag_policies-requires-clause-rules g c =
@@ -69,9 +63,6 @@ returns-in_err-tag_policies-clause-steps g c =
 pub apply-requires-2-clause-same : goal.apply-requires-2-clause-same
 apply-requires-2-clause-same g c =
     ap (λ (f : Frame). f.def) c.requires.frame ∙ sym (ap (λ (x : Compiled). x.frame.def) c.self.view_is) ∙ sym c.self.invariant.2
-
-pub apply-requires-2-clause-told : goal.apply-requires-2-clause-told
-apply-requires-2-clause-told g c = ap (λ (x : Compiled). all_distinct int_eq (row_ids x.rows)) c.self.view_is ∙ c.requires.before.rows_apart
 
 pub apply-requires-2-clause-fit : goal.apply-requires-2-clause-fit
 apply-requires-2-clause-fit g c =
