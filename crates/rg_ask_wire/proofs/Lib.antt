@@ -1,8 +1,9 @@
 pub mod Asked
 pub mod Depths
+pub mod InOrder
 pub mod Maps
-pub mod Orderly
 pub mod Owned
+pub mod Parsed
 pub mod Plain
 pub mod Refusals
 pub mod Right

@@ -28,9 +28,11 @@ use Rattle.rg_cmd_wire.specs.Reading.{after_word, reading_in, reading_named, wor
 use Rattle.rg_cmd_wire.specs.Rows.{service_of, user_of}
 use Rattle.rg_cmd_wire.specs.declared.command_name.CommandName.{CommandName}
 use Rattle.rg_cmd_wire.specs.declared.command_name.CommandName.TheVariants as the
-use Rattle.rg_ask_wire.specs.KeyOrder.{AreInOrder, AreSubjects, IsAccessType, IsCommandInOrder, IsConditionDef, IsDef, IsLevel, IsMaskType, IsPair, IsRole, IsService, IsTag, IsTagRow, IsUser, IsZone, IsZoneLevel, IsZoneService, OwnLevels, OwnMap, OwnPairs}
+use Rattle.rg_ask_wire.specs.Asks.{ask_name}
+use Rattle.rg_ask_wire.specs.declared.key.AskKey.TheVariants as own
+use Rattle.rg_ask_wire.specs.KeyOrder.{AreInOrder, AreSubjects, IsAccessType, IsCommandInOrder, IsConditionDef, IsDef, IsInKeyOrder, IsLevel, IsMaskType, IsPair, IsRole, IsService, IsTag, IsTagRow, IsUser, IsZone, IsZoneLevel, IsZoneService, OwnLevels, OwnMap, OwnPairs}
 use Rattle.rg_ask_wire.specs.Orderly.{IsOrderly}
-use Rattle.rg_ask_wire.proofs.Orderly.{integer_own, list_of_own, list_own, map_of_own, map_own, name_own, text_at_own, text_own, within_orderly}
+use Rattle.rg_ask_wire.proofs.InOrder.{integer_own, list_of_own, list_own, map_of_own, map_own, name_own, text_at_own, text_own, within_orderly}
 use Rattle.rg_ask_wire.proofs.Rows.{level_name}
 
 -- ---- parts
@@ -211,3 +213,11 @@ read_in_order d c is read owns = go (fault_of word_shape d) (given c (reading_in
     go : (o : Option Fault) → IsGiven c (after_word (Some d) (unless_fault (word_at d) o)) → IsCommandInOrder c
     go None same = called (named (word_at d)) same
     go (Some fault) same = absurd same
+
+-- an ask that was read is in key order
+pub ask_in_order : (d : Data) (actor : List ℕ) (c : AdminCommand) → IsOrderly d → IsText actor → reading_in (Some (within (ask_name own.Command) d)) ≡ Ok c → OwnsPolicy c
+    → IsInKeyOrder (record { actor = actor; command = c })
+unfolding IsInKeyOrder
+ask_in_order d actor c is text read owns = record { actor = text; command = read_in_order (within (ask_name own.Command) d) c (within_orderly (ask_name own.Command) d is) read owns }
+
+pub ruleset orders = (ask_in_order)

@@ -20,43 +20,35 @@ use rg_wire::Key;
 use serde_json::{Map, Value};
 use std::alloc::Global;
 
-impl ToJson<Key> for ServiceRow {
-    ghost use Rattle.rg_ask_wire.specs.Asks.{service_data};
-
-    ghost printing = { service_data };
-
-    #[tactic(auto, unfolding(crate::specs::Asks::service_data))]
-    fn json(&self, alloc: Global) -> Result<Value, NoMemory> {
-        let mut members = Map::new(alloc);
-        put(alloc, &mut members, Key::Name, &self.name)?;
-        put(alloc, &mut members, Key::Type, &self.def)?;
-        put(alloc, &mut members, Key::TagService, &self.tag_service)?;
-        put(alloc, &mut members, Key::Fallback, &self.fallback)?;
-        Ok(Value::Object(members))
-    }
+#[tactic(auto, unfolding(crate::specs::Asks::service_data))]
+fn service_json(alloc: Global, service: &ServiceRow) -> Result<Value, NoMemory>
+    ensures { IfOk result (λ v. view v ≡ service_data service.now) }
+{
+    let mut members = Map::new(alloc);
+    put(alloc, &mut members, Key::Name, &service.name)?;
+    put(alloc, &mut members, Key::Type, &service.def)?;
+    put(alloc, &mut members, Key::TagService, &service.tag_service)?;
+    put(alloc, &mut members, Key::Fallback, &service.fallback)?;
+    Ok(Value::Object(members))
 }
 
-impl ToJson<Key> for UserRow {
-    ghost use Rattle.rg_ask_wire.specs.Asks.{user_data};
-
-    ghost printing = { user_data };
-
-    #[tactic(auto, unfolding(crate::specs::Asks::user_data))]
-    fn json(&self, alloc: Global) -> Result<Value, NoMemory> {
-        let mut members = Map::new(alloc);
-        put(alloc, &mut members, Key::Name, &self.name)?;
-        put(alloc, &mut members, Key::Groups, &self.groups)?;
-        Ok(Value::Object(members))
-    }
+#[tactic(auto, unfolding(crate::specs::Asks::user_data))]
+fn user_json(alloc: Global, user: &UserRow) -> Result<Value, NoMemory>
+    ensures { IfOk result (λ v. view v ≡ user_data user.now) }
+{
+    let mut members = Map::new(alloc);
+    put(alloc, &mut members, Key::Name, &user.name)?;
+    put(alloc, &mut members, Key::Groups, &user.groups)?;
+    Ok(Value::Object(members))
 }
 
-impl ToJson<Key> for Version {
-    ghost use Rattle.rg_ask_wire.specs.Asks.{version_data};
-
-    ghost printing = { version_data };
-
-    fn json(&self, alloc: Global) -> Result<Value, NoMemory> {
-        <u64 as ToJson<Key>>::json(&self.0, alloc)
+/// A version, null where there is none.
+fn version_json(alloc: Global, version: &Option<Version>) -> Result<Value, NoMemory>
+    ensures { IfOk result (λ v. view v ≡ option_data version_data version.now) }
+{
+    match version {
+        None => Ok(Value::Null),
+        Some(version) => <u64 as ToJson<Key>>::json(&version.0, alloc),
     }
 }
 
@@ -106,9 +98,12 @@ fn put_versions(
     ensures { IfOk result (λ u. members_view members.new.entries ≡ with_members name_of (members_view members.old.entries)
         ((key.PoliciesFrom, option_data version_data policies_from.now) ∷ (key.TagsFrom, option_data version_data tags_from.now) ∷ (key.RolesFrom, option_data version_data roles_from.now) ∷ [])) }
 {
-    put(alloc, members, Key::PoliciesFrom, policies_from)?;
-    put(alloc, members, Key::TagsFrom, tags_from)?;
-    put(alloc, members, Key::RolesFrom, roles_from)
+    let policies = version_json(alloc, policies_from)?;
+    put_value(alloc, members, Key::PoliciesFrom.name(), policies)?;
+    let tags = version_json(alloc, tags_from)?;
+    put_value(alloc, members, Key::TagsFrom.name(), tags)?;
+    let roles = version_json(alloc, roles_from)?;
+    put_value(alloc, members, Key::RolesFrom.name(), roles)
 }
 
 /// Puts the fields of the command.
@@ -122,10 +117,12 @@ fn put_fields(
 {
     match command {
         AdminCommand::PutDef { def } => {
-            put_value(alloc, members, Key::Def.name(), def.json(alloc)?)
+            let def = def.json(alloc)?;
+            put_value(alloc, members, Key::Def.name(), def)
         }
         AdminCommand::CreateService { service } | AdminCommand::UpdateService { service } => {
-            put(alloc, members, Key::Service, service)
+            let service = service_json(alloc, service)?;
+            put_value(alloc, members, Key::Service.name(), service)
         }
         AdminCommand::CreatePolicy { policy } | AdminCommand::UpdatePolicy { policy } => {
             put::<Key, Policy>(alloc, members, Key::Policy, policy)
@@ -135,17 +132,23 @@ fn put_fields(
         }
         AdminCommand::ListPolicies { service } => put(alloc, members, Key::Service, service),
         AdminCommand::PutRole { role } => {
-            put_value(alloc, members, Key::Role.name(), role.json(alloc)?)
+            let role = role.json(alloc)?;
+            put_value(alloc, members, Key::Role.name(), role)
         }
         AdminCommand::PutZone { zone } => {
-            put_value(alloc, members, Key::Zone.name(), zone.json(alloc)?)
+            let zone = zone.json(alloc)?;
+            put_value(alloc, members, Key::Zone.name(), zone)
         }
         AdminCommand::PutTags { id, row } => {
             put(alloc, members, Key::Id, id)?;
-            put_value(alloc, members, Key::Row.name(), row.json(alloc)?)
+            let row = row.json(alloc)?;
+            put_value(alloc, members, Key::Row.name(), row)
         }
         AdminCommand::DeleteTags { id } => put(alloc, members, Key::Id, id),
-        AdminCommand::PutUser { user } => put(alloc, members, Key::User, user),
+        AdminCommand::PutUser { user } => {
+            let user = user_json(alloc, user)?;
+            put_value(alloc, members, Key::User.name(), user)
+        }
         AdminCommand::DeleteService { name }
         | AdminCommand::DeleteRole { name }
         | AdminCommand::DeleteZone { name }

@@ -20,6 +20,7 @@ use serde_json::Value;
 use std::alloc::Global;
 
 /// The JSON of a text, with what is known of its depth; None where it is none.
+#[tactic(auto, using(crate::proofs::Parsed::parsed))]
 fn shallow_json(alloc: Global, text: &[u8]) -> Result<Option<Value>, NoMemory>
     ensures json { IfOk result (λ value. option_map view value ≡ data_of text.now) }
     ensures shallow { IfOk result (λ value. IfSome value (λ v. depth (view v) ≤ max_depth)) }
@@ -37,6 +38,7 @@ fn shallow_json(alloc: Global, text: &[u8]) -> Result<Option<Value>, NoMemory>
 }
 
 /// The command of a value, through its compact text.
+#[tactic(auto, using(crate::proofs::Parsed::parsed))]
 fn command_in(alloc: Global, value: &Value) -> Result<AdminCommand, WireFault>
     requires { depth (view value.now) ≤ max_depth }
     ensures reads { Answers result (reading_in (Some (view value.now))) }
@@ -68,7 +70,7 @@ fn below_command(alloc: Global, fault: WireFault) -> WireFault
 }
 
 /// The ask of a value, or its first fault.
-#[tactic(auto, using(crate::proofs::Refusals::refusals, crate::proofs::Depths::depths))]
+#[tactic(auto, using(crate::proofs::Refusals::refusals, crate::proofs::Depths::depths, crate::proofs::Owned::orders))]
 fn ask_of(alloc: Global, value: &Value) -> Result<Ask, WireFault>
     requires { depth (view value.now) ≤ max_depth }
     ensures reads { Answers result (ask_in (Some (view value.now))) }

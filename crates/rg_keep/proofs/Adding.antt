@@ -147,3 +147,11 @@ tells_gain (Some entries) new a ask n entry is reads room gains = ⊎_elim (λ (
 pub tells_same : (told : Option (List (List ℕ))) (a : Administration) (ask : Ask) (n : ℕ) → MayTell told a ask n told
 tells_same None a ask n = refl
 tells_same (Some entries) a ask n = inl refl
+
+pub ruleset replies = (kept_by_reply, kept_reply, look_unkept, first_of)
+
+pub ruleset entries = (good_ok, good_err, entry_ok)
+
+pub ruleset takes = (takes_none, takes_one, stops_past, stops_bad)
+
+pub ruleset lists = (adds_none, adds_one, gains_none, gains_one, passes_gain)

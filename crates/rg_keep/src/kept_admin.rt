@@ -59,6 +59,7 @@ struct Answered {
 }
 
 /// Answers an ask of a command that is kept where it is accepted. Its record is with the keeper before the reply is there.
+#[tactic(auto, using(crate::proofs::Adding::replies, crate::proofs::Adding::lists, crate::proofs::Passing::passing))]
 fn answer_keeping<P: Keeper>(
     alloc: Global,
     admin: &mut Admin,

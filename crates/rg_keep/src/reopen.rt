@@ -66,6 +66,7 @@ pub(crate) fn answer(alloc: Global, admin: &mut Admin, ask: Ask) -> Result<Admin
 }
 
 /// Answers the ask of an entry, and says whether it is a good one.
+#[tactic(auto, using(crate::proofs::Adding::replies))]
 fn take_ask(alloc: Global, admin: &mut Admin, ask: Ask) -> Result<bool, NoMemory>
     ensures good { IfOk result (λ good. good ≡ is_kept admin.old ask) }
     ensures after { IfOk result (λ good. good ≡ true → admin.new ≡ (stepped admin.old ask).0) }
@@ -79,6 +80,7 @@ fn take_ask(alloc: Global, admin: &mut Admin, ask: Ask) -> Result<bool, NoMemory
 }
 
 /// Takes an entry, and says whether it is a good one.
+#[tactic(auto, using(crate::proofs::Adding::entries))]
 fn take_entry(alloc: Global, admin: &mut Admin, entry: &[u8]) -> Result<bool, NoMemory>
     ensures good { IfOk result (λ good. good ≡ not (is_bad admin.old entry.now)) }
     ensures after { IfOk result (λ good. good ≡ true → admin.new ≡ after_entry admin.old entry.now) }
@@ -94,6 +96,7 @@ fn take_entry(alloc: Global, admin: &mut Admin, entry: &[u8]) -> Result<bool, No
 }
 
 /// Takes the entry at the place, and says whether there was one.
+#[tactic(auto, using(crate::proofs::Adding::takes, crate::proofs::Passing::passing))]
 fn take_at<P: Keeper>(
     alloc: Global,
     admin: &mut Admin,
