@@ -21,6 +21,7 @@ use Rattle.rg_json.specs.Fields.{field, text_at, unless_null, within}
 use Rattle.rg_json.specs.Own.{IsInteger, IsText}
 use Rattle.rg_json.specs.Printing.{text_data, integer_data}
 use Rattle.rg_json.specs.Shape.{text, integer, anything}
+use Rattle.rg_json.specs.Reading.{unless_fault}
 use Rattle.rg_json.specs.Texts.{data_of}
 use Rattle.rg_json.proofs.Again.{get_with, text_again, integer_again}
 use Rattle.rg_json.proofs.Right.{first_right, head, text_right, integer_right}
@@ -36,12 +37,9 @@ use Rattle.rg_wire.proofs.Right.{policy_right}
 use Rattle.rg_cmd_wire.specs.Commands.{command_of, command_shape}
 use Rattle.rg_cmd_wire.specs.Naming.{named, word_of}
 use Rattle.rg_cmd_wire.specs.PrintedRows.{def_data, role_data, tag_row_data, zone_data}
-use Rattle.rg_cmd_wire.specs.Reading.{reading_in, word_at, word_shape}
+use Rattle.rg_cmd_wire.specs.Reading.{after_word, reading_in, reading_named, word_at, word_shape}
 use Rattle.rg_cmd_wire.specs.Rows.{service_of, user_of}
-use Rattle.rg_cmd_wire.specs.declared.command_name.CommandName.{CommandName}
-use Rattle.rg_cmd_wire.specs.declared.command_name.CommandName.TheVariants as the
-use Rattle.rg_cmd_wire.proofs.Refusals.{command_read}
-use Rattle.rg_ask_wire.specs.Asks.{ask_data, ask_members, ask_name, ask_text, command_data, field_members, name_of_command, service_data, user_data, word_data}
+use Rattle.rg_ask_wire.specs.Asks.{ask_data, ask_members, ask_name, ask_text, command_data, field_members, service_data, user_data, word_data, word_of_command}
 use Rattle.rg_ask_wire.specs.Keeping.{is_keeping}
 use Rattle.rg_ask_wire.specs.KeyOrder.{IsCommandInOrder, IsDef, IsInKeyOrder, IsRole, IsService, IsTagRow, IsUser, IsZone}
 use Rattle.rg_ask_wire.specs.Reading.{ask_in, ask_reading, ask_shape, ask_unless, with_command}
@@ -52,28 +50,6 @@ use Rattle.rg_ask_wire.proofs.Rows.{def_again, role_again, service_again, tag_ro
 
 -- ---- the name of a command
 
--- each command is found by its name
-called : (n : CommandName) → named (word_of n) ≡ Some n
-unfolding named word_of
-called the.PutDef = refl
-called the.CreateService = refl
-called the.UpdateService = refl
-called the.DeleteService = refl
-called the.CreatePolicy = refl
-called the.UpdatePolicy = refl
-called the.DeletePolicy = refl
-called the.GetPolicy = refl
-called the.ListPolicies = refl
-called the.PutRole = refl
-called the.DeleteRole = refl
-called the.PutZone = refl
-called the.DeleteZone = refl
-called the.PutTags = refl
-called the.DeleteTags = refl
-called the.PutUser = refl
-called the.DeleteUser = refl
-called the.Download = refl
-
 abbrev IsNamed : AdminCommand → Type 0
 IsNamed c = get (name_of key.Command) (command_data c) ≡ Some (word_data c)
 
@@ -81,20 +57,22 @@ word_right : (c : AdminCommand) → IsNamed c → fault_of word_shape (command_d
 unfolding word_data command_data
 word_right c found = first_right _ _ (head (name_of key.Command) Must text (word_data c) (command_data c) found refl refl) refl
 
-named_so : (c : AdminCommand) → IsNamed c → named (word_at (command_data c)) ≡ Some (name_of_command c)
+word_so : (c : AdminCommand) → IsNamed c → word_at (command_data c) ≡ word_of_command c
 unfolding word_at word_data field
-named_so c found = ap (λ o. named (unwrap_or (option_and_then as_str (option_and_then unless_null o)) [])) found ∙ called (name_of_command c)
+word_so c found = ap (λ o. unwrap_or (option_and_then as_str (option_and_then unless_null o)) []) found
 
 -- ---- commands
 
--- what is to be shown of a command: its fields have no fault, and make the command
+-- what is to be shown of a command: it has its name, and is read from its fields under that name
 record IsRead (c : AdminCommand) : Type 0 where
   pub found : IsNamed c
-  pub right : fault_of (command_shape (name_of_command c)) (command_data c) ≡ None
-  pub again : command_of (name_of_command c) (command_data c) ≡ c
+  pub next : reading_named (Some (command_data c)) (named (word_of_command c)) ≡ Ok c
 
 reads : (c : AdminCommand) → IsRead c → reading_in (Some (command_data c)) ≡ Ok c
-reads c is = command_read (command_data c) (name_of_command c) (word_right c is.found) (named_so c is.found) is.right ∙ ap Ok is.again
+reads c is =
+    ap (λ fault. after_word (Some (command_data c)) (unless_fault (word_at (command_data c)) fault)) (word_right c is.found)
+    ∙ ap (λ w. reading_named (Some (command_data c)) (named w)) (word_so c is.found)
+    ∙ is.next
 
 def_there : (x : ServiceDef) → unless_null (def_data x) ≡ Some (def_data x)
 unfolding def_data
@@ -125,169 +103,154 @@ unfolding tag_row_data
 tag_row_there x = refl
 
 put_def : (x : ServiceDef) → IsDef x → IsRead (PutDef x)
-unfolding command_data field_members name_of_command command_shape command_of name_of
+unfolding command_data field_members word_of_command named word_of command_shape command_of name_of
 put_def x own =
     let at = λ (k : Key). get_with name_of (name_of k) ((key.Command, word_data (PutDef x)) ∷ field_members (PutDef x)) no_members in
     let d = command_data (PutDef x) in
     record {
       found = at key.Command;
-      right = first_right _ _ (head (name_of key.Def) Must service_def_shape (def_data x) d (at key.Def) (def_there x) (def_right x own)) refl;
-      again = ap PutDef (ap service_def_of (within_again (name_of key.Def) (def_data x) d (at key.Def) (def_there x)) ∙ def_again x own);
+      next = ap (unless_fault _) (first_right _ _ (head (name_of key.Def) Must service_def_shape (def_data x) d (at key.Def) (def_there x) (def_right x own)) refl) ∙ ap Ok (ap PutDef (ap service_def_of (within_again (name_of key.Def) (def_data x) d (at key.Def) (def_there x)) ∙ def_again x own));
     }
 
 create_service : (x : ServiceRow) → IsService x → IsRead (CreateService x)
-unfolding command_data field_members name_of_command command_shape command_of name_of
+unfolding command_data field_members word_of_command named word_of command_shape command_of name_of
 create_service x own =
     let at = λ (k : Key). get_with name_of (name_of k) ((key.Command, word_data (CreateService x)) ∷ field_members (CreateService x)) no_members in
     let d = command_data (CreateService x) in
     record {
       found = at key.Command;
-      right = first_right _ _ (head (name_of key.Service) Must service_shape (service_data x) d (at key.Service) (service_there x) (service_right x)) refl;
-      again = ap CreateService (ap service_of (within_again (name_of key.Service) (service_data x) d (at key.Service) (service_there x)) ∙ service_again x own);
+      next = ap (unless_fault _) (first_right _ _ (head (name_of key.Service) Must service_shape (service_data x) d (at key.Service) (service_there x) (service_right x)) refl) ∙ ap Ok (ap CreateService (ap service_of (within_again (name_of key.Service) (service_data x) d (at key.Service) (service_there x)) ∙ service_again x own));
     }
 
 update_service : (x : ServiceRow) → IsService x → IsRead (UpdateService x)
-unfolding command_data field_members name_of_command command_shape command_of name_of
+unfolding command_data field_members word_of_command named word_of command_shape command_of name_of
 update_service x own =
     let at = λ (k : Key). get_with name_of (name_of k) ((key.Command, word_data (UpdateService x)) ∷ field_members (UpdateService x)) no_members in
     let d = command_data (UpdateService x) in
     record {
       found = at key.Command;
-      right = first_right _ _ (head (name_of key.Service) Must service_shape (service_data x) d (at key.Service) (service_there x) (service_right x)) refl;
-      again = ap UpdateService (ap service_of (within_again (name_of key.Service) (service_data x) d (at key.Service) (service_there x)) ∙ service_again x own);
+      next = ap (unless_fault _) (first_right _ _ (head (name_of key.Service) Must service_shape (service_data x) d (at key.Service) (service_there x) (service_right x)) refl) ∙ ap Ok (ap UpdateService (ap service_of (within_again (name_of key.Service) (service_data x) d (at key.Service) (service_there x)) ∙ service_again x own));
     }
 
 create_policy : (x : Policy) → IsPolicy x → IsRead (CreatePolicy x)
-unfolding command_data field_members name_of_command command_shape command_of name_of
+unfolding command_data field_members word_of_command named word_of command_shape command_of name_of
 create_policy x own =
     let at = λ (k : Key). get_with name_of (name_of k) ((key.Command, word_data (CreatePolicy x)) ∷ field_members (CreatePolicy x)) no_members in
     let d = command_data (CreatePolicy x) in
     record {
       found = at key.Command;
-      right = first_right _ _ (head (name_of key.Policy) Must policy_shape (policy_data x) d (at key.Policy) (policy_there x) (policy_right x own)) refl;
-      again = ap CreatePolicy (ap policy_of (within_again (name_of key.Policy) (policy_data x) d (at key.Policy) (policy_there x)) ∙ policy_again x own);
+      next = ap (unless_fault _) (first_right _ _ (head (name_of key.Policy) Must policy_shape (policy_data x) d (at key.Policy) (policy_there x) (policy_right x own)) refl) ∙ ap Ok (ap CreatePolicy (ap policy_of (within_again (name_of key.Policy) (policy_data x) d (at key.Policy) (policy_there x)) ∙ policy_again x own));
     }
 
 update_policy : (x : Policy) → IsPolicy x → IsRead (UpdatePolicy x)
-unfolding command_data field_members name_of_command command_shape command_of name_of
+unfolding command_data field_members word_of_command named word_of command_shape command_of name_of
 update_policy x own =
     let at = λ (k : Key). get_with name_of (name_of k) ((key.Command, word_data (UpdatePolicy x)) ∷ field_members (UpdatePolicy x)) no_members in
     let d = command_data (UpdatePolicy x) in
     record {
       found = at key.Command;
-      right = first_right _ _ (head (name_of key.Policy) Must policy_shape (policy_data x) d (at key.Policy) (policy_there x) (policy_right x own)) refl;
-      again = ap UpdatePolicy (ap policy_of (within_again (name_of key.Policy) (policy_data x) d (at key.Policy) (policy_there x)) ∙ policy_again x own);
+      next = ap (unless_fault _) (first_right _ _ (head (name_of key.Policy) Must policy_shape (policy_data x) d (at key.Policy) (policy_there x) (policy_right x own)) refl) ∙ ap Ok (ap UpdatePolicy (ap policy_of (within_again (name_of key.Policy) (policy_data x) d (at key.Policy) (policy_there x)) ∙ policy_again x own));
     }
 
 put_role : (x : RoleRow) → IsRole x → IsRead (PutRole x)
-unfolding command_data field_members name_of_command command_shape command_of name_of
+unfolding command_data field_members word_of_command named word_of command_shape command_of name_of
 put_role x own =
     let at = λ (k : Key). get_with name_of (name_of k) ((key.Command, word_data (PutRole x)) ∷ field_members (PutRole x)) no_members in
     let d = command_data (PutRole x) in
     record {
       found = at key.Command;
-      right = first_right _ _ (head (name_of key.Role) Must role_shape (role_data x) d (at key.Role) (role_there x) (role_right x)) refl;
-      again = ap PutRole (ap role_of (within_again (name_of key.Role) (role_data x) d (at key.Role) (role_there x)) ∙ role_again x own);
+      next = ap (unless_fault _) (first_right _ _ (head (name_of key.Role) Must role_shape (role_data x) d (at key.Role) (role_there x) (role_right x)) refl) ∙ ap Ok (ap PutRole (ap role_of (within_again (name_of key.Role) (role_data x) d (at key.Role) (role_there x)) ∙ role_again x own));
     }
 
 put_zone : (x : ZoneRow) → IsZone x → IsRead (PutZone x)
-unfolding command_data field_members name_of_command command_shape command_of name_of
+unfolding command_data field_members word_of_command named word_of command_shape command_of name_of
 put_zone x own =
     let at = λ (k : Key). get_with name_of (name_of k) ((key.Command, word_data (PutZone x)) ∷ field_members (PutZone x)) no_members in
     let d = command_data (PutZone x) in
     record {
       found = at key.Command;
-      right = first_right _ _ (head (name_of key.Zone) Must zone_shape (zone_data x) d (at key.Zone) (zone_there x) (zone_right x own)) refl;
-      again = ap PutZone (ap zone_of (within_again (name_of key.Zone) (zone_data x) d (at key.Zone) (zone_there x)) ∙ zone_again x own);
+      next = ap (unless_fault _) (first_right _ _ (head (name_of key.Zone) Must zone_shape (zone_data x) d (at key.Zone) (zone_there x) (zone_right x own)) refl) ∙ ap Ok (ap PutZone (ap zone_of (within_again (name_of key.Zone) (zone_data x) d (at key.Zone) (zone_there x)) ∙ zone_again x own));
     }
 
 put_user : (x : UserRow) → IsUser x → IsRead (PutUser x)
-unfolding command_data field_members name_of_command command_shape command_of name_of
+unfolding command_data field_members word_of_command named word_of command_shape command_of name_of
 put_user x own =
     let at = λ (k : Key). get_with name_of (name_of k) ((key.Command, word_data (PutUser x)) ∷ field_members (PutUser x)) no_members in
     let d = command_data (PutUser x) in
     record {
       found = at key.Command;
-      right = first_right _ _ (head (name_of key.User) Must user_shape (user_data x) d (at key.User) (user_there x) (user_right x)) refl;
-      again = ap PutUser (ap user_of (within_again (name_of key.User) (user_data x) d (at key.User) (user_there x)) ∙ user_again x own);
+      next = ap (unless_fault _) (first_right _ _ (head (name_of key.User) Must user_shape (user_data x) d (at key.User) (user_there x) (user_right x)) refl) ∙ ap Ok (ap PutUser (ap user_of (within_again (name_of key.User) (user_data x) d (at key.User) (user_there x)) ∙ user_again x own));
     }
 
 delete_service : (name : List ℕ) → IsText name → IsRead (DeleteService name)
-unfolding command_data field_members name_of_command command_shape command_of name_of text_data
+unfolding command_data field_members word_of_command named word_of command_shape command_of name_of text_data
 delete_service name own =
     let at = λ (k : Key). get_with name_of (name_of k) ((key.Command, word_data (DeleteService name)) ∷ field_members (DeleteService name)) no_members in
     let d = command_data (DeleteService name) in
     record {
       found = at key.Command;
-      right = first_right _ _ (head (name_of key.Name) Must text (text_data name) d (at key.Name) refl (text_right name)) refl;
-      again = ap DeleteService (text_again (name_of key.Name) name d (at key.Name) own);
+      next = ap (unless_fault _) (first_right _ _ (head (name_of key.Name) Must text (text_data name) d (at key.Name) refl (text_right name)) refl) ∙ ap Ok (ap DeleteService (text_again (name_of key.Name) name d (at key.Name) own));
     }
 
 delete_role : (name : List ℕ) → IsText name → IsRead (DeleteRole name)
-unfolding command_data field_members name_of_command command_shape command_of name_of text_data
+unfolding command_data field_members word_of_command named word_of command_shape command_of name_of text_data
 delete_role name own =
     let at = λ (k : Key). get_with name_of (name_of k) ((key.Command, word_data (DeleteRole name)) ∷ field_members (DeleteRole name)) no_members in
     let d = command_data (DeleteRole name) in
     record {
       found = at key.Command;
-      right = first_right _ _ (head (name_of key.Name) Must text (text_data name) d (at key.Name) refl (text_right name)) refl;
-      again = ap DeleteRole (text_again (name_of key.Name) name d (at key.Name) own);
+      next = ap (unless_fault _) (first_right _ _ (head (name_of key.Name) Must text (text_data name) d (at key.Name) refl (text_right name)) refl) ∙ ap Ok (ap DeleteRole (text_again (name_of key.Name) name d (at key.Name) own));
     }
 
 delete_zone : (name : List ℕ) → IsText name → IsRead (DeleteZone name)
-unfolding command_data field_members name_of_command command_shape command_of name_of text_data
+unfolding command_data field_members word_of_command named word_of command_shape command_of name_of text_data
 delete_zone name own =
     let at = λ (k : Key). get_with name_of (name_of k) ((key.Command, word_data (DeleteZone name)) ∷ field_members (DeleteZone name)) no_members in
     let d = command_data (DeleteZone name) in
     record {
       found = at key.Command;
-      right = first_right _ _ (head (name_of key.Name) Must text (text_data name) d (at key.Name) refl (text_right name)) refl;
-      again = ap DeleteZone (text_again (name_of key.Name) name d (at key.Name) own);
+      next = ap (unless_fault _) (first_right _ _ (head (name_of key.Name) Must text (text_data name) d (at key.Name) refl (text_right name)) refl) ∙ ap Ok (ap DeleteZone (text_again (name_of key.Name) name d (at key.Name) own));
     }
 
 delete_user : (name : List ℕ) → IsText name → IsRead (DeleteUser name)
-unfolding command_data field_members name_of_command command_shape command_of name_of text_data
+unfolding command_data field_members word_of_command named word_of command_shape command_of name_of text_data
 delete_user name own =
     let at = λ (k : Key). get_with name_of (name_of k) ((key.Command, word_data (DeleteUser name)) ∷ field_members (DeleteUser name)) no_members in
     let d = command_data (DeleteUser name) in
     record {
       found = at key.Command;
-      right = first_right _ _ (head (name_of key.Name) Must text (text_data name) d (at key.Name) refl (text_right name)) refl;
-      again = ap DeleteUser (text_again (name_of key.Name) name d (at key.Name) own);
+      next = ap (unless_fault _) (first_right _ _ (head (name_of key.Name) Must text (text_data name) d (at key.Name) refl (text_right name)) refl) ∙ ap Ok (ap DeleteUser (text_again (name_of key.Name) name d (at key.Name) own));
     }
 
 delete_policy : (id : PolicyId) → IsInteger id.0 → IsRead (DeletePolicy id)
-unfolding command_data field_members name_of_command command_shape command_of name_of integer_data
+unfolding command_data field_members word_of_command named word_of command_shape command_of name_of integer_data
 delete_policy id own =
     let at = λ (k : Key). get_with name_of (name_of k) ((key.Command, word_data (DeletePolicy id)) ∷ field_members (DeletePolicy id)) no_members in
     let d = command_data (DeletePolicy id) in
     record {
       found = at key.Command;
-      right = first_right _ _ (head (name_of key.Id) Must integer (integer_data id.0) d (at key.Id) refl (integer_right id.0 own)) refl;
-      again = λ i. DeletePolicy (record { 0 = integer_again (pos 0) (name_of key.Id) id.0 d (at key.Id) own i });
+      next = ap (unless_fault _) (first_right _ _ (head (name_of key.Id) Must integer (integer_data id.0) d (at key.Id) refl (integer_right id.0 own)) refl) ∙ ap Ok (λ i. DeletePolicy (record { 0 = integer_again (pos 0) (name_of key.Id) id.0 d (at key.Id) own i }));
     }
 
 delete_tags : (id : ℤ) → IsInteger id → IsRead (DeleteTags id)
-unfolding command_data field_members name_of_command command_shape command_of name_of integer_data
+unfolding command_data field_members word_of_command named word_of command_shape command_of name_of integer_data
 delete_tags id own =
     let at = λ (k : Key). get_with name_of (name_of k) ((key.Command, word_data (DeleteTags id)) ∷ field_members (DeleteTags id)) no_members in
     let d = command_data (DeleteTags id) in
     record {
       found = at key.Command;
-      right = first_right _ _ (head (name_of key.Id) Must integer (integer_data id) d (at key.Id) refl (integer_right id own)) refl;
-      again = ap DeleteTags (integer_again (pos 0) (name_of key.Id) id d (at key.Id) own);
+      next = ap (unless_fault _) (first_right _ _ (head (name_of key.Id) Must integer (integer_data id) d (at key.Id) refl (integer_right id own)) refl) ∙ ap Ok (ap DeleteTags (integer_again (pos 0) (name_of key.Id) id d (at key.Id) own));
     }
 
 put_tags : (id : ℤ) (row : TagRow) → IsInteger id → IsTagRow row → IsRead (PutTags id row)
-unfolding command_data field_members name_of_command command_shape command_of name_of integer_data
+unfolding command_data field_members word_of_command named word_of command_shape command_of name_of integer_data
 put_tags id row own row_own =
     let at = λ (k : Key). get_with name_of (name_of k) ((key.Command, word_data (PutTags id row)) ∷ field_members (PutTags id row)) no_members in
     let d = command_data (PutTags id row) in
     record {
       found = at key.Command;
-      right = first_right _ _ (head (name_of key.Id) Must integer (integer_data id) d (at key.Id) refl (integer_right id own)) (
-          first_right _ _ (head (name_of key.Row) Must tag_row_shape (tag_row_data row) d (at key.Row) (tag_row_there row) (tag_row_right row row_own)) refl);
-      again = ap₂ PutTags (integer_again (pos 0) (name_of key.Id) id d (at key.Id) own) (ap tag_row_of (within_again (name_of key.Row) (tag_row_data row) d (at key.Row) (tag_row_there row)) ∙ tag_row_again row row_own);
+      next = ap (unless_fault _) (first_right _ _ (head (name_of key.Id) Must integer (integer_data id) d (at key.Id) refl (integer_right id own)) (
+          first_right _ _ (head (name_of key.Row) Must tag_row_shape (tag_row_data row) d (at key.Row) (tag_row_there row) (tag_row_right row row_own)) refl)) ∙ ap Ok (ap₂ PutTags (integer_again (pos 0) (name_of key.Id) id d (at key.Id) own) (ap tag_row_of (within_again (name_of key.Row) (tag_row_data row) d (at key.Row) (tag_row_there row)) ∙ tag_row_again row row_own));
     }
 
 kept_again : (c : AdminCommand) → is_keeping c ≡ true → IsCommandInOrder c → IsRead c

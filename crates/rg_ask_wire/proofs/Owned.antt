@@ -1,5 +1,5 @@
 -- What was read from JSON that is in order is in key order.
-use Rattle.std.proofs.Common.{◌≡◌, ℕ, List, [], ◌∷◌, Option, Some, None, Result, Ok, Err, refl, sym, ap, ◌∙◌, subst}
+use Rattle.std.proofs.Common.{◌≡◌, ℕ, List, [], ◌∷◌, Bool, true, false, cond, bytes_eq, find, Option, Some, None, Result, Ok, Err, refl, sym, ap, ◌∙◌, subst}
 use Rattle.std.specs.Str.{IsUtf8, chars}
 use Rattle.std.proofs.lemmas.Option.{none-some}
 use Rattle.serde_json.specs.Data.{Data}
@@ -13,7 +13,7 @@ use Rattle.rg_zones.specs.declared.row.ZoneService.{ZoneService}
 use Rattle.rg_json.specs.declared.fault.Fault.{Fault}
 use Rattle.rg_json.specs.Faults.{fault_of}
 use Rattle.rg_json.specs.Fields.{list_at, map_at, map_of, text_of, within}
-use Rattle.rg_json.specs.Own.{IsText, OwnList}
+use Rattle.rg_json.specs.Own.{EachOf, IsText, OwnList}
 use Rattle.rg_json.specs.Reading.{reading_of, unless_fault}
 use Rattle.rg_json.proofs.Owned.{own_text}
 use Rattle.rg_wire.specs.declared.key.Key.{Key}
@@ -23,11 +23,9 @@ use Rattle.rg_wire.specs.Names.{name_of}
 use Rattle.rg_wire.specs.Own.{IsInOrder, IsResource, OwnResources}
 use Rattle.rg_wire.specs.Records.{access_type_of, condition_def_of, level_of, mask_type_of, pair_of, policy_resource_of, role_of, service_def_of, subjects_of, tag_of, tag_row_for, tag_row_of, zone_level_of, zone_of, zone_service_of}
 use Rattle.rg_cmd_wire.specs.Commands.{OwnsPolicy, command_of, command_shape}
-use Rattle.rg_cmd_wire.specs.Naming.{named}
+use Rattle.rg_cmd_wire.specs.Naming.{all_names, named, word_of}
 use Rattle.rg_cmd_wire.specs.Reading.{after_word, reading_in, reading_named, word_at, word_shape}
 use Rattle.rg_cmd_wire.specs.Rows.{service_of, user_of}
-use Rattle.rg_cmd_wire.specs.declared.command_name.CommandName.{CommandName}
-use Rattle.rg_cmd_wire.specs.declared.command_name.CommandName.TheVariants as the
 use Rattle.rg_ask_wire.specs.Asks.{ask_name}
 use Rattle.rg_ask_wire.specs.declared.key.AskKey.TheVariants as own
 use Rattle.rg_ask_wire.specs.KeyOrder.{AreInOrder, AreSubjects, IsAccessType, IsCommandInOrder, IsConditionDef, IsDef, IsInKeyOrder, IsLevel, IsMaskType, IsPair, IsRole, IsService, IsTag, IsTagRow, IsUser, IsZone, IsZoneLevel, IsZoneService, OwnLevels, OwnMap, OwnPairs}
@@ -170,27 +168,6 @@ tag_row_own d is = record {
 
 -- ---- commands
 
-taken_in_order : (n : CommandName) (d : Data) → IsOrderly d → OwnsPolicy (command_of n d) → IsCommandInOrder (command_of n d)
-unfolding command_of IsCommandInOrder
-taken_in_order the.PutDef d is owns = def_own _ (within_orderly (name_of key.Def) d is)
-taken_in_order the.CreateService d is owns = service_own _ (within_orderly (name_of key.Service) d is)
-taken_in_order the.UpdateService d is owns = service_own _ (within_orderly (name_of key.Service) d is)
-taken_in_order the.DeleteService d is owns = text_at_own (name_of key.Name) d is
-taken_in_order the.CreatePolicy d is owns = owns
-taken_in_order the.UpdatePolicy d is owns = owns
-taken_in_order the.DeletePolicy d is owns = integer_own (name_of key.Id) d is
-taken_in_order the.GetPolicy d is owns = integer_own (name_of key.Id) d is
-taken_in_order the.ListPolicies d is owns = text_at_own (name_of key.Service) d is
-taken_in_order the.PutRole d is owns = role_own _ (within_orderly (name_of key.Role) d is)
-taken_in_order the.DeleteRole d is owns = text_at_own (name_of key.Name) d is
-taken_in_order the.PutZone d is owns = zone_own _ (within_orderly (name_of key.Zone) d is)
-taken_in_order the.DeleteZone d is owns = text_at_own (name_of key.Name) d is
-taken_in_order the.PutTags d is owns = (integer_own (name_of key.Id) d is, tag_row_own _ (within_orderly (name_of key.Row) d is))
-taken_in_order the.DeleteTags d is owns = integer_own (name_of key.Id) d is
-taken_in_order the.PutUser d is owns = user_own _ (within_orderly (name_of key.User) d is)
-taken_in_order the.DeleteUser d is owns = text_at_own (name_of key.Name) d is
-taken_in_order the.Download d is owns = text_at_own (name_of key.Service) d is
-
 abbrev IsGiven : AdminCommand → Result AdminCommand Fault → Type 0
 IsGiven c (Ok command) = command ≡ c
 IsGiven c (Err fault) = ⊥
@@ -198,20 +175,50 @@ IsGiven c (Err fault) = ⊥
 given : (c : AdminCommand) (r : Result AdminCommand Fault) → r ≡ Ok c → IsGiven c r
 given c r is = subst (IsGiven c) (sym is) refl
 
+either : {N : Type 0} (b : Bool) (n : N) (rest : Option N) (q : Option N → Type 0) → q (Some n) → q rest → q (cond b (Some n) rest)
+either true n rest q here later = here
+either false n rest q here later = later
+
+-- of the items of a list, the one that is found has what each has
+each_found : {N : Type 0} (p : N → Bool) (ns : List N) (q : Option N → Type 0) → q None → EachOf (λ n. q (Some n)) ns → q (find p ns)
+each_found p [] q none all = none
+each_found p (n ∷ ns) q none all = either (p n) n (find p ns) q all.0 (each_found p ns q none all.1)
+
+-- the command that the fields make, unless they have a fault
+made : (c x : AdminCommand) (o : Option Fault) → OwnsPolicy c → (OwnsPolicy x → IsCommandInOrder x) → IsGiven c (unless_fault x o) → IsCommandInOrder c
+made c x None owns f same = subst IsCommandInOrder same (f (subst OwnsPolicy (sym same) owns))
+made c x (Some fault) owns f same = absurd same
+
 -- a command that was read is in key order
+named_in_order : (d : Data) (c : AdminCommand) (word : List ℕ) → IsOrderly d → OwnsPolicy c → IsGiven c (reading_named (Some d) (named word)) → IsCommandInOrder c
+unfolding named command_of command_shape IsCommandInOrder
+named_in_order d c word is owns = each_found (λ name. bytes_eq (word_of name) word) all_names (λ o. IsGiven c (reading_named (Some d) o) → IsCommandInOrder c) (λ same. absurd same) (
+  made c _ _ owns (λ _. def_own _ (within_orderly (name_of key.Def) d is)),
+  made c _ _ owns (λ _. service_own _ (within_orderly (name_of key.Service) d is)),
+  made c _ _ owns (λ _. service_own _ (within_orderly (name_of key.Service) d is)),
+  made c _ _ owns (λ _. text_at_own (name_of key.Name) d is),
+  made c _ _ owns (λ policy. policy),
+  made c _ _ owns (λ policy. policy),
+  made c _ _ owns (λ _. integer_own (name_of key.Id) d is),
+  made c _ _ owns (λ _. integer_own (name_of key.Id) d is),
+  made c _ _ owns (λ _. text_at_own (name_of key.Service) d is),
+  made c _ _ owns (λ _. role_own _ (within_orderly (name_of key.Role) d is)),
+  made c _ _ owns (λ _. text_at_own (name_of key.Name) d is),
+  made c _ _ owns (λ _. zone_own _ (within_orderly (name_of key.Zone) d is)),
+  made c _ _ owns (λ _. text_at_own (name_of key.Name) d is),
+  made c _ _ owns (λ _. (integer_own (name_of key.Id) d is, tag_row_own _ (within_orderly (name_of key.Row) d is))),
+  made c _ _ owns (λ _. integer_own (name_of key.Id) d is),
+  made c _ _ owns (λ _. user_own _ (within_orderly (name_of key.User) d is)),
+  made c _ _ owns (λ _. text_at_own (name_of key.Name) d is),
+  made c _ _ owns (λ _. text_at_own (name_of key.Service) d is),
+  tt,
+)
+
 pub read_in_order : (d : Data) (c : AdminCommand) → IsOrderly d → reading_in (Some d) ≡ Ok c → OwnsPolicy c → IsCommandInOrder c
 read_in_order d c is read owns = go (fault_of word_shape d) (given c (reading_in (Some d)) read)
   where
-    fields : (n : CommandName) (o : Option Fault) → IsGiven c (unless_fault (command_of n d) o) → IsCommandInOrder c
-    fields n None same = subst IsCommandInOrder same (taken_in_order n d is (subst OwnsPolicy (sym same) owns))
-    fields n (Some fault) same = absurd same
-
-    called : (o : Option CommandName) → IsGiven c (reading_named (Some d) o) → IsCommandInOrder c
-    called None same = absurd same
-    called (Some n) same = fields n (fault_of (command_shape n) d) same
-
     go : (o : Option Fault) → IsGiven c (after_word (Some d) (unless_fault (word_at d) o)) → IsCommandInOrder c
-    go None same = called (named (word_at d)) same
+    go None same = named_in_order d c (word_at d) is owns same
     go (Some fault) same = absurd same
 
 -- an ask that was read is in key order

@@ -36,7 +36,6 @@ use Rattle.rg_wire.specs.Printing.{resource_data, resource_members, resources_da
 use Rattle.rg_wire.specs.Shapes.{access_type_shape, condition_def_shape, filter_part_shape, level_shape, mask_part_shape, mask_type_shape, named_shape, options_shape, policy_resource_shape, role_shape, service_shape, service_def_shape, tag_shape, tag_row_shape, user_shape, zone_service_shape, zone_shape}
 use Rattle.rg_cmd_wire.specs.PrintedNames.{name_of as printed_name}
 use Rattle.rg_cmd_wire.specs.PrintedRows.{access_type_data, access_type_members, condition_def_data, condition_def_members, def_data, def_members, filter_part_data, filter_part_members, level_data, level_members, map_data, mask_part_data, mask_part_members, mask_type_data, mask_type_members, name_members, named_data, options_data, options_members, pair_data, pairs_data, role_data, role_members, tag_data, tag_members, tag_row_data, tag_row_members, zone_data, zone_level_data, zone_map_data, zone_members, zone_service_data, zone_service_members}
-use Rattle.rg_cmd_wire.specs.declared.reply_key.ReplyKey.TheVariants.{Wire}
 use Rattle.rg_ask_wire.specs.Asks.{service_data, service_members, user_data, user_members}
 use Rattle.rg_ask_wire.specs.KeyOrder.{IsConditionDef, IsDef, IsLevel, IsPair, IsTag, IsTagRow, IsZone, IsZoneLevel, IsZoneService, OwnLevels, OwnMap, OwnPairs}
 use Rattle.rg_ask_wire.proofs.Maps.{map_right}
@@ -50,7 +49,7 @@ truth_word_right b = refl
 
 named_right : (t : List ℕ) → fault_of named_shape (named_data t) ≡ None
 unfolding named_data name_of printed_name text_data
-named_right t = first_right _ _ (head (name_of key.Name) Must text (text_data t) (named_data t) (get_with printed_name (printed_name (Wire key.Name)) (name_members t) no_members) refl (text_right t)) refl
+named_right t = first_right _ _ (head (name_of key.Name) Must text (text_data t) (named_data t) (get_with printed_name (name_of key.Name) (name_members t) no_members) refl (text_right t)) refl
 
 -- a name that is a text may stand where a map may
 member_right : (t : List ℕ) → fault_of (text_or named_shape) (text_data t) ≡ None
@@ -72,7 +71,7 @@ pairs_right ps own = map_right (λ (p : Pair). p.key) pair_data IsPair text pair
 options_right : (l : Level) → fault_of options_shape (options_data l) ≡ None
 unfolding options_data name_of printed_name
 options_right l =
-    let at = λ (k : Key). get_with printed_name (printed_name (Wire k)) (options_members l) no_members in
+    let at = λ (k : Key). get_with printed_name (name_of k) (options_members l) no_members in
     let d = options_data l in
     first_right _ _ (head (name_of key.WildCard) May truth_word (bool_data l.wild) d (at key.WildCard) refl (truth_word_right l.wild)) (
     first_right _ _ (head (name_of key.IgnoreCase) May truth_word (bool_data l.fold) d (at key.IgnoreCase) refl (truth_word_right l.fold)) refl)
@@ -80,7 +79,7 @@ options_right l =
 level_right : (l : Level) → IsLevel l → fault_of level_shape (level_data l) ≡ None
 unfolding level_data name_of printed_name text_data integer_data options_data
 level_right l own =
-    let at = λ (k : Key). get_with printed_name (printed_name (Wire k)) (level_members l) no_members in
+    let at = λ (k : Key). get_with printed_name (name_of k) (level_members l) no_members in
     let d = level_data l in
     first_right _ _ (head (name_of key.Name) Must text (text_data l.name) d (at key.Name) refl (text_right l.name)) (
     first_right _ _ (head (name_of key.Level) May integer (integer_data l.level) d (at key.Level) refl (integer_right l.level own.level)) (
@@ -93,7 +92,7 @@ level_right l own =
 access_type_right : (a : AccessType) → fault_of access_type_shape (access_type_data a) ≡ None
 unfolding access_type_data name_of printed_name text_data list_data
 access_type_right a =
-    let at = λ (k : Key). get_with printed_name (printed_name (Wire k)) (access_type_members a) no_members in
+    let at = λ (k : Key). get_with printed_name (name_of k) (access_type_members a) no_members in
     let d = access_type_data a in
     first_right _ _ (head (name_of key.Name) Must text (text_data a.name) d (at key.Name) refl (text_right a.name)) (
     first_right _ _ (head (name_of key.ImpliedGrants) May (list_of text) (list_data text_data a.implied) d (at key.ImpliedGrants) refl (texts_right a.implied)) refl)
@@ -101,7 +100,7 @@ access_type_right a =
 condition_def_right : (c : ConditionDef) → IsConditionDef c → fault_of condition_def_shape (condition_def_data c) ≡ None
 unfolding condition_def_data name_of printed_name text_data pairs_data map_data
 condition_def_right c own =
-    let at = λ (k : Key). get_with printed_name (printed_name (Wire k)) (condition_def_members c) no_members in
+    let at = λ (k : Key). get_with printed_name (name_of k) (condition_def_members c) no_members in
     let d = condition_def_data c in
     first_right _ _ (head (name_of key.Name) Must text (text_data c.name) d (at key.Name) refl (text_right c.name)) (
     first_right _ _ (head (name_of key.Evaluator) May text (text_data c.evaluator) d (at key.Evaluator) refl (text_right c.evaluator)) (
@@ -110,7 +109,7 @@ condition_def_right c own =
 mask_type_right : (m : MaskType) → fault_of mask_type_shape (mask_type_data m) ≡ None
 unfolding mask_type_data name_of printed_name text_data
 mask_type_right m =
-    let at = λ (k : Key). get_with printed_name (printed_name (Wire k)) (mask_type_members m) no_members in
+    let at = λ (k : Key). get_with printed_name (name_of k) (mask_type_members m) no_members in
     let d = mask_type_data m in
     first_right _ _ (head (name_of key.Name) Must text (text_data m.name) d (at key.Name) refl (text_right m.name)) (
     first_right _ _ (head (name_of key.Transformer) May text (text_data m.transformer) d (at key.Transformer) refl (text_right m.transformer)) refl)
@@ -121,7 +120,7 @@ names_right ts = list_right named_shape named_data named_right ts
 mask_part_right : (x : ServiceDef) → fault_of mask_part_shape (mask_part_data x) ≡ None
 unfolding mask_part_data name_of printed_name list_data
 mask_part_right x =
-    let at = λ (k : Key). get_with printed_name (printed_name (Wire k)) (mask_part_members x) no_members in
+    let at = λ (k : Key). get_with printed_name (name_of k) (mask_part_members x) no_members in
     let d = mask_part_data x in
     first_right _ _ (head (name_of key.MaskTypes) May (list_of mask_type_shape) (list_data mask_type_data x.masks) d (at key.MaskTypes) refl (list_right mask_type_shape mask_type_data mask_type_right x.masks)) (
     first_right _ _ (head (name_of key.AccessTypes) May (list_of named_shape) (list_data named_data x.mask_access) d (at key.AccessTypes) refl (names_right x.mask_access)) (
@@ -130,7 +129,7 @@ mask_part_right x =
 filter_part_right : (x : ServiceDef) → fault_of filter_part_shape (filter_part_data x) ≡ None
 unfolding filter_part_data name_of printed_name list_data
 filter_part_right x =
-    let at = λ (k : Key). get_with printed_name (printed_name (Wire k)) (filter_part_members x) no_members in
+    let at = λ (k : Key). get_with printed_name (name_of k) (filter_part_members x) no_members in
     let d = filter_part_data x in
     first_right _ _ (head (name_of key.AccessTypes) May (list_of named_shape) (list_data named_data x.filter_access) d (at key.AccessTypes) refl (names_right x.filter_access)) (
     first_right _ _ (head (name_of key.Resources) May (list_of named_shape) (list_data named_data x.filter_levels) d (at key.Resources) refl (names_right x.filter_levels)) refl)
@@ -138,7 +137,7 @@ filter_part_right x =
 pub def_right : (x : ServiceDef) → IsDef x → fault_of service_def_shape (def_data x) ≡ None
 unfolding def_data name_of printed_name text_data list_data mask_part_data filter_part_data
 def_right x own =
-    let at = λ (k : Key). get_with printed_name (printed_name (Wire k)) (def_members x) no_members in
+    let at = λ (k : Key). get_with printed_name (name_of k) (def_members x) no_members in
     let d = def_data x in
     first_right _ _ (head (name_of key.Name) Must text (text_data x.name) d (at key.Name) refl (text_right x.name)) (
     first_right _ _ (head (name_of key.Resources) May (list_of level_shape) (list_data level_data x.levels) d (at key.Resources) refl (own_list_right level_shape level_data IsLevel level_right x.levels own.levels.0)) (
@@ -170,7 +169,7 @@ user_right u =
 pub role_right : (r : RoleRow) → fault_of role_shape (role_data r) ≡ None
 unfolding role_data name_of printed_name text_data list_data
 role_right r =
-    let at = λ (k : Key). get_with printed_name (printed_name (Wire k)) (role_members r) no_members in
+    let at = λ (k : Key). get_with printed_name (name_of k) (role_members r) no_members in
     let d = role_data r in
     first_right _ _ (head (name_of key.Name) Must text (text_data r.name) d (at key.Name) refl (text_right r.name)) (
     first_right _ _ (head (name_of key.Users) May (list_of (text_or named_shape)) (list_data text_data r.users) d (at key.Users) refl (members_right r.users)) (
@@ -189,12 +188,12 @@ zone_map_right ls own = map_right (λ (l : ZoneLevel). l.level) zone_level_data 
 zone_service_right : (s : ZoneService) → IsZoneService s → fault_of zone_service_shape (zone_service_data s) ≡ None
 unfolding zone_service_data name_of printed_name list_data
 zone_service_right s own =
-    first_right _ _ (head (name_of key.Resources) May (list_of (map_of Any (list_of text))) (list_data zone_map_data s.resources) (zone_service_data s) (get_with printed_name (printed_name (Wire key.Resources)) (zone_service_members s) no_members) refl (own_list_right (map_of Any (list_of text)) zone_map_data OwnLevels zone_map_right s.resources own.resources.0)) refl
+    first_right _ _ (head (name_of key.Resources) May (list_of (map_of Any (list_of text))) (list_data zone_map_data s.resources) (zone_service_data s) (get_with printed_name (name_of key.Resources) (zone_service_members s) no_members) refl (own_list_right (map_of Any (list_of text)) zone_map_data OwnLevels zone_map_right s.resources own.resources.0)) refl
 
 pub zone_right : (z : ZoneRow) → IsZone z → fault_of zone_shape (zone_data z) ≡ None
 unfolding zone_data name_of printed_name text_data list_data map_data
 zone_right z own =
-    let at = λ (k : Key). get_with printed_name (printed_name (Wire k)) (zone_members z) no_members in
+    let at = λ (k : Key). get_with printed_name (name_of k) (zone_members z) no_members in
     let d = zone_data z in
     let texts = λ (k : Key) (ts : Listed (List ℕ)) (found : get (name_of k) d ≡ Some (list_data text_data ts)). head (name_of k) May (list_of text) (list_data text_data ts) d found refl (texts_right ts) in
     first_right _ _ (head (name_of key.Name) Must text (text_data z.name) d (at key.Name) refl (text_right z.name)) (
@@ -224,7 +223,7 @@ resources_right rs own = ap (fault_of (map_of Any policy_resource_shape)) (resou
 tag_right : (t : Tag) → IsTag t → fault_of tag_shape (tag_data t) ≡ None
 unfolding tag_data name_of printed_name text_data pairs_data map_data
 tag_right t own =
-    let at = λ (k : Key). get_with printed_name (printed_name (Wire k)) (tag_members t) no_members in
+    let at = λ (k : Key). get_with printed_name (name_of k) (tag_members t) no_members in
     let d = tag_data t in
     first_right _ _ (head (name_of key.Type) Must text (text_data t.kind) d (at key.Type) refl (text_right t.kind)) (
     first_right _ _ (head (name_of key.Attributes) May (map_of Any text) (pairs_data t.attributes) d (at key.Attributes) refl (pairs_right t.attributes own.attributes)) refl)
@@ -232,7 +231,7 @@ tag_right t own =
 pub tag_row_right : (r : TagRow) → IsTagRow r → fault_of tag_row_shape (tag_row_data r) ≡ None
 unfolding tag_row_data name_of printed_name text_data integer_data list_data resources_data
 tag_row_right r own =
-    let at = λ (k : Key). get_with printed_name (printed_name (Wire k)) (tag_row_members r) no_members in
+    let at = λ (k : Key). get_with printed_name (name_of k) (tag_row_members r) no_members in
     let d = tag_row_data r in
     first_right _ _ (head (name_of key.Id) May integer (integer_data r.id) d (at key.Id) refl (integer_right r.id own.id)) (
     first_right _ _ (head (name_of key.ServiceName) Must text (text_data r.service) d (at key.ServiceName) refl (text_right r.service)) (

@@ -35,8 +35,6 @@ use Rattle.rg_wire.specs.Records.{access_type_of, condition_def_of, level_of, ma
 use Rattle.rg_cmd_wire.specs.PrintedNames.{name_of as printed_name}
 use Rattle.rg_cmd_wire.specs.PrintedRows.{access_type_data, access_type_members, condition_def_data, condition_def_members, def_data, def_members, filter_part_data, filter_part_members, level_data, level_members, map_data, mask_part_data, mask_part_members, mask_type_data, mask_type_members, name_members, named_data, named_members, options_data, options_members, pair_data, pairs_data, role_data, role_members, tag_data, tag_members, tag_row_data, tag_row_members, zone_data, zone_level_data, zone_map_data, zone_members, zone_service_data, zone_service_members}
 use Rattle.rg_cmd_wire.specs.Rows.{service_of, user_of}
-use Rattle.rg_cmd_wire.specs.declared.reply_key.ReplyKey.{ReplyKey}
-use Rattle.rg_cmd_wire.specs.declared.reply_key.ReplyKey.TheVariants.{Wire}
 use Rattle.rg_ask_wire.specs.Asks.{service_data, service_members, user_data, user_members}
 use Rattle.rg_ask_wire.specs.KeyOrder.{AreInOrder, AreSubjects, IsAccessType, IsConditionDef, IsDef, IsLevel, IsMaskType, IsPair, IsRole, IsService, IsTag, IsTagRow, IsUser, IsZone, IsZoneLevel, IsZoneService, OwnLevels, OwnMap, OwnPairs}
 use Rattle.rg_ask_wire.proofs.Maps.{map_at_again, map_of_again}
@@ -62,7 +60,7 @@ names_again k ts d found own = own_again member_name text_data IsText name_again
 -- and one that was printed in a map
 named_again : (t : List ℕ) → IsText t → member_name (named_data t) ≡ t
 unfolding text_or_at named_data name_of printed_name
-named_again t own = text_again (name_of key.Name) t (named_data t) (get_with printed_name (printed_name (Wire key.Name)) (name_members t) no_members) own
+named_again t own = text_again (name_of key.Name) t (named_data t) (get_with printed_name (name_of key.Name) (name_members t) no_members) own
 
 named_list_again : (k : List ℕ) (ts : Listed (List ℕ)) (d : Data) → get k d ≡ Some (list_data named_data ts) → OwnList IsText ts → list_at member_name k d ≡ ts
 named_list_again k ts d found own = own_again member_name named_data IsText named_again k ts d found own
@@ -80,7 +78,7 @@ pairs_again k ps d found own = map_at_again (λ (p : Pair). p.key) pair_data IsP
 access_type_again : (a : AccessType) → IsAccessType a → access_type_of (access_type_data a) ≡ a
 unfolding access_type_of access_type_data name_of printed_name
 access_type_again a own =
-    let at = λ (k : Key). get_with printed_name (printed_name (Wire k)) (access_type_members a) no_members in
+    let at = λ (k : Key). get_with printed_name (name_of k) (access_type_members a) no_members in
     let d = access_type_data a in
     λ i. record {
       name = text_again (name_of key.Name) a.name d (at key.Name) own.name i;
@@ -90,7 +88,7 @@ access_type_again a own =
 condition_def_again : (c : ConditionDef) → IsConditionDef c → condition_def_of (condition_def_data c) ≡ c
 unfolding condition_def_of condition_def_data name_of printed_name
 condition_def_again c own =
-    let at = λ (k : Key). get_with printed_name (printed_name (Wire k)) (condition_def_members c) no_members in
+    let at = λ (k : Key). get_with printed_name (name_of k) (condition_def_members c) no_members in
     let d = condition_def_data c in
     λ i. record {
       name = text_again (name_of key.Name) c.name d (at key.Name) own.name i;
@@ -101,7 +99,7 @@ condition_def_again c own =
 mask_type_again : (m : MaskType) → IsMaskType m → mask_type_of (mask_type_data m) ≡ m
 unfolding mask_type_of mask_type_data name_of printed_name
 mask_type_again m own =
-    let at = λ (k : Key). get_with printed_name (printed_name (Wire k)) (mask_type_members m) no_members in
+    let at = λ (k : Key). get_with printed_name (name_of k) (mask_type_members m) no_members in
     let d = mask_type_data m in
     λ i. record {
       name = text_again (name_of key.Name) m.name d (at key.Name) own.name i;
@@ -114,16 +112,16 @@ options_there l = refl
 
 wild_again : (l : Level) → truth_word_at true (name_of key.WildCard) (options_data l) ≡ l.wild
 unfolding options_data name_of printed_name
-wild_again l = truth_again true (name_of key.WildCard) l.wild (options_data l) (get_with printed_name (printed_name (Wire key.WildCard)) (options_members l) no_members)
+wild_again l = truth_again true (name_of key.WildCard) l.wild (options_data l) (get_with printed_name (name_of key.WildCard) (options_members l) no_members)
 
 fold_again : (l : Level) → truth_word_at true (name_of key.IgnoreCase) (options_data l) ≡ l.fold
 unfolding options_data name_of printed_name
-fold_again l = truth_again true (name_of key.IgnoreCase) l.fold (options_data l) (get_with printed_name (printed_name (Wire key.IgnoreCase)) (options_members l) no_members)
+fold_again l = truth_again true (name_of key.IgnoreCase) l.fold (options_data l) (get_with printed_name (name_of key.IgnoreCase) (options_members l) no_members)
 
 level_again : (l : Level) → IsLevel l → level_of (level_data l) ≡ l
 unfolding level_of level_data name_of printed_name
 level_again l own =
-    let at = λ (k : Key). get_with printed_name (printed_name (Wire k)) (level_members l) no_members in
+    let at = λ (k : Key). get_with printed_name (name_of k) (level_members l) no_members in
     let d = level_data l in
     let options = within_again (name_of key.MatcherOptions) (options_data l) d (at key.MatcherOptions) (options_there l) in
     λ i. record {
@@ -154,7 +152,7 @@ record MaskPart (d : ServiceDef) : Type 0 where
 mask_part_again : (d : ServiceDef) → IsDef d → MaskPart d
 unfolding mask_part_data name_of printed_name
 mask_part_again d own =
-    let at = λ (k : Key). get_with printed_name (printed_name (Wire k)) (mask_part_members d) no_members in
+    let at = λ (k : Key). get_with printed_name (name_of k) (mask_part_members d) no_members in
     let m = mask_part_data d in
     record {
       masks = own_again mask_type_of mask_type_data IsMaskType mask_type_again (name_of key.MaskTypes) d.masks m (at key.MaskTypes) own.masks;
@@ -169,7 +167,7 @@ record FilterPart (d : ServiceDef) : Type 0 where
 filter_part_again : (d : ServiceDef) → IsDef d → FilterPart d
 unfolding filter_part_data name_of printed_name
 filter_part_again d own =
-    let at = λ (k : Key). get_with printed_name (printed_name (Wire k)) (filter_part_members d) no_members in
+    let at = λ (k : Key). get_with printed_name (name_of k) (filter_part_members d) no_members in
     let f = filter_part_data d in
     record {
       access = named_list_again (name_of key.AccessTypes) d.filter_access f (at key.AccessTypes) own.filter_access;
@@ -179,7 +177,7 @@ filter_part_again d own =
 pub def_again : (x : ServiceDef) → IsDef x → service_def_of (def_data x) ≡ x
 unfolding service_def_of def_data name_of printed_name
 def_again x own =
-    let at = λ (k : Key). get_with printed_name (printed_name (Wire k)) (def_members x) no_members in
+    let at = λ (k : Key). get_with printed_name (name_of k) (def_members x) no_members in
     let d = def_data x in
     let masks = within_again (name_of key.DataMaskDef) (mask_part_data x) d (at key.DataMaskDef) (masks_there x) in
     let filters = within_again (name_of key.RowFilterDef) (filter_part_data x) d (at key.RowFilterDef) (filters_there x) in
@@ -224,7 +222,7 @@ user_again u own =
 pub role_again : (r : RoleRow) → IsRole r → role_of (role_data r) ≡ r
 unfolding role_of role_data name_of printed_name
 role_again r own =
-    let at = λ (k : Key). get_with printed_name (printed_name (Wire k)) (role_members r) no_members in
+    let at = λ (k : Key). get_with printed_name (name_of k) (role_members r) no_members in
     let d = role_data r in
     λ i. record {
       name = text_again (name_of key.Name) r.name d (at key.Name) own.name i;
@@ -254,7 +252,7 @@ zone_map_again ls own = map_of_again (λ (l : ZoneLevel). l.level) zone_level_da
 zone_service_again : (s : ZoneService) → IsZoneService s → zone_service_of (encode_utf8_all s.service, zone_service_data s) ≡ s
 unfolding zone_service_of zone_service_data name_of printed_name
 zone_service_again s own =
-    let found = get_with printed_name (printed_name (Wire key.Resources)) (zone_service_members s) no_members in
+    let found = get_with printed_name (name_of key.Resources) (zone_service_members s) no_members in
     λ i. record {
       service = own.service i;
       resources = own_again (map_of zone_level_of) zone_map_data OwnLevels zone_map_again (name_of key.Resources) s.resources (zone_service_data s) found own.resources i;
@@ -263,7 +261,7 @@ zone_service_again s own =
 pub zone_again : (z : ZoneRow) → IsZone z → zone_of (zone_data z) ≡ z
 unfolding zone_of zone_data subjects_of name_of printed_name
 zone_again z own =
-    let at = λ (k : Key). get_with printed_name (printed_name (Wire k)) (zone_members z) no_members in
+    let at = λ (k : Key). get_with printed_name (name_of k) (zone_members z) no_members in
     let d = zone_data z in
     λ i. record {
       name = text_again (name_of key.Name) z.name d (at key.Name) own.name i;
@@ -322,7 +320,7 @@ resources_again k rs d found own =
 tag_again : (t : Tag) → IsTag t → tag_of (tag_data t) ≡ t
 unfolding tag_of tag_data name_of printed_name
 tag_again t own =
-    let at = λ (k : Key). get_with printed_name (printed_name (Wire k)) (tag_members t) no_members in
+    let at = λ (k : Key). get_with printed_name (name_of k) (tag_members t) no_members in
     let d = tag_data t in
     λ i. record {
       kind = text_again (name_of key.Type) t.kind d (at key.Type) own.kind i;
@@ -332,7 +330,7 @@ tag_again t own =
 pub tag_row_again : (r : TagRow) → IsTagRow r → tag_row_of (tag_row_data r) ≡ r
 unfolding tag_row_of tag_row_for tag_row_data name_of printed_name
 tag_row_again r own =
-    let at = λ (k : Key). get_with printed_name (printed_name (Wire k)) (tag_row_members r) no_members in
+    let at = λ (k : Key). get_with printed_name (name_of k) (tag_row_members r) no_members in
     let d = tag_row_data r in
     λ i. record {
       id = integer_again (pos 0) (name_of key.Id) r.id d (at key.Id) own.id i;

@@ -13,10 +13,7 @@ use Rattle.rg_json.specs.Printing as named
 use Rattle.rg_wire.specs.declared.key.Key.{Key}
 use Rattle.rg_wire.specs.declared.key.Key.TheVariants as key
 use Rattle.rg_wire.specs.Printing.{object_of, policy_data}
-use Rattle.rg_cmd_wire.specs.Naming.{word_of}
 use Rattle.rg_cmd_wire.specs.PrintedRows.{def_data, role_data, tag_row_data, zone_data}
-use Rattle.rg_cmd_wire.specs.declared.command_name.CommandName.{CommandName}
-use Rattle.rg_cmd_wire.specs.declared.command_name.CommandName.TheVariants as the
 use Rattle.rg_ask_wire.specs.declared.key.AskKey.{AskKey}
 use Rattle.rg_ask_wire.specs.declared.key.AskKey.TheVariants as own
 
@@ -43,25 +40,25 @@ user_data u = object_of (user_members u)
 -- ---- commands
 
 -- what the command is called
-unfoldable pub name_of_command : AdminCommand → CommandName
-name_of_command (PutDef def) = the.PutDef
-name_of_command (CreateService service) = the.CreateService
-name_of_command (UpdateService service) = the.UpdateService
-name_of_command (DeleteService name) = the.DeleteService
-name_of_command (CreatePolicy policy) = the.CreatePolicy
-name_of_command (UpdatePolicy policy) = the.UpdatePolicy
-name_of_command (DeletePolicy id) = the.DeletePolicy
-name_of_command (GetPolicy id) = the.GetPolicy
-name_of_command (ListPolicies service) = the.ListPolicies
-name_of_command (PutRole role) = the.PutRole
-name_of_command (DeleteRole name) = the.DeleteRole
-name_of_command (PutZone zone) = the.PutZone
-name_of_command (DeleteZone name) = the.DeleteZone
-name_of_command (PutTags id row) = the.PutTags
-name_of_command (DeleteTags id) = the.DeleteTags
-name_of_command (PutUser user) = the.PutUser
-name_of_command (DeleteUser name) = the.DeleteUser
-name_of_command (Download service policies_from tags_from roles_from) = the.Download
+unfoldable pub word_of_command : AdminCommand → List ℕ
+word_of_command (PutDef def) = codes "putDef"
+word_of_command (CreateService service) = codes "createService"
+word_of_command (UpdateService service) = codes "updateService"
+word_of_command (DeleteService name) = codes "deleteService"
+word_of_command (CreatePolicy policy) = codes "createPolicy"
+word_of_command (UpdatePolicy policy) = codes "updatePolicy"
+word_of_command (DeletePolicy id) = codes "deletePolicy"
+word_of_command (GetPolicy id) = codes "getPolicy"
+word_of_command (ListPolicies service) = codes "listPolicies"
+word_of_command (PutRole role) = codes "putRole"
+word_of_command (DeleteRole name) = codes "deleteRole"
+word_of_command (PutZone zone) = codes "putZone"
+word_of_command (DeleteZone name) = codes "deleteZone"
+word_of_command (PutTags id row) = codes "putTags"
+word_of_command (DeleteTags id) = codes "deleteTags"
+word_of_command (PutUser user) = codes "putUser"
+word_of_command (DeleteUser name) = codes "deleteUser"
+word_of_command (Download service policies_from tags_from roles_from) = codes "download"
 
 abbrev pub version_data : Version → Data
 version_data v = count_data v.0
@@ -93,7 +90,7 @@ field_members (Download service policies_from tags_from roles_from) =
 
 -- the bytes of its name
 unfoldable pub word_data : AdminCommand → Data
-word_data c = string (word_of (name_of_command c))
+word_data c = string (word_of_command c)
 
 unfoldable pub command_data : AdminCommand → Data
 command_data c = object_of ((key.Command, word_data c) ∷ field_members c)

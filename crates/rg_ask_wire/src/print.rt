@@ -2,11 +2,10 @@
 ghost use Rattle.std.specs.Prelude.{◌≡◌, ◌∷◌, [], IfOk, Ok, true};
 ghost use Rattle.std.specs.Str.{chars, encode_utf8_all};
 ghost use Rattle.serde_json.specs.View.{members_view, view};
-ghost use Rattle.rg_cmd_wire.specs.Naming.{word_of};
 ghost use Rattle.rg_json.specs.Printing.{option_data, with_members};
 ghost use Rattle.rg_wire.specs.declared.key.Key.TheVariants as key;
 ghost use Rattle.rg_wire.specs.Names.{name_of};
-ghost use Rattle.rg_ask_wire.specs.Asks.{ask_data, ask_text, command_data, field_members, name_of_command, service_data, user_data, version_data, word_data};
+ghost use Rattle.rg_ask_wire.specs.Asks.{ask_data, ask_text, command_data, field_members, service_data, user_data, version_data, word_data, word_of_command};
 ghost use Rattle.rg_ask_wire.specs.Keeping.{is_keeping};
 ghost use Rattle.rg_ask_wire.specs.KeyOrder.{IsInKeyOrder};
 ghost use Rattle.rg_ask_wire.specs.Reading.{ask_reading};
@@ -53,9 +52,9 @@ fn version_json(alloc: Global, version: &Option<Version>) -> Result<Value, NoMem
 }
 
 /// What the command is called.
-#[tactic(auto, unfolding(rg_cmd_wire::specs::Naming::word_of, crate::specs::Asks::name_of_command))]
+#[tactic(auto, unfolding(crate::specs::Asks::word_of_command))]
 fn command_word(command: &AdminCommand) -> &'static str
-    ensures { result.now ≡ word_of (name_of_command command.now) }
+    ensures { result.now ≡ word_of_command command.now }
 {
     match command {
         AdminCommand::PutDef { .. } => "putDef",
