@@ -9,6 +9,7 @@ use rg_base::Failed;
 use std::io::{ErrorKind, Read, Write};
 use std::marker::Model;
 use std::net::{Net, TcpListener, TcpStream};
+use std::time::Duration;
 
 /// A link over a stream, which is closed where the link is dropped. It tells no bytes: that the stream gives those of the
 /// client, 0 for a room that isn't empty at their end alone, and hands on those that it takes is trusted.
@@ -65,12 +66,23 @@ impl<S: Read + Write + Send + Drop> Link for TcpLink<S> {
     }
 }
 
+/// How many seconds a read or a write of a link waits for its client at most. One that takes longer fails.
+const PATIENCE: u64 = 30;
+
+// Sets the time limit of reads and writes. A connection that its client has reset already refuses it, and fails at its first call.
+fn with_limit(stream: TcpStream) -> TcpStream {
+    let limit = Some(Duration::from_secs(PATIENCE));
+    let _ = stream.set_read_timeout(limit);
+    let _ = stream.set_write_timeout(limit);
+    stream
+}
+
 // Waits for the next connection. One that a signal interrupts, or that its client gives up before it is accepted, is passed
 // over; such ones without end are a failure.
 fn next_stream(listener: &TcpListener) -> Result<TcpStream, Failed> {
     for _ in 0..u64::MAX {
         match listener.accept() {
-            Ok((stream, _)) => return Ok(stream),
+            Ok((stream, _)) => return Ok(with_limit(stream)),
             Err(error) if is_passed_over(error.kind()) => {}
             Err(_) => return Err(Failed),
         }
