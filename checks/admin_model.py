@@ -360,13 +360,7 @@ class Script:
         self.publish(self.admin.view(self.admin.state["plugin"]))
 
     def work_admin(self, rest, now):
-        actor, space, text = rest.partition(b" ")
-        try:
-            actor = actor.decode("utf-8")
-        except UnicodeDecodeError:
-            raise Bad("an actor that isn't UTF-8")
-        if not space or not model.is_name(actor):
-            raise Bad("no actor")
+        actor, text = actor_and_rest(rest)
         command = taken(reading.read_command(text))
         self.after_the_configuration()
         return compact(self.admin.step(actor, command))
@@ -393,6 +387,17 @@ class Script:
         return model.printed(self.facts, model.decide(self.facts, request), self.serial)
 
 
+def actor_and_rest(text):
+    actor, space, rest = text.partition(b" ")
+    try:
+        actor = actor.decode("utf-8")
+    except UnicodeDecodeError:
+        raise Bad("an actor that isn't UTF-8")
+    if not space or not model.is_name(actor):
+        raise Bad("no actor")
+    return actor, rest
+
+
 def taken(read):
     value, fault = read
     if fault:
@@ -410,11 +415,11 @@ def is_too_long(script):
     return len(script) > LONGEST_SCRIPT or any(len(line) > LONGEST_LINE for line in script.split(b"\n"))
 
 
-def worked(script, now=0):
+def worked(script, now=0, kind=Script):
     """The printed text, the status and the cause of a bad line."""
     if is_too_long(script):
         return "too long\n", 6, None
-    printed, work = [], Script()
+    printed, work = [], kind()
     for number, line in enumerate(lines_of(script), 1):
         try:
             answer = work.work(line, now)
@@ -424,8 +429,8 @@ def worked(script, now=0):
     return "".join(printed), 0, None
 
 
-def main():
-    text, status, cause = worked(sys.stdin.buffer.read())
+def main(kind=Script):
+    text, status, cause = worked(sys.stdin.buffer.read(), kind=kind)
     sys.stdout.buffer.write(text.encode())
     sys.stdout.flush()
     if cause and "--faults" in sys.argv[1:]:

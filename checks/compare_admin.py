@@ -1,6 +1,8 @@
 """Runs `rangerd replay` over made-up scripts of administration, and compares each line with the model.
 
-usage: checks/compare_admin.py PROGRAM SCRIPTS [--seed SEED] [--lines LINES]      (seed 1, 60 lines where not given)
+usage: checks/compare_admin.py PROGRAM SCRIPTS [--seed SEED] [--lines LINES] [--grants]      (seed 1, 60 lines where not given)
+
+With --grants it runs `rangerd grants`, over scripts with grants and revokes.
 
 It stops at the first difference, prints it, and leaves the script in the file that it names. Where PROGRAM is `-` no program is
 run. Printed is how often each command was answered, and how often each of its rules refused; a rule that never did is named.
@@ -16,6 +18,8 @@ import tempfile
 import admin_maker
 import admin_model
 import admin_rules
+import grants_maker
+import grants_model
 import reading
 
 OUT_OF_REACH = {"L1"}  # 2^62 entries
@@ -27,9 +31,13 @@ def ends(making, lines):
     return end.join(lines) + (end if making.maybe(.9) else b"")
 
 
+def kind_of(making):
+    return grants_model.GrantScript if isinstance(making, grants_maker.GrantsMaker) else admin_model.Script
+
+
 def script_of(making, most):
     """The script, the wanted text and status, and what to count."""
-    script, lines, counts = admin_model.Script(), [], []
+    script, lines, counts = kind_of(making)(), [], []
     making.script = script
     printed, status, to_begin = "", 0, making.first_policies()
     while len(lines) < most and status == 0:
@@ -60,6 +68,9 @@ def labels(script, line, answer):
         yield "decide: " + json.loads(answer)["access"]
     if word == "refresh" and answer.startswith("{"):
         yield "refresh: " + next(iter(json.loads(answer)))
+    if word in ("grant", "revoke") and answer.startswith("{"):
+        reply = json.loads(answer)
+        yield word + ": " + reply.get("refused", "a new policy" if reply.get("version") == 1 else "accepted")
     if word != "admin" or not answer.startswith("{"):
         return
     actor, text = line.decode().split(" ", 2)[1:]
@@ -91,8 +102,8 @@ def long_script():
     return (script, *admin_model.worked(script)[:2], ["a script of more changes than a log keeps"])
 
 
-def compare(program, name, script, text, status):
-    ran = subprocess.run([program, "replay"], input=script, capture_output=True)
+def compare(program, command, name, script, text, status):
+    ran = subprocess.run([program, command], input=script, capture_output=True)
     got = ran.stdout.decode("utf-8", "replace")
     if (got, ran.returncode) == (text, status):
         return
@@ -116,20 +127,21 @@ def words():
     parser.add_argument("scripts", type=int)
     parser.add_argument("--seed", type=int, default=1)
     parser.add_argument("--lines", type=int, default=60)
+    parser.add_argument("--grants", action="store_true")
     return parser.parse_args()
 
 
 def main():
     given = words()
-    making, counts = admin_maker.AdminMaker(given.seed), collections.Counter()
+    making, counts = (grants_maker.GrantsMaker if given.grants else admin_maker.AdminMaker)(given.seed), collections.Counter()
     for number in range(given.scripts):
-        script, text, status, labels_here = long_script() if number == 0 else script_of(making, given.lines)
+        script, text, status, labels_here = long_script() if number == 0 and not given.grants else script_of(making, given.lines)
         counts.update(labels_here)
         if given.program == "-":
             # what was worked line by line while it was made has to be what the whole script gives
-            assert admin_model.worked(script)[:2] == (text, status), script.decode("utf-8", "replace")
+            assert admin_model.worked(script, kind=kind_of(making))[:2] == (text, status), script.decode("utf-8", "replace")
         else:
-            compare(given.program, "script %d of seed %d" % (number, given.seed), script, text, status)
+            compare(given.program, "grants" if given.grants else "replay", "script %d of seed %d" % (number, given.seed), script, text, status)
     print("%d scripts %s" % (given.scripts, "made" if given.program == "-" else "agree"))
     for label, count in sorted(counts.items()):
         print("%8d %s" % (count, label))

@@ -1,8 +1,8 @@
 #!/usr/bin/env bash
-# Replays each script of examples/ and compares what is printed with the file beside it, byte for byte. Each script is the one that
-# tools/script.py makes of the source beside it; where there is no Python this isn't looked at.
+# Works each script of examples/, grants.script by `grants` and the others by `replay`, and compares what is printed with the file beside
+# it, byte for byte. Each script is the one that tools/script.py makes of the source beside it; where there is no Python this isn't looked at.
 # usage: checks/examples.sh [PROGRAM]      (the built rangerd where not given)
-# What is wanted was worked out from the rules by checks/admin_model.py, and not taken from the program.
+# What is wanted was worked out from the rules by checks/admin_model.py and checks/grants_model.py, and not taken from the program.
 set -u
 cd "$(dirname "$0")/.." || exit 1
 program=${1:-crates/rangerd/out/rangerd}
@@ -13,9 +13,11 @@ told() {
 }
 for script in examples/*.script; do
   source=${script%.script}.source
+  command=replay
+  if [ "$script" = examples/grants.script ]; then command=grants; fi
   if command -v python3 > /dev/null && ! tools/script.py pack < "$source" | cmp - "$script"; then
     told "$script: not what tools/script.py makes of $source"
-  elif "$program" replay < "$script" | cmp - "${script%.script}.out"; then
+  elif "$program" "$command" < "$script" | cmp - "${script%.script}.out"; then
     passed=$((passed + 1))
   else
     told "$script: not as wanted"

@@ -3,6 +3,7 @@
 import pathlib
 
 import admin_model
+import grants_model
 import model
 import records
 
@@ -235,14 +236,18 @@ def masks_and_filters():
 
 
 def stored_runs():
-    """Every run of `replay` that the gate keeps, and the examples that have their output beside them."""
-    runs = [folder for folder in sorted((TOP / "crates").iterdir()) if (folder / "stdin").exists() and (folder / "stdout").exists()]
-    cases = [(run.name, run / "stdin", run / "stdout", run / "status") for run in runs if (run / "args").read_text().split() == ["replay"]]
-    cases += [(out.name, out.with_suffix(".script"), out, TOP / "none") for out in sorted((TOP / "examples").glob("*.out"))]
+    """Every run of `replay` and of `grants` that the gate keeps, and the examples that have their output beside them."""
+    kinds = {"replay": admin_model.Script, "grants": grants_model.GrantScript}
+    words = lambda folder: (folder / "args").read_text().strip() if (folder / "args").exists() else None
+    cases = [(run.name, kinds[words(run)], run / "stdin", run / "stdout", run / "status")
+             for run in sorted((TOP / "crates").iterdir()) if words(run) in kinds and (run / "stdin").exists()]
+    cases += [(out.name, kinds["grants" if out.stem == "grants" else "replay"], out.with_suffix(".script"), out, TOP / "none")
+              for out in sorted((TOP / "examples").glob("*.out"))]
     assert len(cases) >= 7
-    for name, script, out, status in cases:
-        text, number, cause = admin_model.worked(script.read_bytes())
-        assert (text, number) == (out.read_text(), int(status.read_text()) if status.exists() else 0), (name, cause)
+    for name, kind, script, out, status in cases:
+        text, number, cause = admin_model.worked(script.read_bytes(), kind=kind)
+        wanted = out.read_text() if out.exists() else ""
+        assert (text, number) == (wanted, int(status.read_text()) if status.exists() else 0), (name, cause)
 
 
 EXAMPLES = (resource_policies, resources, additional_maps, schedules_and_conditions, roles, zones, tags, eight_cells, two_tags, tags_in_zones,

@@ -4,8 +4,8 @@
 usage: checks/rows.py [PROGRAM]      (bin/rangerd where not given)
 
 checks/rows has the rows: definitions.json, the definitions that they are over; decisions.jsonl, one decision each with
-what is wanted; unsound.jsonl, facts that break a rule; scripts.json and administration.json, whole scripts with their output
-and status. What is wanted was worked out from docs/RULES.md and docs/FORMATS.md, and not taken from the program.
+what is wanted; unsound.jsonl, facts that break a rule; scripts.json, administration.json and grants.json, whole scripts with
+their output and status. What is wanted was worked out from docs/RULES.md and docs/FORMATS.md, and not taken from the program.
 """
 import json
 import pathlib
@@ -52,7 +52,7 @@ def cases():
         yield f"decision {number}", ["replay"], script.encode(), decision_line(row).encode(), 0
     for number, row in enumerate(lines_of("unsound.jsonl"), 1):
         yield f"unsound facts {number}", ["replay"], facts_line(definitions, row).encode(), b"bad line 1\n", 2
-    for row in (row for name in ("scripts.json", "administration.json") for row in json.loads((ROWS / name).read_text())):
+    for row in (row for name in ("scripts.json", "administration.json", "grants.json") for row in json.loads((ROWS / name).read_text())):
         script = "\n".join(row["script"]).encode("latin-1")
         printed = "".join(line + "\n" for line in row["printed"]).encode()
         yield row["name"], row.get("words", ["replay"]), script, printed, row["status"]

@@ -2,13 +2,15 @@
 use Rattle.std.proofs.Common.{◌≡◌, ◌⊎◌, ◌∙◌, ◌<◌, ◌++◌, arith, ℕ, List, [], Bool, true, false, Option, Some, None, Result, Ok, Err, inl, inr, refl, ap, sym, subst}
 use Rattle.rg_base.specs.declared.numbers.Moment.{Moment}
 use Rattle.rg_run.specs.declared.command.Command.{Command}
-use Rattle.rg_run.specs.declared.command.Command.TheVariants.{Replay, Serve, Drill}
+use Rattle.rg_run.specs.declared.command.Command.TheVariants.{Replay, Serve, Drill, Grants}
 use Rattle.rg_run.specs.declared.status.Status.{Status}
 use Rattle.rg_run.specs.declared.status.Status.TheVariants.{Done, Usage, BadLine, ReadFault, WriteFault, NetFault, TooLong, NoMemory}
 use Rattle.rg_run.specs.Commands.{only_built}
 use Rattle.rg_run.specs.Follow.{Comes, Decided, Output, Script}
+use Rattle.rg_run.specs.Grants.{grants}
 use Rattle.rg_run.specs.Limits.{is_too_long}
 use Rattle.rg_run.specs.Ports.{Ports}
+use Rattle.rg_run.specs.Replay.{replayed}
 use Rattle.rg_run.specs.Runs.{Answers, CountsReads, CountsWrites, EndsIn, Follows, IsEndOf, IsRun, OfStatus, Overran, Stands}
 use Rattle.rg_run.specs.Statuses.{number_of}
 use Rattle.rg_run.specs.Streams.{HasRead, IsAll, Wrote, WrotePrefix}
@@ -105,6 +107,7 @@ undone None p = record { stands = refl; reads = refl; writes = refl }
 undone (Some Replay) p = record { stands = (refl, inl refl); reads = refl; writes = refl }
 undone (Some (Serve address links)) p = record { stands = refl; reads = refl; writes = refl }
 undone (Some (Drill seed policies requests)) p = record { stands = refl; reads = refl; writes = refl }
+undone (Some Grants) p = record { stands = (refl, inl refl); reads = refl; writes = refl }
 
 -- bytes within the limits don't overrun them
 in_limits : (left left' : Option (List ℕ)) (bytes : List ℕ) → left ≡ Some bytes → is_too_long bytes ≡ false → Overran left left' → ⊥
@@ -113,16 +116,17 @@ in_limits left left' bytes told within o =
     let wrong : true ≡ false = sym all ∙ within in absurd (let no : ⊥ = cc in no)
 
 -- no fault and bytes within the limits leave the script's own statuses, and want of memory
-completes : (p q : Ports) (n : ℕ) (status : Status) (bytes : List ℕ) → n ≡ number_of status → IsRun (Answers (Some Replay)) p q status
+completes : {S : Type 0} (script : Script S) (p q : Ports) (n : ℕ) (status : Status) (bytes : List ℕ) → n ≡ number_of status → Stands S script p q status
+    → CountsReads p q status → CountsWrites p q status
     → q.read_faults ≡ p.read_faults → q.write_faults ≡ p.write_faults → p.left ≡ Some bytes → is_too_long bytes ≡ false → (n ≡ 0) ⊎ ((n ≡ 2) ⊎ (n ≡ 9))
-completes p q n Done bytes e run reads writes told within = inl e
-completes p q n BadLine bytes e run reads writes told within = inr (inl e)
-completes p q n NoMemory bytes e run reads writes told within = inr (inr e)
-completes p q n ReadFault bytes e run reads writes told within = absurd (omega (arith, run.reads))
-completes p q n WriteFault bytes e run reads writes told within = absurd (omega (arith, run.writes))
-completes p q n TooLong bytes e run reads writes told within = absurd (in_limits p.left q.left bytes told within run.stands.0)
-completes p q n Usage bytes e run reads writes told within = absurd run.stands
-completes p q n NetFault bytes e run reads writes told within = absurd run.stands
+completes script p q n Done bytes e stands read wrote reads writes told within = inl e
+completes script p q n BadLine bytes e stands read wrote reads writes told within = inr (inl e)
+completes script p q n NoMemory bytes e stands read wrote reads writes told within = inr (inr e)
+completes script p q n ReadFault bytes e stands read wrote reads writes told within = absurd (omega (arith, read))
+completes script p q n WriteFault bytes e stands read wrote reads writes told within = absurd (omega (arith, wrote))
+completes script p q n TooLong bytes e stands read wrote reads writes told within = absurd (in_limits p.left q.left bytes told within stands.0)
+completes script p q n Usage bytes e stands read wrote reads writes told within = absurd stands
+completes script p q n NetFault bytes e stands read wrote reads writes told within = absurd stands
 
 -- a drill whose sink doesn't fail is carried out, or lacks memory
 drilled : (seed policies requests : ℕ) (p q : Ports) (n : ℕ) (status : Status) → n ≡ number_of status → IsRun (Answers (Some (Drill seed policies requests))) p q status
@@ -140,7 +144,8 @@ drilled seed policies requests p q n NetFault e run writes = absurd run.stands
 pub completed : (asked : Option Command) (command : Command) (p q : Ports) (n : ℕ) (status : Status) (bytes : List ℕ) → only_built asked ≡ Some command
     → n ≡ number_of status → IsRun (Answers (only_built asked)) p q status
     → q.read_faults ≡ p.read_faults → q.write_faults ≡ p.write_faults → p.left ≡ Some bytes → is_too_long bytes ≡ false → (n ≡ 0) ⊎ ((n ≡ 2) ⊎ (n ≡ 9))
-completed (Some Replay) command p q n status bytes named e run reads writes told within = completes p q n status bytes e run reads writes told within
+completed (Some Replay) command p q n status bytes named e run reads writes told within = completes replayed p q n status bytes e run.stands run.reads run.writes reads writes told within
+completed (Some Grants) command p q n status bytes named e run reads writes told within = completes grants p q n status bytes e run.stands run.reads run.writes reads writes told within
 completed (Some (Drill seed policies requests)) command p q n status bytes named e run reads writes told within = drilled seed policies requests p q n status e run writes
 completed (Some (Serve address links)) command p q n status bytes named e run reads writes told within = cc
 completed None command p q n status bytes named e run reads writes told within = cc

@@ -9,15 +9,26 @@ use Rattle.rg_cmd.specs.declared.ask.AdminReply.{AdminReply}
 use Rattle.rg_cmd.specs.declared.ask.Ask.{Ask}
 use Rattle.rg_machine.specs.Steps.{step}
 use Rattle.rg_publish.specs.Passes.{Ends, decision_of}
+use Rattle.rg_machine.specs.Logs.{Administration}
 use Rattle.rg_running.specs.Running.{IsRefreshed, Running, asked, newest}
+use Rattle.rg_grant.specs.Steps.{granted}
+use Rattle.rg_grant.specs.declared.ask.GrantAsk.{GrantAsk}
 use Rattle.rg_run.specs.declared.replay.Stage.TheVariants as state
 use Rattle.rg_run.specs.Follow.{IsWorked}
+use Rattle.rg_run.specs.Grants.{ask_work}
 use Rattle.rg_run.specs.Replay.{admin_work, published_facts, refresh_line, refresh_work, refreshed_from, reply_line}
 
 pub asked_work : (r later : Running) (ask : Ask) (reply : AdminReply) (text text' : List ℕ) → later ≡ asked r ask → reply ≡ (step r.admin ask).1 → text' ≡ text ++ reply_line reply
     → IsWorked (admin_work (state.Config r) ask) (state.Config later) text text'
 unfolding admin_work
 asked_work r later ask reply text text' now answers printed = (ap state.Config now, printed ∙ ap (λ a. text ++ reply_line a) answers)
+
+-- the same of an administration with grants
+pub granted_work : (a later : Administration) (ask : GrantAsk) (reply : AdminReply) (text text' : List ℕ) → (later, reply) ≡ granted a ask → text' ≡ text ++ reply_line reply
+    → IsWorked (ask_work (Some a) ask) (Some later) text text'
+unfolding ask_work
+granted_work a later ask reply text text' is printed =
+    (ap (λ (r : Administration × AdminReply). Some r.0) is, printed ∙ ap (λ (r : Administration × AdminReply). text ++ reply_line r.1) is)
 
 pub refreshed_work : (r later : Running) (serial : Option Serial) (text text' : List ℕ) → Ends r.published (λ p. IsRefreshed r p serial later)
     → text' ≡ text ++ refresh_line serial → IsWorked (refresh_work (state.Config r)) (state.Config later) text text'

@@ -5,7 +5,7 @@ use Rattle.std.specs.Char.{is_ascii_digit}
 use Rattle.std.specs.Str.{bytes_eq, chars}
 use Rattle.std.specs.Str.Parse.{digits_value}
 use Rattle.rg_run.specs.declared.command.Command.{Command}
-use Rattle.rg_run.specs.declared.command.Command.TheVariants.{Replay, Serve, Drill}
+use Rattle.rg_run.specs.declared.command.Command.TheVariants.{Replay, Serve, Drill, Grants}
 
 abbrev pub has_dash : List ℕ → Bool
 has_dash [] = false
@@ -47,11 +47,16 @@ abbrev pub drill_of : List (List ℕ) → Option Command
 drill_of (seed ∷ policies ∷ requests ∷ []) = drill_by (number_in 0 4294967295 seed) (number_in 0 5000 policies) (number_in 0 100000 requests)
 drill_of _ = None
 
+abbrev pub grants_of : List (List ℕ) → Option Command
+grants_of [] = Some Grants
+grants_of _ = None
+
 -- the first word names the command
 unfoldable pub named : List ℕ → List (List ℕ) → Option Command
 named word parts = if bytes_eq word (codes "replay") then replay_of parts else (
     if bytes_eq word (codes "serve") then serve_of parts else (
-    if bytes_eq word (codes "drill") then drill_of parts else None))
+    if bytes_eq word (codes "drill") then drill_of parts else (
+    if bytes_eq word (codes "grants") then grants_of parts else None)))
 
 abbrev pub command_from : List (List ℕ) → Option Command
 command_from [] = None
@@ -65,9 +70,11 @@ command_of words = if list_all is_plain words then command_from words else None
 abbrev pub only_built : Option Command → Option Command
 only_built (Some Replay) = Some Replay
 only_built (Some (Drill seed policies requests)) = Some (Drill seed policies requests)
+only_built (Some Grants) = Some Grants
 only_built _ = None
 
 -- the commands that read a script
 abbrev pub reads : Option Command → Bool
 reads (Some Replay) = true
+reads (Some Grants) = true
 reads _ = false

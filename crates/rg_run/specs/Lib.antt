@@ -1,6 +1,7 @@
 pub mod CommandLine
 pub mod Commands
 pub mod Follow
+pub mod Grants
 pub mod Limits
 pub mod Moments
 pub mod Ports

@@ -44,7 +44,7 @@ refresh_line (Some serial) = codes "{\"published\":" ++ (decimal serial.0 ++ cod
 -- ---- the work of a line in a state; None for a bad line
 
 -- nothing is printed or decided
-abbrev pub quiet : State → Work State
+abbrev pub quiet : {S : Type 0} → S → Work S
 quiet s = record { text = []; state = s; decided = [] }
 
 -- this is printed, and nothing is decided
@@ -87,7 +87,7 @@ newest_of (state.Config r) = newest r
 abbrev pub decision_by_newest : State → AccessRequest → Option Decision
 decision_by_newest s q = option_map (λ p. decision_of p q) (newest_of s)
 
-abbrev pub deciding : State → AccessRequest → Decision → Work State
+abbrev pub deciding : {S : Type 0} → S → AccessRequest → Decision → Work S
 deciding s q d = record { text = decision_line d; state = s; decided = record { request = q; decision = d } ∷ [] }
 
 unfoldable pub decide_work : State → AccessRequest → Option (Work State)

@@ -4,7 +4,7 @@ ghost use Rattle.std.specs.Char.{is_ascii_digit};
 ghost use Rattle.std.specs.List.{list_all};
 ghost use Rattle.clap.specs.Words.{app_of, found_of, matches_of, rows_of};
 ghost use Rattle.rg_run.specs.CommandLine.{words_app};
-ghost use Rattle.rg_run.specs.Commands.{command_of, drill_of, is_numeral, is_plain, named, number_in, number_of, replay_of, serve_of};
+ghost use Rattle.rg_run.specs.Commands.{command_of, drill_of, grants_of, is_numeral, is_plain, named, number_in, number_of, replay_of, serve_of};
 
 use clap::{Arg, ArgAction, ArgMatches};
 use rg_base::{NoMemory, Text};
@@ -26,6 +26,8 @@ pub enum Command {
         policies: u32,
         requests: u32,
     },
+    /// Reads a script of grants to its end, and then works it line by line.
+    Grants,
 }
 
 /// Whether the word is neither an option nor `help`.
@@ -109,6 +111,15 @@ fn drill_of(parts: &[&str]) -> Option<Command>
     })
 }
 
+fn grants_of(parts: &[&str]) -> Option<Command>
+    ensures { result ≡ grants_of (map (λ part. part.now) parts.now) }
+{
+    match parts {
+        [] => Some(Command::Grants),
+        _ => None,
+    }
+}
+
 /// The command of this name with these parts.
 #[tactic(auto, unfolding(crate::specs::Commands::named))]
 fn named(alloc: Global, word: &str, parts: &[&str]) -> Result<Option<Command>, NoMemory>
@@ -118,6 +129,7 @@ fn named(alloc: Global, word: &str, parts: &[&str]) -> Result<Option<Command>, N
         "replay" => Ok(replay_of(parts)),
         "serve" => serve_of(alloc, parts),
         "drill" => Ok(drill_of(parts)),
+        "grants" => Ok(grants_of(parts)),
         _ => Ok(None),
     }
 }

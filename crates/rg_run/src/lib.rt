@@ -3,6 +3,7 @@
 
 mod command;
 mod follow;
+mod grants;
 mod machine;
 mod program;
 mod reading;

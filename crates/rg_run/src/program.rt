@@ -9,6 +9,7 @@ ghost use Rattle.rg_run.specs.Runs.{Answers, Drilled, EndsIn, IsRun, OfStatus, S
 
 use crate::command::{Command, command_of};
 use crate::follow::{Worker, follow};
+use crate::grants::Grants;
 use crate::reading::{Stop, read_all};
 use crate::replay::{Replay, Stage};
 use crate::status::Status;
@@ -112,10 +113,16 @@ fn answer<R: Wait, S: Source, K: Sink, C: Clock>(
                 requests,
             },
         ) => drill(rt, alloc, *seed, *policies, *requests, sink),
+        Some(Command::Grants) => {
+            let mut grants = Grants { granting: None };
+            let status = work_script(alloc, &mut grants, source, sink, clock);
+            drop(grants);
+            status
+        }
         // `serve` isn't built yet.
         _ => match write_all(
             sink,
-            b"usage: rangerd replay | serve ADDRESS LINKS | drill SEED POLICIES REQUESTS\n",
+            b"usage: rangerd replay | serve ADDRESS LINKS | drill SEED POLICIES REQUESTS | grants\n",
         ) {
             Ok(()) => Status::Usage,
             Err(_) => Status::WriteFault,

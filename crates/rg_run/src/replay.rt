@@ -84,7 +84,11 @@ impl<'a, R: Wait> Model for Replay<'a, R> {
 
 /// Adds the decision line.
 #[tactic(auto, unfolding(crate::specs::Replay::decision_line))]
-fn add_decision(alloc: Global, text: &mut String, decision: &Decision) -> Result<(), NoMemory>
+pub(crate) fn add_decision(
+    alloc: Global,
+    text: &mut String,
+    decision: &Decision,
+) -> Result<(), NoMemory>
     ensures { OnOk result (string_bytes text.new ≡ string_bytes text.old ++ decision_line decision.now) }
 {
     let printed = print_decision(alloc, decision)?;
@@ -104,7 +108,7 @@ fn spelled(alloc: Global, reply: AdminReply) -> Result<Text, NoMemory>
 
 /// Adds the line of a reply.
 #[tactic(auto, unfolding(crate::specs::Replay::reply_line))]
-fn add_reply(alloc: Global, text: &mut String, reply: AdminReply) -> Result<(), NoMemory>
+pub(crate) fn add_reply(alloc: Global, text: &mut String, reply: AdminReply) -> Result<(), NoMemory>
     ensures { OnOk result (string_bytes text.new ≡ string_bytes text.old ++ reply_line reply) }
 {
     let printed = spelled(alloc, reply)?;

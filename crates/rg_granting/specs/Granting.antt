@@ -1,0 +1,20 @@
+-- An administration with grants: what starts it, and what its plugin decides.
+use Rattle.std.specs.Prelude.{Option, Some, None, option_map}
+use Rattle.rg_policy.specs.declared.request.AccessRequest.{AccessRequest}
+use Rattle.rg_facts.specs.Texts.{decide}
+use Rattle.rg_facts.specs.declared.decision.Decision.{Decision}
+use Rattle.rg_facts.specs.declared.facts.Facts.{Facts}
+use Rattle.rg_cmd.specs.declared.config.Config.{Config}
+use Rattle.rg_cmd.specs.declared.rule.Rule.{Rule}
+use Rattle.rg_machine.specs.Logs.{Administration}
+use Rattle.rg_machine.specs.Views.{view}
+use Rattle.rg_admin.specs.Starting.{started}
+
+-- what a configuration starts; None where it breaks a rule
+abbrev pub started_unless : Option Rule → Config → Option Administration
+started_unless None config = Some (started config)
+started_unless (Some rule) config = None
+
+-- the decision over what the plugin sees of the administration as it is; nothing is published, so the serial is 0
+abbrev pub decision_now : Administration → AccessRequest → Option Decision
+decision_now a q = option_map (λ (facts : Facts). decide facts q (record { 0 = 0 })) (view a a.state.plugin)

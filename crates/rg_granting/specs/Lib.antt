@@ -1,0 +1,3 @@
+pub mod Granting
+pub mod Held
+pub mod Lines

@@ -1,0 +1,187 @@
+// Two threads grant by one administration, each through a seat of its own, to 50 users each. Printed are the grants that were
+// accepted, the items for the users of each thread, all items of the one policy, and the entries of the history.
+#![tactic(auto)]
+
+ghost use Rattle.std.specs.Prelude.{◌≡◌};
+
+use anyhow::{Context, Result, anyhow};
+use rg_admin::Admin;
+use rg_base::{NoMemory, Text};
+use rg_cmd::{AdminReply, Ask};
+use rg_cmd_wire::{read_command, read_config};
+use rg_grant::{GrantAsk, GrantDesk, read_grant};
+use rg_policy::Item;
+use rg_turn::{Seat, Turn};
+use std::alloc::Global;
+use std::sync::Wait;
+use std::thread;
+use std::thread::Threads;
+
+const CONFIG: &str =
+    r#"{"admins":["root"],"plugin":"hive1","serviceDefs":[{"name":"hive","resources":[{"name":"database"}],"accessTypes":[{"name":"select"}]}],"services":[{"name":"hive1","type":"hive"}]}"#;
+
+const CREATION: &str =
+    r#"{"command":"createPolicy","policy":{"service":"hive1","name":"p1","resources":{"database":{"values":["sales"]}},"policyItems":[{"users":["ann"],"accesses":[{"type":"select"}]}]}}"#;
+
+/// How many users each thread grants to.
+const USERS: u32 = 50;
+
+fn root(alloc: Global) -> Option<Text> {
+    match Text::copy_of(alloc, "root") {
+        Ok(actor) => Some(actor),
+        Err(_) => None,
+    }
+}
+
+/// The administration that the configuration starts.
+fn started(alloc: Global) -> Option<GrantDesk> {
+    match read_config(alloc, CONFIG.as_bytes()) {
+        Ok(config) => match Admin::start(alloc, config) {
+            Ok(admin) => Some(GrantDesk::new(admin)),
+            Err(_) => None,
+        },
+        Err(_) => None,
+    }
+}
+
+/// The creation of the one policy.
+fn creation(alloc: Global) -> Option<GrantAsk> {
+    let actor = root(alloc)?;
+    match read_command(alloc, CREATION.as_bytes()) {
+        Ok(command) => Some(GrantAsk::Plain(Ask { actor, command })),
+        Err(_) => None,
+    }
+}
+
+fn grant_in(alloc: Global, json: &str) -> Option<GrantAsk> {
+    let actor = root(alloc)?;
+    match read_grant(alloc, json.as_bytes()) {
+        Ok(row) => Some(GrantAsk::Grant { actor, row }),
+        Err(_) => None,
+    }
+}
+
+/// The grant of select on sales to the user of this name and number.
+fn grant_to(alloc: Global, name: &str, number: u32) -> Option<GrantAsk> {
+    let json = format!(in alloc;
+        "{{\"service\":\"hive1\",\"resources\":{{\"database\":{{\"values\":[\"sales\"]}}}},\"users\":[\"{name}{number}\"],\"accessTypes\":[\"select\"]}}"
+    );
+    match json {
+        Ok(json) => grant_in(alloc, json.as_str()),
+        Err(_) => None,
+    }
+}
+
+/// Whether the reply keeps a policy. The reply is let go.
+fn is_kept(reply: Result<AdminReply, NoMemory>) -> bool {
+    match reply {
+        Ok(reply) => matches!(&reply, AdminReply::Kept { id: _, version: _ }),
+        Err(_) => false,
+    }
+}
+
+/// Grants to all users of this name, and counts the grants that are kept.
+fn granted_by<R: Wait>(
+    rt: &R,
+    alloc: Global,
+    turn: &Turn<GrantDesk>,
+    mut seat: Seat<GrantDesk>,
+    name: &str,
+) -> (Seat<GrantDesk>, u32)
+    requires { seat.turn ≡ turn.now.turn }
+    ensures { result.0.turn ≡ seat.turn }
+{
+    let mut kept: u32 = 0;
+    for number in 0..USERS {
+        if let Some(ask) = grant_to(alloc, name, number) {
+            if is_kept(turn.call(rt, alloc, &mut seat, ask)) {
+                kept = kept.wrapping_add(1);
+            }
+        }
+    }
+    (seat, kept)
+}
+
+type Worked = (Seat<GrantDesk>, u32);
+
+/// Two threads grant at once.
+fn granted_by_two<R: Threads + Wait + Sync>(
+    rt: &R,
+    alloc: Global,
+    turn: &Turn<GrantDesk>,
+    one: Seat<GrantDesk>,
+    two: Seat<GrantDesk>,
+) -> (Worked, Worked)
+    requires { (one.turn ≡ turn.now.turn) × (two.turn ≡ turn.now.turn) }
+    ensures { (result.0.0.turn ≡ turn.now.turn) × (result.1.0.turn ≡ turn.now.turn) }
+{
+    thread::join(
+        rt,
+        || -> Worked
+            requires { one.turn ≡ turn.now.turn }
+            ensures { result.0.turn ≡ turn.exit.now.turn }
+        { granted_by(rt, alloc, turn, one, "a") },
+        || -> Worked
+            requires { two.turn ≡ turn.now.turn }
+            ensures { result.0.turn ≡ turn.exit.now.turn }
+        { granted_by(rt, alloc, turn, two, "b") },
+    )
+}
+
+/// Whether the item is for one user, whose name begins so.
+fn is_for(item: &Item, name: &str) -> bool {
+    match item.users.as_slice() {
+        [user] => user.as_str().starts_with(name),
+        _ => false,
+    }
+}
+
+/// The allow items of the first policy: those for users of each thread, and all.
+fn items_of_first(desk: &GrantDesk) -> (usize, usize, usize) {
+    let Some(policy) = desk.admin.state().policies.as_slice().first() else {
+        return (0, 0, 0);
+    };
+    let items = policy.items.as_slice();
+    (
+        items.iter().filter(|item| is_for(item, "a")).count(),
+        items.iter().filter(|item| is_for(item, "b")).count(),
+        items.len(),
+    )
+}
+
+/// The administration with its one policy.
+fn with_policy(alloc: Global) -> Option<GrantDesk> {
+    let mut desk = started(alloc)?;
+    let created = match creation(alloc) {
+        Some(ask) => is_kept(desk.step(alloc, ask)),
+        None => false,
+    };
+    if created {
+        Some(desk)
+    } else {
+        drop(desk);
+        None
+    }
+}
+
+fn main(rt: HostRuntime) -> Result<()> {
+    let alloc = rt.alloc();
+    let desk = with_policy(alloc).context("there is no policy")?;
+    let Ok((turn, mut seats)) = Turn::new(alloc, desk, 2) else {
+        return Err(anyhow!("memory was refused"));
+    };
+    let (Some(one), Some(two)) = (seats.pop(), seats.pop()) else {
+        return Err(anyhow!("there are two seats"));
+    };
+    let ((one, kept), (two, others)) = granted_by_two(&rt, alloc, &turn, one, two);
+    if seats.push(one).is_err() || seats.push(two).is_err() {
+        return Err(anyhow!("memory was refused"));
+    }
+    let Ok((desk, past)) = turn.close(alloc, seats) else {
+        return Err(anyhow!("a turn is never refused its end"));
+    };
+    let (for_a, for_b, all) = items_of_first(&desk);
+    let entries = past.entries();
+    println!(rt; "granted={kept}+{others} appended={for_a}+{for_b} items={all} entries={entries}")?;
+    Ok(())
+}
