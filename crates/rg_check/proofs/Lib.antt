@@ -1,0 +1,4 @@
+pub mod Agreeing
+pub mod Naming
+pub mod Starts
+pub mod Walks

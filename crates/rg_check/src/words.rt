@@ -1,0 +1,273 @@
+// Causes in words.
+ghost use Rattle.std.specs.Prelude.{◌≡◌, ◌++◌, IfOk, codes, string_bytes};
+ghost use Rattle.std.specs.Fmt.{signed_decimal};
+ghost use Rattle.rg_cmd.specs.declared.rule.Rule.TheVariants as rule;
+ghost use Rattle.rg_validate.specs.Definitions.{definition_rule};
+ghost use Rattle.rg_script.specs.declared.cause.Cause.TheVariants.{OutOfPlace};
+ghost use Rattle.rg_check.specs.Checking.{kind_at};
+ghost use Rattle.rg_check.specs.Causes.{at_place, broken_text, cause_text, json_text, misplaced_text, no_word_text, policy_rule, role_text, standing, tag_row_rule, unsound_text, wire_name, zone_rule};
+
+use crate::kind::LineKind;
+use crate::meanings::meaning;
+use rg_base::{Moment, NoMemory, PolicyId, Text, is_empty};
+use rg_cmd::Rule;
+use rg_roles::RoleFault;
+use rg_script::{Cause, Place};
+use rg_sound::Unsound;
+use rg_wire::WireKind;
+use std::alloc::Global;
+
+/// The text, in memory of its own.
+fn owned(alloc: Global, text: &str) -> Result<String, NoMemory>
+    ensures { IfOk result (λ s. string_bytes s ≡ text.now) }
+{
+    Ok(String::from_str(alloc, text)?)
+}
+
+// ---- a line that isn't read, or stands out of place
+
+/// What a line is that begins with no word of a script, or whose word isn't followed by what it needs.
+#[tactic(auto, unfolding(crate::specs::Causes::no_word_text))]
+fn no_word() -> &'static str
+    ensures { result.now ≡ no_word_text }
+{
+    "none of facts JSON, config JSON, admin ACTOR JSON, refresh and decide JSON"
+}
+
+#[tactic(auto, unfolding(crate::specs::Causes::wire_name))]
+fn wire_name(kind: WireKind) -> &'static str
+    ensures { result.now ≡ wire_name kind }
+{
+    match kind {
+        WireKind::Syntax => "syntax",
+        WireKind::Mistyped => "type",
+        WireKind::Missing => "missing",
+        WireKind::Range => "range",
+    }
+}
+
+/// The fault of a JSON text; the empty path stands for the whole.
+#[tactic(auto, unfolding(crate::specs::Causes::json_text))]
+fn json_words(alloc: Global, path: &Text, kind: WireKind) -> Result<String, NoMemory>
+    ensures { IfOk result (λ s. string_bytes s ≡ json_text path.now kind) }
+{
+    let kind = wire_name(kind);
+    let path = path.as_str();
+    if is_empty(path) {
+        return Ok(format!(in alloc; "JSON: {kind}")?);
+    }
+    Ok(format!(in alloc; "{path}: {kind}")?)
+}
+
+#[tactic(auto, unfolding(crate::specs::Causes::standing))]
+fn standing(place: Place, kind: LineKind) -> &'static str
+    ensures { result.now ≡ standing place kind }
+{
+    match place {
+        Place::Start => match kind {
+            LineKind::Decide => "before facts or config",
+            _ => "before config",
+        },
+        Place::Facts => "after facts",
+        Place::Config => "after config",
+    }
+}
+
+#[tactic(auto, unfolding(crate::specs::Causes::misplaced_text))]
+fn misplaced_words(alloc: Global, place: Place, kind: LineKind) -> Result<String, NoMemory>
+    ensures { IfOk result (λ s. string_bytes s ≡ misplaced_text place kind) }
+{
+    let word = kind.word();
+    let standing = standing(place, kind);
+    Ok(format!(in alloc; "{word} {standing}")?)
+}
+
+// ---- a rule that is broken
+
+/// Who breaks which rule, and what it asks.
+#[tactic(auto, unfolding(crate::specs::Causes::broken_text))]
+fn broken(alloc: Global, who: &str, rule: Rule) -> Result<String, NoMemory>
+    ensures { IfOk result (λ s. string_bytes s ≡ broken_text who.now rule) }
+{
+    let name = rule.name();
+    let meaning = meaning(rule);
+    Ok(format!(in alloc; "{who} breaks {name} ({meaning})")?)
+}
+
+fn definition_rule(number: u8) -> Rule
+    ensures { result ≡ definition_rule number }
+{
+    match number {
+        1 => Rule::S1,
+        2 => Rule::S2,
+        3 => Rule::S3,
+        4 => Rule::S4,
+        5 => Rule::S5,
+        6 => Rule::S6,
+        7 => Rule::S7,
+        _ => Rule::S8,
+    }
+}
+
+fn policy_rule(number: u8) -> Rule
+    ensures { result ≡ policy_rule number }
+{
+    match number {
+        3 => Rule::V3,
+        4 => Rule::V4,
+        5 => Rule::V5,
+        6 => Rule::V6,
+        7 => Rule::V7,
+        8 => Rule::V8,
+        9 => Rule::V9,
+        10 => Rule::V10,
+        11 => Rule::V11,
+        12 => Rule::V12,
+        _ => Rule::V14,
+    }
+}
+
+fn zone_rule(number: u8) -> Rule
+    ensures { result ≡ zone_rule number }
+{
+    match number {
+        2 => Rule::Z2,
+        3 => Rule::Z3,
+        4 => Rule::Z4,
+        _ => Rule::Z5,
+    }
+}
+
+fn tag_row_rule(number: u8) -> Rule
+    ensures { result ≡ tag_row_rule number }
+{
+    match number {
+        2 => Rule::G2,
+        _ => Rule::G3,
+    }
+}
+
+// ---- facts that aren't sound
+
+/// An item of the list at this path.
+#[tactic(auto, unfolding(crate::specs::Causes::at_place))]
+fn at_place(alloc: Global, path: &str, place: u64) -> Result<String, NoMemory>
+    ensures { IfOk result (λ s. string_bytes s ≡ at_place path.now place) }
+{
+    Ok(format!(in alloc; "{path}/{place}")?)
+}
+
+/// What is wrong with the role at this place.
+fn role_at(alloc: Global, place: u32, wrong: &str) -> Result<String, NoMemory>
+    ensures { IfOk result (λ s. string_bytes s ≡ at_place (codes "/roles") place ++ wrong.now) }
+{
+    let role = at_place(alloc, "/roles", place as u64)?;
+    let role = role.as_str();
+    Ok(format!(in alloc; "{role}{wrong}")?)
+}
+
+#[tactic(auto, unfolding(crate::specs::Causes::role_text))]
+fn role_words(alloc: Global, fault: RoleFault) -> Result<String, NoMemory>
+    ensures { IfOk result (λ s. string_bytes s ≡ role_text fault) }
+{
+    match fault {
+        RoleFault::Duplicate(place) => role_at(alloc, place, " has the name of a role before it"),
+        RoleFault::Unknown(place) => role_at(alloc, place, " names a role that isn't there"),
+        RoleFault::Cycle(place) => role_at(alloc, place, " holds itself"),
+        RoleFault::NoMemory => owned(alloc, "/roles are too many"),
+    }
+}
+
+fn policy_words(alloc: Global, id: PolicyId, rule: u8) -> Result<String, NoMemory>
+    ensures { IfOk result (λ s. string_bytes s ≡ broken_text (codes "policy " ++ signed_decimal id.0) (policy_rule rule)) }
+{
+    let id = id.0;
+    let who = format!(in alloc; "policy {id}")?;
+    broken(alloc, who.as_str(), policy_rule(rule))
+}
+
+fn zone_words(alloc: Global, place: usize, rule: u8) -> Result<String, NoMemory>
+    ensures { IfOk result (λ s. string_bytes s ≡ broken_text (at_place (codes "/zones") place) (zone_rule rule)) }
+{
+    let who = at_place(alloc, "/zones", place as u64)?;
+    broken(alloc, who.as_str(), zone_rule(rule))
+}
+
+fn overlap_words(alloc: Global, one: u32, other: u32) -> Result<String, NoMemory>
+    ensures { IfOk result (λ s. string_bytes s ≡ broken_text (at_place (codes "/zones") one ++ (codes " with " ++ at_place (codes "/zones") other)) rule.Z6) }
+{
+    let one = at_place(alloc, "/zones", one as u64)?;
+    let other = at_place(alloc, "/zones", other as u64)?;
+    let one = one.as_str();
+    let other = other.as_str();
+    let who = format!(in alloc; "{one} with {other}")?;
+    broken(alloc, who.as_str(), Rule::Z6)
+}
+
+fn tag_row_words(alloc: Global, id: i64, rule: u8) -> Result<String, NoMemory>
+    ensures { IfOk result (λ s. string_bytes s ≡ broken_text (codes "tag row " ++ signed_decimal id) (tag_row_rule rule)) }
+{
+    let who = format!(in alloc; "tag row {id}")?;
+    broken(alloc, who.as_str(), tag_row_rule(rule))
+}
+
+fn time_zone_words(alloc: Global, place: u32) -> Result<String, NoMemory>
+    ensures { IfOk result (λ s. string_bytes s ≡ broken_text (at_place (codes "/timeZones") place) rule.U2) }
+{
+    let who = at_place(alloc, "/timeZones", place as u64)?;
+    broken(alloc, who.as_str(), Rule::U2)
+}
+
+#[tactic(auto, unfolding(crate::specs::Causes::unsound_text))]
+fn unsound_words(alloc: Global, unsound: Unsound) -> Result<String, NoMemory>
+    ensures { IfOk result (λ s. string_bytes s ≡ unsound_text unsound) }
+{
+    match unsound {
+        Unsound::Version => owned(alloc, "a version is past 2^62"),
+        Unsound::Definition(rule) => broken(alloc, "/serviceDef", definition_rule(rule)),
+        Unsound::TagDefinition(rule) => broken(alloc, "/tagServiceDef", definition_rule(rule)),
+        Unsound::TagName => owned(alloc, "/tagServiceDef isn't named tag"),
+        Unsound::NoTagDefinition => owned(alloc, "/tagPolicies without /tagServiceDef"),
+        Unsound::PolicyIds => owned(alloc, "the ids of policies aren't positive and distinct"),
+        Unsound::Roles(fault) => role_words(alloc, fault),
+        Unsound::Policy(id, rule) => policy_words(alloc, id, rule),
+        Unsound::Zone(place, rule) => zone_words(alloc, place, rule),
+        Unsound::Overlap(one, other) => overlap_words(alloc, one, other),
+        Unsound::TagRow(id, rule) => tag_row_words(alloc, id, rule),
+        Unsound::TagRowIds => owned(alloc, "two tag rows have one id"),
+        Unsound::TimeZone(place) => time_zone_words(alloc, place),
+    }
+}
+
+// ---- all causes
+
+/// What is wrong with a line that stands out of place.
+#[tactic(auto, unfolding(crate::specs::Causes::cause_text))]
+fn out_of_place(alloc: Global, place: Place, line: &[u8], now: Moment) -> Result<String, NoMemory>
+    ensures { IfOk result (λ s. string_bytes s ≡ cause_text place (kind_at line.now now) OutOfPlace) }
+{
+    match LineKind::of(alloc, line, now)? {
+        Some(kind) => misplaced_words(alloc, place, kind),
+        None => owned(alloc, no_word()),
+    }
+}
+
+/// Why the line is bad where it stands, in words.
+#[tactic(auto, unfolding(crate::specs::Causes::cause_text))]
+pub(crate) fn cause_words(
+    alloc: Global,
+    place: Place,
+    line: &[u8],
+    now: Moment,
+    cause: &Cause,
+) -> Result<String, NoMemory>
+    ensures { IfOk result (λ s. string_bytes s ≡ cause_text place (kind_at line.now now) cause.now) }
+{
+    match cause {
+        Cause::NoWord => owned(alloc, no_word()),
+        Cause::Json { path, kind } => json_words(alloc, path, *kind),
+        Cause::OutOfPlace => out_of_place(alloc, place, line, now),
+        Cause::Unsound(unsound) => unsound_words(alloc, *unsound),
+        Cause::Refused(rule) => broken(alloc, "the configuration", *rule),
+    }
+}
