@@ -1,0 +1,3 @@
+mod Alls
+mod Bounds
+mod Opening
