@@ -69,6 +69,7 @@ command_of words = if list_all is_plain words then command_from words else None
 -- the commands that aren't built yet are answered as words that ask for none
 abbrev pub only_built : Option Command → Option Command
 only_built (Some Replay) = Some Replay
+only_built (Some (Serve address links)) = Some (Serve address links)
 only_built (Some (Drill seed policies requests)) = Some (Drill seed policies requests)
 only_built (Some Grants) = Some Grants
 only_built _ = None
@@ -77,4 +78,10 @@ only_built _ = None
 abbrev pub reads : Option Command → Bool
 reads (Some Replay) = true
 reads (Some Grants) = true
+reads (Some (Serve address links)) = true
 reads _ = false
+
+-- the command that serves links
+abbrev pub serves : Option Command → Bool
+serves (Some (Serve address links)) = true
+serves _ = false

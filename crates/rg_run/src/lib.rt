@@ -5,9 +5,12 @@ mod command;
 mod follow;
 mod grants;
 mod machine;
+mod preparing;
 mod program;
 mod reading;
 mod replay;
+mod script;
+mod serving;
 mod status;
 mod writing;
 

@@ -1,16 +1,13 @@
-// The threads of a service: workers that serve links from a queue, and one that watches.
+// What the threads of a service share: a queue of links, a clock, and what runs beside the workers.
 #![tactic(auto)]
 
-mod accepting;
 mod queue;
-mod roles;
 mod shared_clock;
-mod threads;
+mod watcher;
 
 pub use queue::Queue;
-pub use roles::{Watcher, Worker};
 pub use shared_clock::SharedClock;
-pub use threads::serve_links;
+pub use watcher::Watcher;
 
 #[cfg(test)]
 mod tests;

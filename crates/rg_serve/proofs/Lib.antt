@@ -1,0 +1,4 @@
+mod Alls
+mod Bounds
+mod Opening
+mod Sent

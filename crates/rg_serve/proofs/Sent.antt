@@ -1,0 +1,66 @@
+-- What passes and publishers hold may cross threads. `search` alone stops at its bounds where an engine begins.
+use denote.RattleType.{RattleType}
+use denote.Ref.{NamedLft}
+use denote.Param.Send.{IsSend, IsSync, sendable}
+use denote.Param.SendFields.{declared_send, declared_sync}
+use Rattle.std.proofs.Crossing.{crosses}
+use Rattle.logbook.proofs.tokens.Seen.TheSendSync as seen
+use Rattle.logbook.proofs.word.Word.TheSendSync as word
+use Rattle.left_right.proofs.reader.Reader.TheSendSync as reader
+use Rattle.left_right.proofs.writer.Writer.TheSendSync as writer
+use Rattle.rg_base.proofs.text.Text.TheSendSync as text
+use Rattle.rg_turn.proofs.seats.Seat.TheSendSync as seat
+use Rattle.rg_turn.proofs.turn.Turn.TheSendSync as turn
+use Rattle.rg_admin.proofs.admin.Admin.TheSendSync as admin
+use Rattle.rg_session.proofs.bell.Bell.TheSendSync as bell
+use Rattle.rg_engine.proofs.Sent.{engine_send, engine_sync}
+use Rattle.rg_publish.specs.contracts.shown.Shown as S
+use Rattle.rg_publish.specs.contracts.pass.Pass as P
+use Rattle.rg_publish.specs.contracts.pass.Pass.TheInside as PI
+use Rattle.rg_publish.specs.contracts.publisher.Publisher as U
+use Rattle.rg_publish.specs.contracts.publisher.Publisher.TheInside as UI
+use Rattle.rg_session.specs.contracts.refresher.Refresher as F
+use Rattle.rg_serve.specs.declared.naming.Naming as naming
+use Rattle.rg_serve.specs.contracts.places.Parts as A
+use Rattle.rg_serve.specs.contracts.following.Following as W
+use Rattle.rg_serve.specs.contracts.following.Following.TheInside as WI
+use Rattle.rg_serve.specs.contracts.following.Follower as L
+
+shown_send : IsSend S.the_row
+shown_send = declared_send S.the_type (search (crosses, sendable, engine_send, engine_sync) depth 40, (search sendable depth 20, (search sendable depth 20, (search (sendable, seen.the_send) depth 40, tt))))
+
+shown_sync : IsSync S.the_row
+shown_sync = declared_sync S.the_type (search (crosses, sendable, engine_send, engine_sync) depth 40, (search sendable depth 20, (search sendable depth 20, (search (sendable, seen.the_sync) depth 40, tt))))
+
+pass_inside_send : IsSend PI.the_row
+pass_inside_send = declared_send PI.the_type (search (crosses, sendable, reader.the_send, shown_sync) depth 60, (search (sendable, shown_send) depth 40, (search sendable depth 20, (search sendable depth 20, tt))))
+
+pass_send : IsSend P.the_row
+pass_send = search (sendable, pass_inside_send) depth 20
+
+module _ (R : RattleType) (s : IsSend R) where
+  publisher_inside_send : IsSend (UI.the_row R)
+  publisher_inside_send = declared_send (UI.the_type R) (search (crosses, sendable, writer.the_send, shown_send, shown_sync) depth 60, (search (sendable, s) depth 20, (search (sendable, word.the_send) depth 20, (search (sendable, shown_send) depth 40, tt))))
+
+  publisher_send : IsSend (U.the_row R)
+  publisher_send = search (sendable, publisher_inside_send) depth 20
+
+  refresher_send : IsSend (F.the_row R)
+  refresher_send = declared_send (F.the_type R) (search (sendable, publisher_send) depth 20, (search (sendable, text.the_send) depth 20, (search sendable depth 20, tt)))
+
+module _ (J : RattleType) (g : naming.Ghosts J.Denot) where
+  -- a worker's seat and pass
+  pub parts_send : IsSend (A.the_row J g)
+  parts_send = declared_send (A.the_type J g) (search (crosses, sendable, seat.the_send, admin.the_send) depth 40, (search (sendable, pass_send) depth 20, (search sendable depth 20, (search sendable depth 20, (search (crosses, sendable) depth 20, tt)))))
+
+  module _ (R : RattleType) (s : IsSend R) where
+    following_inside_send : IsSend (WI.the_row J R g)
+    following_inside_send = declared_send (WI.the_type J R g) (search (sendable, refresher_send, s) depth 20, (search (crosses, sendable, seat.the_send, admin.the_send) depth 40, (search sendable depth 20, (search (crosses, sendable) depth 20, tt))))
+
+    -- a refresher with its seat
+    pub following_send : IsSend (W.the_row J R g)
+    following_send = search (sendable, following_inside_send) depth 20
+
+    -- what refreshes beside the workers
+    pub follower_sync : (a b d : NamedLft) → IsSync (L.the_row a b d J R g)
+    follower_sync a b d = declared_sync (L.the_type a b d J R g) (search (crosses, sendable) depth 20, (search (sendable, turn.the_sync, admin.the_send) depth 40, (search (sendable, bell.the_sync) depth 20, (search (crosses, sendable, following_send) depth 20, tt))))

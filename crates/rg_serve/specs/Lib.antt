@@ -1,0 +1,4 @@
+pub mod Held
+pub mod Names
+pub mod Opened
+pub mod Served

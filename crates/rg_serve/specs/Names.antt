@@ -1,0 +1,15 @@
+-- For proofs alone: the names that stand where none were picked.
+use Rattle.std.specs.Prelude.{[], None}
+use Rattle.atomic_table.specs.Seated.{TableId}
+use Rattle.logbook.specs.Pages.{Book}
+use Rattle.rg_machine.specs.Logs.{Administration}
+use Rattle.rg_turn.specs.Values.{TurnName}
+
+abbrev no_table : TableId
+no_table = record { words = 0; slots = 0; views_name = 0; atom = 0; block = 0; offset = 0; slot_names = [] }
+
+abbrev pub no_turn : TurnName Administration
+no_turn = record { table = no_table; seats = 0; start = None }
+
+abbrev pub no_book : Book
+no_book = record { number = 0; log_name = 0; cells_name = 0 }

@@ -1,0 +1,129 @@
+// What refreshes the publications beside the workers.
+ghost use Rattle.std.specs.Prelude.{◌≡◌, ◌≤◌, ◌+◌, length, IfOk};
+ghost use Rattle.rg_machine.specs.Starts.{IsStart};
+ghost use Rattle.rg_session.specs.Right.{AreRightFor};
+ghost use Rattle.rg_serve.specs.Held.{IsFollowing};
+
+use crate::naming::Naming;
+use rg_admin::Admin;
+use rg_base::{NoMemory, Steps};
+use rg_publish::Publisher;
+use rg_session::{Bell, Refresher};
+use rg_threads::Watcher;
+use rg_turn::{Seat, Turn};
+use std::alloc::Global;
+use std::marker::{Model, PhantomData};
+use std::sync::{Mutex, Wait};
+
+/// The refresher, with its seat. Contracts see nothing of it but the names of its type.
+#[derive(Drop)]
+pub(crate) struct Following<J: Naming, R: Wait + Drop> {
+    refresher: Refresher<R>,
+    seat: Seat<Admin>,
+    /// Whether a refresh met want of memory.
+    is_short: bool,
+    of: PhantomData<J>,
+}
+
+impl<J: Naming, R: Wait + Drop> Model for Following<J, R> {
+    ghost use Rattle.rg_serve.specs.Held.{IsFollowing};
+
+    ghost Value = { Unit {0} };
+
+    ghost view = { λ f. tt };
+
+    ghost invariant = { λ f. IsFollowing J.turn J.book J.entries J.publications f.seat f.refresher.service f.refresher.publisher };
+}
+
+impl<J: Naming, R: Wait + Drop> Following<J, R> {
+    pub fn new(refresher: Refresher<R>, seat: Seat<Admin>) -> Following<J, R>
+        requires { IsFollowing J.turn J.book J.entries J.publications seat refresher.service refresher.publisher }
+    {
+        Following {
+            refresher,
+            seat,
+            is_short: false,
+            of: PhantomData,
+        }
+    }
+
+    /// Refreshes. Want of memory is noted.
+    fn refresh<W: Wait>(&mut self, rt: &W, alloc: Global, turn: &Turn<Admin>)
+        requires { (turn.now.turn ≡ J.turn) × IsStart turn.now.start }
+    {
+        turn.knows(&self.seat);
+        let mut steps = Steps::silent();
+        match self
+            .refresher
+            .refresh(rt, alloc, turn, &mut self.seat, &mut steps)
+        {
+            Ok(_) => {}
+            Err(_) => self.is_short = true,
+        }
+    }
+
+    /// Refreshes once more, and gives the publisher and the seat. Refused too where an earlier refresh met want of memory.
+    pub fn finish<W: Wait>(
+        self,
+        rt: &W,
+        alloc: Global,
+        turn: &Turn<Admin>,
+    ) -> Result<(Publisher<R>, Seat<Admin>), NoMemory>
+        requires { (turn.now.turn ≡ J.turn) × IsStart turn.now.start }
+        ensures same { IfOk result (λ t. (t.1.turn ≡ J.turn) × (t.0.book ≡ J.book)) }
+        ensures right { IfOk result (λ t. AreRightFor turn.now.start t.1.history t.0.list) }
+        ensures least { IfOk result (λ t. (J.entries + 1 ≤ length t.1.history) × (J.publications ≤ length t.0.list)) }
+    {
+        let Following {
+            mut refresher,
+            mut seat,
+            is_short,
+            of: _,
+        } = self;
+        turn.knows(&seat);
+        let mut steps = Steps::silent();
+        match refresher.refresh(rt, alloc, turn, &mut seat, &mut steps) {
+            Ok(_) => {}
+            Err(refused) => return Err(refused),
+        }
+        if is_short {
+            return Err(NoMemory);
+        }
+        let Refresher {
+            publisher,
+            service: _,
+            seq: _,
+        } = refresher;
+        Ok((publisher, seat))
+    }
+}
+
+/// Refreshes after each ring of the bell, until the bell is shut.
+#[derive(Drop)]
+pub(crate) struct Follower<'t, 'b, 'f, J: Naming, R: Wait + Drop> {
+    pub alloc: Global,
+    pub turn: &'t Turn<Admin>,
+    pub bell: &'b Bell,
+    pub following: &'f Mutex<Following<J, R>>,
+}
+
+impl<'t, 'b, 'f, J: Naming, R: Wait + Drop> Watcher for Follower<'t, 'b, 'f, J, R> {
+    ghost use Rattle.std.specs.Prelude.{◌≡◌};
+    ghost use Rattle.rg_machine.specs.Starts.{IsStart};
+
+    ghost can_watch = { λ f. (f.turn.now.turn ≡ J.turn) × IsStart f.turn.now.start };
+
+    fn watch<W: Wait + Sync>(&self, rt: &W) {
+        let mut following = self.following.lock(rt);
+        for _ in rt.forever() {
+            if !self.bell.wait(rt) {
+                break;
+            }
+            following.refresh(rt, self.alloc, self.turn);
+        }
+    }
+
+    fn stop<W: Wait + Sync>(&self, rt: &W) {
+        self.bell.shut(rt);
+    }
+}

@@ -1,0 +1,18 @@
+// Links served by threads: from a configuration to the totals.
+#![tactic(auto)]
+
+mod ending;
+mod following;
+mod naming;
+mod opened;
+mod places;
+mod serving;
+mod sessions;
+mod threads;
+
+pub use ending::Served;
+pub use opened::Opened;
+pub use serving::{ServeFault, serve};
+
+#[cfg(test)]
+mod tests;

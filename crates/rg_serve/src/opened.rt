@@ -1,0 +1,131 @@
+// A service before it serves links.
+ghost use Rattle.std.specs.Prelude.{◌≡◌, ◌≤◌, ◌+◌, length, Some, IfOk, IfSome};
+ghost use Rattle.rg_admin.specs.Starting.{start_fault};
+ghost use Rattle.rg_machine.specs.Starts.{IsStart};
+ghost use Rattle.rg_serve.specs.Opened.{IsAsked, IsRefreshed, opened, opened_unless};
+
+use rg_admin::{Admin, StartFault};
+use rg_base::{NoMemory, Steps};
+use rg_cmd::{AdminReply, Ask, Config};
+use rg_publish::Pass;
+use rg_session::{Refresh, Refresher, Service, open, right_lists_stay_right};
+use rg_turn::laws::one_more_entry;
+use rg_turn::{Seat, Turn};
+use std::alloc::Global;
+use std::marker::Model;
+use std::sync::Wait;
+
+/// An administration with its plugin, and workers that serve no links yet. It is asked through a seat of its own, the refresher's.
+/// Contracts see the history and the publications, and how many of the entries are known to be its own calls.
+#[derive(Drop)]
+pub struct Opened<R: Wait + Drop> {
+    pub(crate) turn: Turn<Admin>,
+    /// The refresher's.
+    pub(crate) seat: Seat<Admin>,
+    pub(crate) refresher: Refresher<R>,
+    /// Those of the workers, as many as passes.
+    pub(crate) seats: Vec<Seat<Admin>>,
+    pub(crate) passes: Vec<Pass>,
+}
+
+impl<R: Wait + Drop> Model for Opened<R> {
+    ghost use Rattle.rg_serve.specs.Held.{IsHeld, held};
+    ghost use Rattle.rg_serve.specs.Opened as the;
+
+    ghost Value = { the.Opened };
+
+    ghost view = { λ o. held o.turn o.seat o.refresher.publisher.list o.seats.items };
+
+    ghost invariant = { λ o. IsHeld o.turn o.seat o.refresher.service o.refresher.publisher o.seats.items o.passes.items };
+}
+
+impl<R: Wait + Drop> Opened<R> {
+    /// What the configuration starts, with its plugin's view as publication 1, for 1 to 64 workers. None where the configuration
+    /// breaks a rule. Where memory is refused all is let go.
+    pub fn start(
+        rt: R,
+        alloc: Global,
+        config: Config,
+        workers: u32,
+    ) -> Result<Option<Opened<R>>, NoMemory>
+        requires { (1 ≤ workers) × (workers ≤ 64) }
+        ensures opened { IfOk result (λ o. o ≡ opened_unless workers (start_fault config) config) }
+        ensures workers { IfOk result (λ o. IfSome o (λ o. o.workers ≡ workers)) }
+    {
+        match Admin::start(alloc, config) {
+            Ok(admin) => Ok(Some(Opened::over(rt, alloc, admin, workers)?)),
+            Err(StartFault::Rule(_)) => Ok(None),
+            Err(StartFault::NoMemory) => Err(NoMemory),
+        }
+    }
+
+    /// The administration, with its plugin's view as publication 1, for 1 to 64 workers. Where memory is refused all is let go.
+    pub fn over(rt: R, alloc: Global, admin: Admin, workers: u32) -> Result<Opened<R>, NoMemory>
+        requires start { IsStart admin }
+        requires workers { (1 ≤ workers) × (workers ≤ 64) }
+        ensures opened { IfOk result (λ o. opened workers admin ≡ Some o) }
+        ensures workers { IfOk result (λ o. o.workers ≡ workers) }
+    {
+        let Service {
+            turn,
+            mut seats,
+            refresher,
+            passes,
+        } = open(rt, alloc, admin, workers + 1, workers, &mut Steps::silent())?;
+        let Some(seat) = seats.pop() else {
+            return Err(NoMemory);
+        };
+        Ok(Opened {
+            turn,
+            seat,
+            refresher,
+            seats,
+            passes,
+        })
+    }
+
+    /// Asks the administration. It waits for its turn.
+    pub fn ask<W: Wait>(&mut self, rt: &W, alloc: Global, ask: Ask) -> Result<AdminReply, NoMemory>
+        ensures { IfOk result (λ reply. IsAsked self.old ask reply self.new) }
+    {
+        right_lists_stay_right();
+        one_more_entry::<Admin>();
+        match self.turn.call(rt, alloc, &mut self.seat, ask) {
+            Ok(reply) => return Ok(reply),
+            Err(refused) => return Err(refused),
+        }
+    }
+
+    /// Downloads what the plugin lacks, and publishes what it sees then, unless its versions are current. Want of memory is also
+    /// answered where an entry of another caller came before the download, which no clause of a seat excludes, though nobody else
+    /// has one. Where memory is refused all is let go.
+    pub fn refresh<W: Wait>(self, rt: &W, alloc: Global) -> Result<(Opened<R>, Refresh), NoMemory>
+        ensures { IfOk result (λ t. IsRefreshed self t.1 t.0) }
+    {
+        let Opened {
+            turn,
+            mut seat,
+            mut refresher,
+            seats,
+            passes,
+        } = self;
+        let calls = seat.calls();
+        let mut steps = Steps::silent();
+        match refresher.refresh(rt, alloc, &turn, &mut seat, &mut steps) {
+            Ok(refresh) => {
+                if refresher.seq != calls {
+                    return Err(NoMemory);
+                }
+                let opened = Opened {
+                    turn,
+                    seat,
+                    refresher,
+                    seats,
+                    passes,
+                };
+                return Ok((opened, refresh));
+            }
+            Err(refused) => return Err(refused),
+        }
+    }
+}

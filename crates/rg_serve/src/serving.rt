@@ -1,0 +1,216 @@
+// Links served by threads.
+ghost use Rattle.std.specs.Prelude.{◌≡◌, ◌⊎◌, ◌≤◌, ◌<◌, ◌+◌, true, Some, length, IfOk, OnOk, OnErr, MatchResult};
+ghost use Rattle.rg_machine.specs.Starts.{IsStart};
+ghost use Rattle.rg_machine.specs.Steps.{step};
+ghost use Rattle.rg_turn.specs.History.{IsLegal, state_after};
+ghost use Rattle.rg_serve.specs.Held.{IsHeld};
+ghost use Rattle.rg_serve.specs.Served.{ArePublished, Counts};
+
+use crate::ending::{Served, end};
+use crate::following::{Follower, Following};
+use crate::naming::Naming;
+use crate::opened::Opened;
+use crate::places::{Place, places_of, under_locks};
+use crate::sessions::Sessions;
+use crate::threads::serve_links;
+use rg_admin::Admin;
+use rg_base::{Failed, NoMemory, Text, TryCopy};
+use rg_hook::RequestHooks;
+use rg_ports::{Clock, Gate, Listener};
+use rg_publish::Pass;
+use rg_session::{Bell, Refresher, Totals};
+use rg_threads::Queue;
+use rg_turn::{Seat, Turn};
+use std::alloc::Global;
+use std::marker::{Brand, PhantomData};
+use std::sync::{Mutex, Wait};
+use std::thread::Threads;
+
+/// Why links are served no longer.
+#[derive(Clone, Copy, Debug, PartialEq, Eq)]
+pub enum ServeFault {
+    /// The listener failed.
+    Failed,
+    NoMemory,
+}
+
+impl From<NoMemory> for ServeFault {
+    ghost use Rattle.std.specs.Prelude.{◌≡◌};
+    ghost use Rattle.rg_serve.specs.declared.serving.ServeFault.TheVariants as fault;
+
+    ghost from_gives = { λ _ f. f ≡ fault.NoMemory };
+
+    fn from(_: NoMemory) -> ServeFault {
+        ServeFault::NoMemory
+    }
+}
+
+impl From<Failed> for ServeFault {
+    ghost use Rattle.std.specs.Prelude.{◌≡◌};
+    ghost use Rattle.rg_serve.specs.declared.serving.ServeFault.TheVariants as fault;
+
+    ghost from_gives = { λ _ f. f ≡ fault.Failed };
+
+    fn from(_: Failed) -> ServeFault {
+        ServeFault::Failed
+    }
+}
+
+/// The threads, each with what it is lent: the workers, and what refreshes beside them. Gives how many links were given.
+fn attend<
+    J: Naming + Send + Sync,
+    N: Listener,
+    C: Clock,
+    G: Gate,
+    H: RequestHooks + Send,
+    Q: Wait + Drop + Send,
+    R: Threads + Wait + Sync,
+>(
+    rt: &R,
+    alloc: Global,
+    turn: &Turn<Admin>,
+    following: &Mutex<Following<J, Q>>,
+    places: &[Place<J>],
+    hooks: &[Mutex<H>],
+    queue: &Queue<N::Link>,
+    net: &mut N,
+    clock: &Mutex<&mut C>,
+    gate: &G,
+    plugin: &str,
+    most: u64,
+) -> Result<u64, Failed>
+    requires turn { (turn.now.turn ≡ J.turn) × IsStart turn.now.start }
+    requires some { (0 < length places.now) × (0 < length hooks.now) }
+    ensures given { IfOk result (λ n. N.given net.new ≡ N.given net.old + n) }
+    ensures all { IfOk result (λ n. (n ≤ most) × ((n ≡ most) ⊎ (N.ended net.new ≡ true))) }
+    ensures kept { OnOk result (N.faults net.new ≡ N.faults net.old) }
+    ensures failed { OnErr result (N.faults net.old < N.faults net.new) }
+{
+    let bell = Bell::new();
+    let sessions: Sessions<J, C, G> = Sessions {
+        alloc,
+        turn,
+        clock,
+        gate,
+        bell: &bell,
+        plugin,
+        of: PhantomData,
+    };
+    let follower = Follower {
+        alloc,
+        turn,
+        bell: &bell,
+        following,
+    };
+    serve_links(rt, net, most, queue, &sessions, places, hooks, &follower)
+}
+
+/// The same from start to end, under names for the turn and the publisher that no type of a parameter has.
+fn serve_named<
+    J: Naming + Send + Sync,
+    N: Listener,
+    C: Clock,
+    G: Gate,
+    H: RequestHooks + Send,
+    Q: Wait + Drop + Send,
+    R: Threads + Wait + Sync,
+>(
+    rt: &R,
+    alloc: Global,
+    turn: Turn<Admin>,
+    seat: Seat<Admin>,
+    refresher: Refresher<Q>,
+    seats: Vec<Seat<Admin>>,
+    passes: Vec<Pass>,
+    hooks: Vec<H>,
+    net: &mut N,
+    address: &Text,
+    clock: &mut C,
+    gate: &G,
+    most: u64,
+) -> Result<Served, ServeFault>
+    requires names { (turn.turn ≡ J.turn) × (refresher.publisher.book ≡ J.book) }
+    requires least { (length seat.history ≡ J.entries) × (length refresher.publisher.list ≡ J.publications) }
+    requires held { IsHeld turn seat refresher.service refresher.publisher seats.items passes.items }
+    requires workers { length hooks.items ≡ length seats.items }
+    ensures given { IfOk result (λ s. N.given net.new ≡ N.given net.old + s.links) }
+    ensures all { IfOk result (λ s. (s.links ≤ most) × ((s.links ≡ most) ⊎ (N.ended net.new ≡ true))) }
+    ensures legal { IfOk result (λ s. (s.totals.past.start ≡ Some turn.start) × IsLegal step turn.start s.totals.past.history) }
+    ensures admin { IfOk result (λ s. s.totals.admin ≡ state_after step turn.start s.totals.past.history) }
+    ensures entries { IfOk result (λ s. length seat.history + 1 ≤ length s.totals.past.history) }
+    ensures published { IfOk result (λ s. ArePublished turn.start s.totals.past.history (length refresher.publisher.list) s.totals.publications) }
+    ensures faults { MatchResult result (λ _. N.faults net.new ≡ N.faults net.old) (λ f. Counts f (N.faults net.old) (N.faults net.new)) }
+{
+    let queue = Queue::new(alloc)?;
+    let plugin = refresher.service.try_copy(alloc)?;
+    let places = places_of::<J>(alloc, seats, passes)?;
+    let own = under_locks(alloc, hooks)?;
+    net.listen(address.as_str())?;
+    let following = Mutex::new(Following::new(refresher, seat));
+    let clock = Mutex::new(clock);
+    let links = attend(
+        rt,
+        alloc,
+        &turn,
+        &following,
+        places.as_slice(),
+        own.as_slice(),
+        &queue,
+        net,
+        &clock,
+        gate,
+        plugin.as_str(),
+        most,
+    )?;
+    let totals = end(rt, alloc, turn, following, places)?;
+    Ok(Served { links, totals })
+}
+
+/// Listens at the address, and serves up to so many links, with a thread for each of the hooks, which are those of a worker.
+/// Beside them another thread keeps the publications up with the history. When the last link is served it refreshes once more,
+/// and closes the service. The memory of the queue and the locks is taken before it listens.
+///
+/// A fault of a link ends that link alone. Where `accept` fails the links taken before are served too. Want of memory that a
+/// worker or a refresh meets is answered when all are served. The work of a worker whose thread can't be started is done by the
+/// others, or by the calling thread.
+pub fn serve<
+    N: Listener,
+    C: Clock,
+    G: Gate,
+    H: RequestHooks + Send,
+    Q: Wait + Drop + Send,
+    R: Threads + Wait + Sync,
+>(
+    rt: &R,
+    alloc: Global,
+    opened: Opened<Q>,
+    hooks: Vec<H>,
+    net: &mut N,
+    address: &Text,
+    clock: &mut C,
+    gate: &G,
+    most: u64,
+) -> Result<Served, ServeFault>
+    requires { length hooks.items ≡ opened.workers }
+    // The links are those that the listener gave, and they are as many as were asked for, or the listener has ended.
+    ensures given { IfOk result (λ s. N.given net.new ≡ N.given net.old + s.links) }
+    ensures all { IfOk result (λ s. (s.links ≤ most) × ((s.links ≡ most) ⊎ (N.ended net.new ≡ true))) }
+    // The past is one legal history from the start, which goes on from what was known with one entry at least.
+    ensures legal { IfOk result (λ s. (s.totals.past.start ≡ Some opened.start) × IsLegal step opened.start s.totals.past.history) }
+    ensures admin { IfOk result (λ s. s.totals.admin ≡ state_after step opened.start s.totals.past.history) }
+    ensures entries { IfOk result (λ s. length opened.history + 1 ≤ length s.totals.past.history) }
+    // What was published is right for it.
+    ensures published { IfOk result (λ s. ArePublished opened.start s.totals.past.history (length opened.published) s.totals.publications) }
+    ensures faults { MatchResult result (λ _. N.faults net.new ≡ N.faults net.old) (λ f. Counts f (N.faults net.old) (N.faults net.new)) }
+{
+    let Opened {
+        turn,
+        seat,
+        refresher,
+        seats,
+        passes,
+    } = opened;
+    serve_named::<Brand, N, C, G, H, Q, R>(
+        rt, alloc, turn, seat, refresher, seats, passes, hooks, net, address, clock, gate, most,
+    )
+}
