@@ -2,7 +2,7 @@
 use Rattle.std.proofs.Common.{◌≡◌, ◌⊎◌, ◌∙◌, ◌<◌, ◌++◌, arith, ℕ, List, [], Bool, true, false, Option, Some, None, Result, Ok, Err, inl, inr, refl, ap, sym, subst}
 use Rattle.rg_base.specs.declared.numbers.Moment.{Moment}
 use Rattle.rg_run.specs.declared.command.Command.{Command}
-use Rattle.rg_run.specs.declared.command.Command.TheVariants.{Replay, Serve, Drill, Grants}
+use Rattle.rg_run.specs.declared.command.Command.TheVariants.{Replay, Serve, Drill, Grants, Report}
 use Rattle.rg_run.specs.declared.status.Status.{Status}
 use Rattle.rg_run.specs.declared.status.Status.TheVariants.{Done, Usage, BadLine, ReadFault, WriteFault, NetFault, TooLong, NoMemory}
 use Rattle.rg_run.specs.Commands.{only_built}
@@ -11,6 +11,7 @@ use Rattle.rg_run.specs.Grants.{grants}
 use Rattle.rg_run.specs.Limits.{is_too_long}
 use Rattle.rg_run.specs.Ports.{Ports}
 use Rattle.rg_run.specs.Replay.{replayed}
+use Rattle.rg_run.specs.Report.{reported}
 use Rattle.rg_run.specs.Runs.{Answers, CountsReads, CountsWrites, EndsIn, Follows, IsEndOf, IsRun, OfStatus, Overran, Stands}
 use Rattle.rg_run.specs.Statuses.{number_of}
 use Rattle.rg_run.specs.Streams.{HasRead, IsAll, Wrote, WrotePrefix}
@@ -105,6 +106,7 @@ module _ {S : Type 0} (script : Script S) (p q : Ports) (got seen : List ℕ) (a
 pub undone : (command : Option Command) (p : Ports) → IsRun (Answers command) p p NoMemory
 undone None p = record { stands = refl; reads = refl; writes = refl }
 undone (Some Replay) p = record { stands = (refl, inl refl); reads = refl; writes = refl }
+undone (Some Report) p = record { stands = (refl, inl refl); reads = refl; writes = refl }
 undone (Some (Serve address links)) p = record { stands = refl; reads = refl; writes = refl }
 undone (Some (Drill seed policies requests)) p = record { stands = refl; reads = refl; writes = refl }
 undone (Some Grants) p = record { stands = (refl, inl refl); reads = refl; writes = refl }
@@ -146,6 +148,7 @@ pub completed : (asked : Option Command) (command : Command) (p q : Ports) (n : 
     → q.read_faults ≡ p.read_faults → q.write_faults ≡ p.write_faults → p.left ≡ Some bytes → is_too_long bytes ≡ false → (n ≡ 0) ⊎ ((n ≡ 2) ⊎ (n ≡ 9))
 completed (Some Replay) command p q n status bytes named e run reads writes told within = completes replayed p q n status bytes e run.stands run.reads run.writes reads writes told within
 completed (Some Grants) command p q n status bytes named e run reads writes told within = completes grants p q n status bytes e run.stands run.reads run.writes reads writes told within
+completed (Some Report) command p q n status bytes named e run reads writes told within = completes reported p q n status bytes e run.stands run.reads run.writes reads writes told within
 completed (Some (Drill seed policies requests)) command p q n status bytes named e run reads writes told within = drilled seed policies requests p q n status e run writes
 completed (Some (Serve address links)) command p q n status bytes named e run reads writes told within = cc
 completed None command p q n status bytes named e run reads writes told within = cc

@@ -6,6 +6,7 @@ pub mod Limits
 pub mod Moments
 pub mod Ports
 pub mod Replay
+pub mod Report
 pub mod Runs
 pub mod Statuses
 pub mod Streams

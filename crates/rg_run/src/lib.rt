@@ -8,6 +8,7 @@ mod machine;
 mod program;
 mod reading;
 mod replay;
+mod report;
 mod status;
 mod writing;
 

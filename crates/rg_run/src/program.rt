@@ -12,6 +12,7 @@ use crate::follow::{Worker, follow};
 use crate::grants::Grants;
 use crate::reading::{Stop, read_all};
 use crate::replay::{Replay, Stage};
+use crate::report::Reporting;
 use crate::status::Status;
 use crate::writing::write_all;
 use rg_ports::{Clock, Sink, Source};
@@ -106,6 +107,7 @@ fn answer<R: Wait, S: Source, K: Sink, C: Clock>(
             drop(replay);
             status
         }
+        Some(Command::Report) => { work_script(alloc, &mut Reporting::new(), source, sink, clock) }
         Some(
             Command::Drill {
                 seed,
@@ -122,7 +124,7 @@ fn answer<R: Wait, S: Source, K: Sink, C: Clock>(
         // `serve` isn't built yet.
         _ => match write_all(
             sink,
-            b"usage: rangerd replay | serve ADDRESS LINKS | drill SEED POLICIES REQUESTS | grants\n",
+            b"usage: rangerd replay | serve ADDRESS LINKS | drill SEED POLICIES REQUESTS | grants | report\n",
         ) {
             Ok(()) => Status::Usage,
             Err(_) => Status::WriteFault,
