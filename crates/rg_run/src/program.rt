@@ -12,7 +12,7 @@ use crate::follow::{Worker, follow};
 use crate::grants::Grants;
 use crate::reading::{Stop, read_all};
 use crate::replay::{Replay, Stage};
-use crate::report::Reporting;
+use crate::report::Reports;
 use crate::status::Status;
 use crate::writing::write_all;
 use rg_ports::{Clock, Sink, Source};
@@ -107,7 +107,6 @@ fn answer<R: Wait, S: Source, K: Sink, C: Clock>(
             drop(replay);
             status
         }
-        Some(Command::Report) => { work_script(alloc, &mut Reporting::new(), source, sink, clock) }
         Some(
             Command::Drill {
                 seed,
@@ -119,6 +118,12 @@ fn answer<R: Wait, S: Source, K: Sink, C: Clock>(
             let mut grants = Grants { granting: None };
             let status = work_script(alloc, &mut grants, source, sink, clock);
             drop(grants);
+            status
+        }
+        Some(Command::Report) => {
+            let mut reports = Reports::new();
+            let status = work_script(alloc, &mut reports, source, sink, clock);
+            drop(reports);
             status
         }
         // `serve` isn't built yet.
