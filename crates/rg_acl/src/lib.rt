@@ -13,6 +13,8 @@ mod read;
 mod reporting;
 mod row;
 mod stranger;
+#[cfg(test)]
+mod tests;
 
 pub use ask::ReportAsk;
 pub use laws::{
