@@ -64,18 +64,19 @@ def report(facts, ask):
             yield {"access": verdict.access, "accessType": access, "kind": kind, "name": name, "policyId": verdict.policy}
 
 
-def main():
-    facts = None
-    for number, line in enumerate(sys.stdin.read().split("\n"), 1):
+def printed(script):
+    """What is printed for a script."""
+    facts, lines = None, []
+    for number, line in enumerate(script.split("\n"), 1):
         word, _, text = line.partition(" ")
         if word == "facts":
             facts = records.facts(json.loads(text))
             if model.first_fault(facts):
                 sys.exit("bad line %d (%s)" % (number, model.first_fault(facts)))
         elif word == "report":
-            for row in report(facts, json.loads(text)):
-                print(json.dumps(row, separators=(",", ":"), ensure_ascii=False))
+            lines += [json.dumps(row, separators=(",", ":"), ensure_ascii=False) + "\n" for row in report(facts, json.loads(text))]
+    return "".join(lines)
 
 
 if __name__ == "__main__":
-    main()
+    print(printed(sys.stdin.read()), end="")
