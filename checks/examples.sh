@@ -1,6 +1,7 @@
 #!/usr/bin/env bash
 # Works each script of examples/, grants.script by `grants`, report.script by `report` and the others by `replay`, and compares what is
-# printed with the file beside it, byte for byte. Each script is the one that tools/script.py makes of the source beside it; where there is no Python this isn't looked at.
+# printed with the file beside it, byte for byte. Each script is the one that tools/script.py makes of the source beside it; where there
+# is no Python this isn't looked at.
 # usage: checks/examples.sh [PROGRAM]      (the built rangerd where not given)
 # What is wanted was worked out from the rules by checks/admin_model.py, checks/grants_model.py and checks/report_model.py, and not taken from
 # the program.
