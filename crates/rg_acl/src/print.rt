@@ -2,12 +2,12 @@
 ghost use Rattle.std.specs.Prelude.{◌≡◌, IfOk};
 ghost use Rattle.std.specs.Str.{chars, encode_utf8_all};
 ghost use Rattle.rg_acl.specs.Printing.{kind_word, row_text};
+ghost use Rattle.rg_wire.specs.Printing.{word_of};
 
 use crate::row::{ReportRow, SubjectKind};
 use rg_base::{NoMemory, Text};
 use rg_facts::Access;
 use rg_json::{Name, ToJson, put, text_of};
-use rg_wire::Key;
 use serde_json::{Map, Value};
 use std::alloc::Global;
 
@@ -50,6 +50,17 @@ fn kind_word(kind: SubjectKind) -> &'static str
     }
 }
 
+#[tactic(auto, unfolding(rg_wire::specs::Printing::word_of))]
+fn access_word(access: Access) -> &'static str
+    ensures { result.now ≡ word_of access }
+{
+    match access {
+        Access::Allowed => "ALLOWED",
+        Access::Denied => "DENIED",
+        Access::Undetermined => "UNDETERMINED",
+    }
+}
+
 impl ToJson<RowKey> for SubjectKind {
     ghost use Rattle.rg_acl.specs.Printing.{kind_data};
 
@@ -66,7 +77,7 @@ impl ToJson<RowKey> for Access {
     ghost printing = { access_data };
 
     fn json(&self, alloc: Global) -> Result<Value, NoMemory> {
-        ToJson::<Key>::json(self, alloc)
+        Ok(Value::String(String::from_str(alloc, access_word(*self))?))
     }
 }
 

@@ -13,3 +13,23 @@ pub apply-applied-requires-clause-forward : goal.apply-applied-requires-clause-f
 apply-applied-requires-clause-forward g c =
     goes_forward c.args.stranger.now c.args.engine.now _ _ _ _ c.no_policies-policies.ensures c.no_tags-tags.ensures
     (c.in_ok-members.ensures ∙ ap (λ rows. listed (members_from c.args.stranger.now 0 rows)) c.requires.rows) c.these_roles-roles.ensures
+
+pub returns-in-Ok-clause-answers : goal.returns-in-Ok-clause-answers
+returns-in-Ok-clause-answers g c =
+    answers_so c.args.stranger.now c.args.engine.now _ _ _ _ c.no_policies-policies.ensures c.no_tags-tags.ensures
+    (c.in_ok-members.ensures ∙ ap (λ rows. listed (members_from c.args.stranger.now 0 rows)) c.requires.rows) c.these_roles-roles.ensures _ c.in-Ok.ensures.facts
+
+pub returns-in-Ok-clause-bound : goal.returns-in-Ok-clause-bound
+returns-in-Ok-clause-bound g c =
+    bound_so c.args.stranger.now c.args.engine.now _ _ _ _ c.no_policies-policies.ensures c.no_tags-tags.ensures
+    (c.in_ok-members.ensures ∙ ap (λ rows. listed (members_from c.args.stranger.now 0 rows)) c.requires.rows) c.these_roles-roles.ensures _ c.in-Ok.ensures.facts
+
+pub returns-in-Ok-clause-made : goal.returns-in-Ok-clause-made
+returns-in-Ok-clause-made g c =
+    (nothing_made c.args.stranger.now c.args.engine.now _ _ _ _ c.no_policies-policies.ensures c.no_tags-tags.ensures
+    (c.in_ok-members.ensures ∙ ap (λ rows. listed (members_from c.args.stranger.now 0 rows)) c.requires.rows) c.these_roles-roles.ensures _ _ c.apply-applied.ensures.steps).0
+
+pub returns-in-Err-clause-made : goal.returns-in-Err-clause-made
+returns-in-Err-clause-made g c =
+    (nothing_made c.args.stranger.now c.args.engine.now _ _ _ _ c.no_policies-policies.ensures c.no_tags-tags.ensures
+    (c.in_ok-members.ensures ∙ ap (λ rows. listed (members_from c.args.stranger.now 0 rows)) c.requires.rows) c.these_roles-roles.ensures _ _ c.apply-applied.ensures.steps).0
