@@ -1,8 +1,13 @@
 -- The work that is counted for rows.
-use Rattle.std.proofs.Common.{◌≡◌, ◌≤◌, ◌+◌, ◌*◌, ℕ, add-mul, ap, arith, one-mul, zero-mul, ◌∙◌}
+use Rattle.std.proofs.Common.{◌≡◌, ◌≤◌, ◌+◌, ◌*◌, ℕ, List, add-mul, ap, arith, one-mul, subst, zero-mul, ◌∙◌}
 use Rattle.rg_base.specs.Counts.{Counts}
-use Rattle.rg_engine.specs.Bounds.{TriesWithin}
-use Rattle.rg_acl.specs.Work.{IsTriedFor, NothingMade}
+use Rattle.rg_engine.specs.Bounds.{TriesWithin, bound_on}
+use Rattle.rg_facts.specs.declared.facts.Facts.{Facts}
+use Rattle.rg_policy.specs.declared.request.AccessRequest.{AccessRequest}
+use Rattle.rg_acl.specs.Rows.{request_of}
+use Rattle.rg_acl.specs.Work.{IsTriedFor, NothingMade, bound_for}
+use Rattle.rg_acl.specs.declared.ask.ReportAsk.{ReportAsk}
+use Rattle.rg_acl.specs.declared.asker.Asker.{Asker}
 
 pub nothing_yet : (a : Counts) → NothingMade a a
 nothing_yet a = record { compiles = omega arith; edits = omega arith }
@@ -12,6 +17,11 @@ made_by_verdict each a b c before one = record { compiles = omega (arith, before
 
 pub made_more : (a b c : Counts) → NothingMade a b → NothingMade b c → NothingMade a c
 made_more a b c before more = record { compiles = omega (arith, before.compiles, more.compiles); edits = omega (arith, before.edits, more.edits) }
+
+-- a verdict takes as many tries whoever asks, and for whatever access
+pub tried_for : (facts : Facts) (ask : ReportAsk) (asker : Asker) (access : List ℕ) (q : AccessRequest) (a b : Counts) → q ≡ request_of ask asker access
+    → TriesWithin (bound_on facts q) a b → TriesWithin (bound_for facts ask) a b
+tried_for facts ask asker access q a b is tried = subst (λ (r : AccessRequest). TriesWithin (bound_on facts r) a b) is tried
 
 -- one more row
 pub tried_once : (each before now : ℕ) (a b c : Counts) → IsTriedFor each before now a b → TriesWithin each b c → IsTriedFor each before (now + 1) a c

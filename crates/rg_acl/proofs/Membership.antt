@@ -5,7 +5,7 @@ use Rattle.std.specs.Option.{option_or}
 use Rattle.std.specs.Str.{bytes_eq}
 use Rattle.std.proofs.lemmas.List.{length-take-le}
 use Rattle.rg_base.specs.Counts.{Counts}
-use Rattle.rg_base.proofs.Lists.{take_next}
+use Rattle.rg_base.proofs.Lists.{list_any_agree, take_next}
 use Rattle.rg_base.specs.Listed.{Listed, added, listed}
 use Rattle.rg_base.specs.Names.{first_place}
 use Rattle.rg_base.specs.Texts.{is_among}
@@ -81,10 +81,8 @@ module _ (stranger : List ℕ) where
     within_same name (suc n) role =
         any_member (λ (row : RoleRow). bytes_eq row.name role && (names_role name row || list_any (leads_within n more (names_role name)) row.roles.items))
         (λ (row : RoleRow). bytes_eq row.name role && (names_role name row || list_any (leads_within n rows (names_role name)) row.roles.items))
-        (λ k row. ap (λ b. bytes_eq row.name role && (names_role name row || b)) (any_same row.roles.items)) 0 rows where
-          any_same : (others : List (List ℕ)) → list_any (leads_within n more (names_role name)) others ≡ list_any (leads_within n rows (names_role name)) others
-          any_same [] = refl
-          any_same (other ∷ others) = λ i. within_same name n other i || any_same others i
+        (λ k row. ap (λ b. bytes_eq row.name role && (names_role name row || b))
+        (list_any_agree (leads_within n more (names_role name)) (leads_within n rows (names_role name)) (within_same name n) row.roles.items)) 0 rows
 
     leads_same : (name role : List ℕ) → leads more (names_role name) role ≡ leads rows (names_role name) role
     unfolding leads

@@ -1,4 +1,4 @@
-use Rattle.std.proofs.Common.{◌≡◌, ◌++◌, ◌∙◌, List, OnOk, ap, subst}
+use Rattle.std.proofs.Common.{◌≡◌, ◌++◌, ◌∙◌, List, OnOk, ap, length, subst}
 use Rattle.std.proofs.lemmas.Result.{on_ok_weaker}
 use Rattle.rg_acl.specs.Rows.{rows_of}
 use Rattle.rg_acl.specs.Strangers.{with_members}
@@ -20,5 +20,6 @@ returns-clause-made g c = made_more _ _ _ c.with_members.ensures.made c.add_rows
 pub returns-clause-tries : goal.returns-clause-tries
 returns-clause-tries g c =
     on_ok_weaker c.add_rows.result
-    (tried_alike c.in_ok-members.members c.args.engine.now c.args.ask.now c.in_ok-members.ensures.bound _ _ _ _ _ c.with_members.ensures.tries)
+    (tried_alike c.in_ok-members.members c.args.engine.now c.args.ask.now c.in_ok-members.ensures.bound (length c.args.rows.now.items) (length c.add_rows.new.rows.items)
+    c.args.steps.now c.with_members.new.steps c.add_rows.new.steps c.with_members.ensures.tries)
     c.add_rows.ensures.tries

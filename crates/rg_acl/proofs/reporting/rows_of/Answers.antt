@@ -20,5 +20,6 @@ returns-in_err-add_other_rows-clause-made g c = made_more _ _ _ c.add_rows.ensur
 
 pub returns-clause-tries : goal.returns-clause-tries
 returns-clause-tries g c =
-    tried_thrice (bound_for c.args.engine.now c.args.ask.now) _ _ _ _ _ _ _ _ (ap length c.new-rows.ensures.items)
+    tried_thrice (bound_for c.args.engine.now c.args.ask.now) _ _ _ _ c.args.steps.now c.add_rows.new.steps c.add_role_rows.new.steps c.add_other_rows.new.steps
+    (ap length c.new-rows.ensures.items)
     c.in_ok-add_rows.ensures.tries c.in_ok-add_role_rows.ensures.tries c.in_ok-add_other_rows.ensures.tries
