@@ -1,5 +1,5 @@
 -- Tests and functions that agree on what a list contains.
-use Rattle.std.proofs.Common.{◌≡◌, ◌&&◌, ◌||◌, ◌+◌, ℕ, Bool, not, cond, nat_lt, List, [], ◌∷◌, length, map, Option, Some, None, Contains, position, refl, ap, ◌∙◌, ◌++◌}
+use Rattle.std.proofs.Common.{◌≡◌, ◌&&◌, ◌||◌, ◌+◌, Bool, not, cond, nat_lt, List, [], ◌∷◌, length, map, Some, None, Contains, position, refl, ap, ◌++◌}
 use Rattle.std.specs.List.{flat_map, list_all, list_any, prefix_len}
 use Rattle.rg_base.proofs.Lists.{Contains-first, Contains-later}
 

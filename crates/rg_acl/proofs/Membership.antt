@@ -1,5 +1,5 @@
 -- Facts in which role rows name more users: sound where the facts are, and their engine answers as the deltas leave it.
-use Rattle.std.proofs.Common.{◌≡◌, ◌&&◌, ◌||◌, ◌+◌, ◌++◌, ◌<◌, ◌≤◌, ℕ, get_or, zero, suc, Bool, true, cond, List, [], ◌∷◌, length, map, take, Option, Some, None, is_none, option_map, slice_index_or, le_refl, refl, sym, subst, ap, ◌∙◌, arith}
+use Rattle.std.proofs.Common.{◌≡◌, ◌&&◌, ◌||◌, ◌+◌, ◌++◌, ◌<◌, ◌≤◌, ℕ, get_or, zero, suc, Bool, true, cond, List, [], ◌∷◌, length, map, take, Some, None, is_none, option_map, slice_index_or, le_refl, refl, sym, subst, ap, ◌∙◌, arith}
 use Rattle.std.specs.List.{list_all, list_any}
 use Rattle.std.specs.Option.{option_or}
 use Rattle.std.specs.Str.{bytes_eq}
@@ -19,8 +19,7 @@ use Rattle.rg_policy.specs.declared.request.AccessRequest.{AccessRequest}
 use Rattle.rg_effect.specs.PolicyRules.{subjects_fit}
 use Rattle.rg_roles.specs.Chains.{leads, leads_within}
 use Rattle.rg_roles.specs.Faults.{fault_of, first_row, is_absent, is_on_cycle, names_absent, repeats}
-use Rattle.rg_roles.specs.Members.{name_at, names_of, names_role, roles_at}
-use Rattle.rg_roles.specs.declared.fault.RoleFault.{RoleFault}
+use Rattle.rg_roles.specs.Members.{name_at, names_of, names_role}
 use Rattle.rg_roles.specs.declared.fault.RoleFault.TheVariants.{Duplicate, Unknown, Cycle}
 use Rattle.rg_roles.specs.declared.row.RoleRow.{RoleRow}
 use Rattle.rg_zones.specs.Overlap.{first_overlap}

@@ -1,12 +1,11 @@
 -- Users whom nothing names get the same verdicts.
-use Rattle.std.proofs.Common.{◌≡◌, ◌&&◌, ◌||◌, ◌++◌, ℕ, Bool, true, not, cond, List, [], ◌∷◌, map, Option, Some, None, Contains, option_map, refl, sym, subst, ap, ◌∙◌, inl, inr, false, arith}
+use Rattle.std.proofs.Common.{◌≡◌, ◌&&◌, ◌||◌, ℕ, true, not, cond, List, [], ◌∷◌, Option, Some, None, Contains, option_map, refl, sym, subst, ap, ◌∙◌, inl, inr, false, arith}
 use Rattle.std.specs.List.{flat_map}
 use Rattle.std.specs.Ordering.{int_eq}
 use Rattle.std.proofs.lemmas.List.Elements.{Contains-append_cases, Contains-append_left, Contains-append_right}
 use Rattle.rg_base.specs.Texts.{is_among}
 use Rattle.rg_base.proofs.Lists.{Contains-first, Contains-flat_mapped, Contains-later, Contains-mapped, all_holds, list_all_agree, list_any_agree}
 use Rattle.rg_policy.specs.Kinds.{access_policy, filter_policy, item_lists, mask_policy}
-use Rattle.rg_policy.specs.Maps.{maps_of}
 use Rattle.rg_policy.specs.declared.policy.Item.{Item}
 use Rattle.rg_policy.specs.declared.policy.Policy.{Policy}
 use Rattle.rg_policy.specs.declared.policy.PolicyCondition.{PolicyCondition}
@@ -16,7 +15,7 @@ use Rattle.rg_cond.specs.Conditions.{condition_holds, rule_holds}
 use Rattle.rg_cond.specs.Kinds.{rule_of}
 use Rattle.rg_cond.specs.declared.rules.Rule.{Rule}
 use Rattle.rg_cond.specs.declared.rules.Rule.TheVariants as rule
-use Rattle.rg_resmatch.specs.Tests.{some_lies, tag_elements}
+use Rattle.rg_resmatch.specs.Tests.{tag_elements}
 use Rattle.rg_resmatch.specs.declared.reach.Reach.TheVariants.{Exact}
 use Rattle.rg_roles.specs.Holding.{holds}
 use Rattle.rg_effect.specs.Accesses.{any_grants}
@@ -29,9 +28,9 @@ use Rattle.rg_evalr.specs.declared.frame.Frame.{Frame}
 use Rattle.rg_evalr.specs.declared.frame.Side.{Side}
 use Rattle.rg_evalr.specs.declared.frame.Side.TheVariants.{Resource, Tag as Tagged}
 use Rattle.rg_facts.specs.Best.{Best, after, asked, better_of, none_yet, outcome_by, ranked, ranks_before}
-use Rattle.rg_facts.specs.Candidates.{Candidate, Setting, candidate, candidates, context_of, frame_of, is_chosen, resource_candidates, setting_of, tag_candidates, tags_of}
+use Rattle.rg_facts.specs.Candidates.{Candidate, Setting, candidate, candidates, frame_of, is_chosen, resource_candidates, setting_of, tag_candidates, tags_of}
 use Rattle.rg_facts.specs.Choices.{Choice, goes_before, offered}
-use Rattle.rg_facts.specs.Flow.{cell_at, cell_of, eval, given, outcome, verdict_of}
+use Rattle.rg_facts.specs.Flow.{cell_of, eval, given, outcome, verdict_of}
 use Rattle.rg_facts.specs.Sound.{all_policies}
 use Rattle.rg_facts.specs.declared.best.Pass.TheVariants.{All}
 use Rattle.rg_facts.specs.declared.facts.Facts.{Facts}

@@ -1,5 +1,5 @@
 -- What is printed for a row has no float.
-use Rattle.std.proofs.Common.{◌≡◌, Bool, false, refl, arith}
+use Rattle.std.proofs.Common.{◌≡◌, false, refl, arith}
 use Rattle.serde_json.specs.Written.{has_float}
 use Rattle.rg_json.proofs.Plain.{Plain, integer_plain, object_plain, text_plain}
 use Rattle.rg_acl.specs.Printing.{name_of, row_data, row_members}

@@ -1,6 +1,6 @@
 -- Who asks plays no part where no value has `{USER}`.
 use Rattle.std.proofs.Common.{◌≡◌, ◌&&◌, ◌||◌, ℕ, Bool, true, false, not, cond, List, [], ◌∷◌, map, Option, Some, None, Contains, true≢false, refl, sym, ap, ◌∙◌}
-use Rattle.std.specs.List.{list_all, list_any}
+use Rattle.std.specs.List.{list_all}
 use Rattle.rg_base.proofs.Lists.{all_holds, list_any-map}
 use Rattle.rg_defs.specs.PathTests.{on_one_path}
 use Rattle.rg_defs.specs.Paths.{level_of}
@@ -18,7 +18,7 @@ use Rattle.rg_policy.specs.declared.policy.Policy.{Policy}
 use Rattle.rg_policy.specs.declared.policy.PolicyResource.{PolicyResource}
 use Rattle.rg_policy.specs.declared.policy.ResourceMap.{ResourceMap}
 use Rattle.rg_policy.specs.declared.request.Element.{Element}
-use Rattle.rg_resmatch.specs.Tests.{any_stands, hit, is_hit, is_open, is_some_element, levels_of, lies, may_name, meets, patterns_of, some_lies, some_stands, value_at}
+use Rattle.rg_resmatch.specs.Tests.{any_stands, hit, is_hit, is_some_element, levels_of, lies, may_name, meets, some_lies, some_stands, value_at}
 use Rattle.rg_resmatch.specs.declared.reach.Reach.{Reach}
 use Rattle.rg_acl.specs.Laws.{is_plain, map_is_plain, policy_is_plain, resource_is_plain}
 use Rattle.rg_acl.proofs.Agreeing.{all_agree, any_agree}

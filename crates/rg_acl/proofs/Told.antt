@@ -1,13 +1,9 @@
 -- What the rows of a report say, and that none is missing.
-use Rattle.std.proofs.Common.{◌≡◌, ◌++◌, ℕ, true, List, [], ◌∷◌, Contains, Result, Ok, Err, IfOk, map, refl, sym, ap, subst, ◌∙◌, inl, inr}
+use Rattle.std.proofs.Common.{◌≡◌, ◌++◌, ℕ, true, List, [], ◌∷◌, Contains, map, refl, subst, ◌∙◌, inl, inr}
 use Rattle.std.specs.Str.{chars, encode_utf8_all}
 use Rattle.std.proofs.lemmas.List.Elements.{Contains-append_cases, Contains-append_left, Contains-append_right}
-use Rattle.rg_base.specs.Listed.{Listed, listed}
 use Rattle.rg_base.proofs.Lists.{Contains-cases, Contains-first, Contains-flat_map, Contains-flat_mapped, Contains-map, Contains-mapped, Contains-none, Contains-same}
-use Rattle.rg_policy.specs.declared.request.AccessRequest.{AccessRequest}
 use Rattle.rg_roles.specs.Members.{names_of}
-use Rattle.rg_roles.specs.declared.row.RoleRow.{RoleRow}
-use Rattle.rg_facts.specs.Flow.{eval}
 use Rattle.rg_facts.specs.declared.facts.Facts.{Facts}
 use Rattle.rg_acl.specs.Laws.{AreForOthers, HasRow, HasRows, IsDecided, IsDecidedFor, IsText, Says, is_unnamed, values_are_plain}
 use Rattle.rg_acl.specs.Named.{named}

@@ -1,5 +1,5 @@
 -- The stranger, whom nothing names, and the strangers that are members of one role each.
-use Rattle.std.specs.Prelude.{ℕ, suc, ◌==◌, max, List, [], ◌∷◌, ◌++◌, decimal, fold, map, replicate, if◌then◌else◌}
+use Rattle.std.specs.Prelude.{ℕ, suc, ◌==◌, max, List, [], ◌∷◌, ◌++◌, decimal, fold, replicate, if◌then◌else◌}
 use Rattle.std.specs.Str.{chars}
 use Rattle.rg_base.specs.Listed.{added, listed}
 use Rattle.rg_roles.specs.declared.row.RoleRow.{RoleRow}

@@ -1,4 +1,4 @@
-use Rattle.std.proofs.Common.{◌<◌, ◌+◌, ◌++◌, ◌∷◌, [], ◌∙◌, ℕ, ap, arith, length, length-append, subst, sym}
+use Rattle.std.proofs.Common.{◌<◌, ◌++◌, ◌∷◌, [], ◌∙◌, ℕ, ap, arith, length, length-append, subst, sym}
 use Rattle.rg_acl.specs.Work.{IsTriedFor, bound_for}
 use Rattle.rg_acl.proofs.Counting.{made_by_verdict, tried_once}
 use Rattle.rg_acl.proofs.Joined.{rows_next}
