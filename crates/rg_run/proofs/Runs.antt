@@ -2,7 +2,7 @@
 use Rattle.std.proofs.Common.{◌≡◌, ◌⊎◌, ◌∙◌, ◌<◌, ◌++◌, arith, ℕ, List, [], Bool, true, false, Option, Some, None, Result, Ok, Err, inl, inr, refl, ap, sym, subst}
 use Rattle.rg_base.specs.declared.numbers.Moment.{Moment}
 use Rattle.rg_run.specs.declared.command.Command.{Command}
-use Rattle.rg_run.specs.declared.command.Command.TheVariants.{Replay, Serve, Drill, Grants}
+use Rattle.rg_run.specs.declared.command.Command.TheVariants.{Replay, Serve, Drill, Grants, Report}
 use Rattle.rg_run.specs.declared.status.Status.{Status}
 use Rattle.rg_run.specs.declared.status.Status.TheVariants.{Done, Usage, BadLine, ReadFault, WriteFault, NetFault, TooLong, NoMemory}
 use Rattle.rg_run.specs.Commands.{only_built}
@@ -11,6 +11,7 @@ use Rattle.rg_run.specs.Grants.{grants}
 use Rattle.rg_run.specs.Limits.{is_too_long}
 use Rattle.rg_run.specs.Ports.{Ports}
 use Rattle.rg_run.specs.Replay.{replayed}
+use Rattle.rg_run.specs.Report.{reported}
 use Rattle.rg_run.specs.Runs.{Answers, CountsReads, CountsWrites, EndsIn, Follows, IsEndOf, IsRun, OfStatus, Overran, ServesLinks, Stands}
 use Rattle.rg_run.specs.Serve.{Door}
 use Rattle.rg_run.specs.Statuses.{number_of}
@@ -109,6 +110,7 @@ undone d (Some Replay) p = record { stands = (refl, inl refl); reads = refl; wri
 undone d (Some (Serve address links)) p = record { stands = (inl (refl, refl), refl); reads = refl; writes = refl }
 undone d (Some (Drill seed policies requests)) p = record { stands = refl; reads = refl; writes = refl }
 undone d (Some Grants) p = record { stands = (refl, inl refl); reads = refl; writes = refl }
+undone d (Some Report) p = record { stands = (refl, inl refl); reads = refl; writes = refl }
 
 -- bytes within the limits don't overrun them
 in_limits : (left left' : Option (List ℕ)) (bytes : List ℕ) → left ≡ Some bytes → is_too_long bytes ≡ false → Overran left left' → ⊥
@@ -158,6 +160,7 @@ pub completed : (d d' : Door) (asked : Option Command) (command : Command) (p q 
     → q.read_faults ≡ p.read_faults → q.write_faults ≡ p.write_faults → d'.faults ≡ d.faults → p.left ≡ Some bytes → is_too_long bytes ≡ false → (n ≡ 0) ⊎ ((n ≡ 2) ⊎ (n ≡ 9))
 completed d d' (Some Replay) command p q n status bytes named e run reads writes links told within = completes replayed p q n status bytes e run reads writes told within
 completed d d' (Some Grants) command p q n status bytes named e run reads writes links told within = completes grants p q n status bytes e run reads writes told within
+completed d d' (Some Report) command p q n status bytes named e run reads writes links told within = completes reported p q n status bytes e run reads writes told within
 completed d d' (Some (Serve address most)) command p q n status bytes named e run reads writes links told within = served most d d' p q n status bytes e run reads writes links told within
 completed d d' (Some (Drill seed policies requests)) command p q n status bytes named e run reads writes links told within = drilled d d' seed policies requests p q n status e run writes
 completed d d' None command p q n status bytes named e run reads writes links told within = cc

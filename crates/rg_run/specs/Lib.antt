@@ -8,6 +8,7 @@ pub mod Moments
 pub mod Ports
 pub mod Preparing
 pub mod Replay
+pub mod Report
 pub mod Runs
 pub mod Serve
 pub mod Statuses

@@ -5,7 +5,7 @@ use Rattle.rg_workload.specs.Drill.{IsCarriedOut}
 use Rattle.rg_workload.specs.Report.{report_text}
 use Rattle.rg_workload.specs.declared.totals.Totals.{Totals}
 use Rattle.rg_run.specs.declared.command.Command.{Command}
-use Rattle.rg_run.specs.declared.command.Command.TheVariants.{Replay, Serve, Drill, Grants}
+use Rattle.rg_run.specs.declared.command.Command.TheVariants.{Replay, Serve, Drill, Grants, Report}
 use Rattle.rg_run.specs.declared.status.Status.{Status}
 use Rattle.rg_run.specs.declared.status.Status.TheVariants.{Done, Usage, BadLine, ReadFault, WriteFault, NetFault, TooLong, NoMemory}
 use Rattle.rg_run.specs.Follow.{Comes, Output, Script}
@@ -13,12 +13,13 @@ use Rattle.rg_run.specs.Grants.{grants}
 use Rattle.rg_run.specs.Limits.{is_too_long, room}
 use Rattle.rg_run.specs.Ports.{Ports}
 use Rattle.rg_run.specs.Replay.{replayed}
+use Rattle.rg_run.specs.Report.{reported}
 use Rattle.rg_run.specs.Serve.{AreTotals, Asked, Asking, Door, Numbers, printed_of, replies_to, taken, totals_line}
 use Rattle.rg_run.specs.Statuses.{number_of}
 use Rattle.rg_run.specs.Streams.{HasRead, IsAll, Wrote, WrotePrefix}
 
 abbrev pub usage_text : List ℕ
-usage_text = codes "usage: rangerd replay | serve ADDRESS LINKS | drill SEED POLICIES REQUESTS | grants\n"
+usage_text = codes "usage: rangerd replay | serve ADDRESS LINKS | drill SEED POLICIES REQUESTS | grants | report\n"
 
 abbrev pub too_long_text : List ℕ
 too_long_text = codes "too long\n"
@@ -115,6 +116,7 @@ Answers d e (Some Replay) p q status = Stands _ replayed p q status
 Answers d e (Some (Serve address links)) p q status = ServesLinks links d e p q status
 Answers d e (Some (Drill seed policies requests)) p q status = Drilled seed policies requests p.held q.held status
 Answers d e (Some Grants) p q status = Stands _ grants p q status
+Answers d e (Some Report) p q status = Stands _ reported p q status
 Answers d e _ p q status = IsTold p q status
 
 -- the source's count of faults rose where the status says that it failed, and else it stayed

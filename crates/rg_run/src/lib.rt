@@ -9,6 +9,7 @@ mod preparing;
 mod program;
 mod reading;
 mod replay;
+mod report;
 mod script;
 mod serving;
 mod status;

@@ -13,6 +13,7 @@ use crate::follow::{Worker, follow};
 use crate::grants::Grants;
 use crate::reading::{Stop, read_all};
 use crate::replay::{Replay, Stage};
+use crate::report::Reports;
 use crate::serving::serve_script;
 use crate::status::Status;
 use crate::writing::write_all;
@@ -143,9 +144,15 @@ fn answer<
             drop(grants);
             status
         }
+        Some(Command::Report) => {
+            let mut reports = Reports::new();
+            let status = work_script(alloc, &mut reports, source, sink, clock);
+            drop(reports);
+            status
+        }
         None => match write_all(
             sink,
-            b"usage: rangerd replay | serve ADDRESS LINKS | drill SEED POLICIES REQUESTS | grants\n",
+            b"usage: rangerd replay | serve ADDRESS LINKS | drill SEED POLICIES REQUESTS | grants | report\n",
         ) {
             Ok(()) => Status::Usage,
             Err(_) => Status::WriteFault,

@@ -1,0 +1,9 @@
+pub mod Asks
+pub mod Laws
+pub mod Named
+pub mod Ordered
+pub mod Printing
+pub mod Rows
+pub mod Sorting
+pub mod Strangers
+pub mod Work
