@@ -13,8 +13,6 @@ mod read;
 mod reporting;
 mod row;
 mod stranger;
-#[cfg(test)]
-mod tests;
 
 pub use ask::ReportAsk;
 pub use laws::{

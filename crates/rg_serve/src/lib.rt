@@ -13,6 +13,3 @@ mod threads;
 pub use ending::Served;
 pub use opened::Opened;
 pub use serving::{ServeFault, serve};
-
-#[cfg(test)]
-mod tests;
