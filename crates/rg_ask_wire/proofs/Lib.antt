@@ -1,0 +1,10 @@
+pub mod Asked
+pub mod Depths
+pub mod InOrder
+pub mod Maps
+pub mod Owned
+pub mod Parsed
+pub mod Plain
+pub mod Refusals
+pub mod Right
+pub mod Rows

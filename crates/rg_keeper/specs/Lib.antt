@@ -1,0 +1,4 @@
+pub mod Database
+pub mod Keeping
+pub mod Memory
+pub mod Prefixes
