@@ -1,9 +1,8 @@
 -- Parts of JSON that is in order are in order.
-use Rattle.std.proofs.Common.{◌≡◌, ℕ, ℤ, pos, negsuc, List, [], ◌∷◌, ◌++◌, map, Option, Some, None, option_map, option_and_then, unwrap_or, refl, sym, ap, ap₂, ◌∙◌, subst, Ordering, Less, Equal, Greater}
+use Rattle.std.proofs.Common.{◌≡◌, ℕ, ℤ, pos, negsuc, List, [], ◌∷◌, ◌++◌, map, Option, Some, None, IfSome, option_map, option_and_then, unwrap_or, refl, sym, ap, ap₂, ◌∙◌, subst, Ordering, Less, Equal, Greater}
 use Rattle.std.specs.Str.{IsUtf8, chars, encode_utf8_all}
 use Rattle.std.specs.Ordering.{match_ordering, nat_cmp}
 use Rattle.std.specs.Cmp.Lexicographic.{slice_cmp}
-use Rattle.std.proofs.lemmas.Option.{none-some, same_Some}
 use Rattle.std.proofs.lemmas.Str.{chars-nil, encodes-chars}
 use Rattle.serde_json.specs.Data.{Data, null, boolean, number, string, array, object, Items, no_items, item, Members, no_members, member}
 use Rattle.serde_json.specs.Find.{get, get_member, as_str, as_array, as_object, as_number, as_i64}
@@ -94,21 +93,21 @@ name_own k (string s) is = text_own (string s) is
 name_own k (array ds) is = text_own (array ds) is
 name_own k (object ms) is = text_at_own k (object ms) is
 
-fine : (o : Option ℤ) → ((z : ℤ) → o ≡ Some z → IsInteger z) → IsInteger (unwrap_or o (pos 0))
+fine : (o : Option ℤ) → IfSome o IsInteger → IsInteger (unwrap_or o (pos 0))
 fine None f = refl
-fine (Some z) f = f z refl
+fine (Some z) f = f
 
-number_fine : (d : Data) → IsOrderly d → (z : ℤ) → option_and_then as_i64 (as_number d) ≡ Some z → IsInteger z
-number_fine null is z e = absurd (none-some z e)
-number_fine (boolean b) is z e = absurd (none-some z e)
-number_fine (number n) is z e = is z e
-number_fine (string s) is z e = absurd (none-some z e)
-number_fine (array ds) is z e = absurd (none-some z e)
-number_fine (object ms) is z e = absurd (none-some z e)
+number_fine : (d : Data) → IsOrderly d → IfSome (option_and_then as_i64 (as_number d)) IsInteger
+number_fine null is = tt
+number_fine (boolean b) is = tt
+number_fine (number n) is = is
+number_fine (string s) is = tt
+number_fine (array ds) is = tt
+number_fine (object ms) is = tt
 
-found_fine : (o : Option Data) → Found o → (z : ℤ) → option_and_then (λ v. option_and_then as_i64 (as_number v)) o ≡ Some z → IsInteger z
-found_fine None f z e = absurd (none-some z e)
-found_fine (Some d) f z e = number_fine d f z e
+found_fine : (o : Option Data) → Found o → IfSome (option_and_then (λ v. option_and_then as_i64 (as_number v)) o) IsInteger
+found_fine None f = tt
+found_fine (Some d) f = number_fine d f
 
 pub integer_own : (k : List ℕ) (d : Data) → IsOrderly d → IsInteger (i64_at (pos 0) k d)
 unfolding i64_at

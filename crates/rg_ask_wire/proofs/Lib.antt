@@ -8,3 +8,4 @@ pub mod Plain
 pub mod Refusals
 pub mod Right
 pub mod Rows
+pub mod Seen

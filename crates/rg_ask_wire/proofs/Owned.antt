@@ -1,5 +1,5 @@
 -- What was read from JSON that is in order is in key order.
-use Rattle.std.proofs.Common.{◌≡◌, ℕ, List, [], ◌∷◌, Bool, true, false, cond, bytes_eq, find, Option, Some, None, Result, Ok, Err, refl, sym, ap, ◌∙◌, subst}
+use Rattle.std.proofs.Common.{◌≡◌, ℕ, List, [], ◌∷◌, Bool, true, false, cond, bytes_eq, find, Option, Some, None, IfSome, Result, Ok, Err, refl, sym, ap, ◌∙◌, subst}
 use Rattle.std.specs.Str.{IsUtf8, chars}
 use Rattle.std.proofs.lemmas.Option.{none-some}
 use Rattle.serde_json.specs.Data.{Data}
@@ -220,6 +220,11 @@ read_in_order d c is read owns = go (fault_of word_shape d) (given c (reading_in
     go : (o : Option Fault) → IsGiven c (after_word (Some d) (unless_fault (word_at d) o)) → IsCommandInOrder c
     go None same = named_in_order d c (word_at d) is owns same
     go (Some fault) same = absurd same
+
+-- so is one that was read from a text
+pub found_in_order : (json : Option Data) → IfSome json IsOrderly → (c : AdminCommand) → reading_in json ≡ Ok c → OwnsPolicy c → IsCommandInOrder c
+found_in_order None is c read owns = absurd (given c (reading_in None) read)
+found_in_order (Some d) is c read owns = read_in_order d c is read owns
 
 -- an ask that was read is in key order
 pub ask_in_order : (d : Data) (actor : List ℕ) (c : AdminCommand) → IsOrderly d → IsText actor → reading_in (Some (within (ask_name own.Command) d)) ≡ Ok c → OwnsPolicy c

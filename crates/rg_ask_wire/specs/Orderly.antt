@@ -1,5 +1,5 @@
 -- For proofs alone: JSON as it is in memory. Its strings and keys are text, the keys of a map stand in byte order, and integers fit.
-use Rattle.std.specs.Prelude.{◌≡◌, ℕ, ℤ, List, Some, option_and_then}
+use Rattle.std.specs.Prelude.{◌≡◌, ℕ, List, IfSome, option_and_then}
 use Rattle.std.specs.Str.{IsUtf8}
 use Rattle.std.specs.Ordering.{nat_cmp}
 use Rattle.std.specs.declared.cmp.Ordering.TheVariants.{Less}
@@ -10,7 +10,7 @@ use Rattle.rg_json.specs.Own.{IsInteger}
 
 -- where it is an integer of 64 bits, it is one
 abbrev pub IsFine : Num → Type 0
-IsFine n = (z : ℤ) → as_i64 n ≡ Some z → IsInteger z
+IsFine n = IfSome (as_i64 n) IsInteger
 
 -- the key is before that of the first
 abbrev pub IsFirstKey : List ℕ → Members → Type 0
@@ -36,4 +36,4 @@ abbrev mutual
 
 -- a number is fine
 abbrev pub IsFineNumber : Data → Type 0
-IsFineNumber d = (z : ℤ) → option_and_then as_i64 (as_number d) ≡ Some z → IsInteger z
+IsFineNumber d = IfSome (option_and_then as_i64 (as_number d)) IsInteger

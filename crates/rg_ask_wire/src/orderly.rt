@@ -1,10 +1,12 @@
 // What the types of a JSON value keep: looked up in every part, so that contracts can speak of the whole.
-ghost use Rattle.std.specs.Prelude.{◌≡◌, Ok, OnOk, string_bytes};
+ghost use Rattle.std.specs.Prelude.{◌≡◌, IfSome, Ok, OnOk, string_bytes};
 ghost use Rattle.std.specs.Str.{IsUtf8};
 ghost use Rattle.serde_json.specs.View.{items_view, members_view, view};
 ghost use Rattle.rg_cmd.specs.declared.ask.AdminCommand.{AdminCommand};
 ghost use Rattle.rg_cmd_wire.specs.Commands.{OwnsPolicy};
 ghost use Rattle.rg_cmd_wire.specs.Reading.{command_reading};
+ghost use Rattle.rg_json.specs.Own.{IsInteger};
+ghost use Rattle.rg_json.specs.Texts.{data_of};
 ghost use Rattle.rg_ask_wire.specs.KeyOrder.{IsCommandInOrder};
 ghost use Rattle.rg_ask_wire.specs.Orderly.{AreKeyed, AreOrderly, IsFineNumber, IsOrderly};
 
@@ -31,10 +33,17 @@ fn see_text(text: &String)
     ensures { IsUtf8 (string_bytes text.now) }
 {}
 
+fn see_integer(number: i64)
+    ensures { IsInteger number }
+{}
+
 fn see_number(value: &Value)
     ensures { IsFineNumber (view value.now) }
 {
-    let _number = value.as_i64();
+    match value.as_i64() {
+        None => {}
+        Some(number) => see_integer(number),
+    }
 }
 
 #[cycle(seeing)]
@@ -55,14 +64,24 @@ fn see_members(members: &Map<String, Value>)
     }
 }
 
+/// Looks at the JSON of a text.
+fn see_json(alloc: Global, text: &[u8]) -> Result<(), NoMemory>
+    ensures { OnOk result (IfSome (data_of text.now) IsOrderly) }
+{
+    match json_of(alloc, text) {
+        Err(NoMemory) => Err(NoMemory),
+        Ok(None) => Ok(()),
+        Ok(Some(value)) => {
+            see(&value);
+            Ok(())
+        }
+    }
+}
+
 /// Each command that reads from this text is in key order. Nothing is answered: it looks at the text, so that a caller who read
 /// a command from it knows this.
 pub fn commands_are_in_order(alloc: Global, text: &[u8]) -> Result<(), NoMemory>
     ensures { OnOk result ((command : AdminCommand) → command_reading text.now ≡ Ok command → OwnsPolicy command → IsCommandInOrder command) }
 {
-    match json_of(alloc, text)? {
-        Some(value) => see(&value),
-        None => {}
-    }
-    Ok(())
+    see_json(alloc, text)
 }

@@ -17,7 +17,7 @@ use Rattle.rg_ask_wire.specs.Asks.{ask_text}
 use Rattle.rg_ask_wire.specs.Keeping.{is_keeping}
 use Rattle.rg_ask_wire.specs.Reading.{ask_reading}
 use Rattle.rg_keep.specs.Crashes.{IsBeforeOrAfter, IsFit, MayLeave, MayTell, Survives}
-use Rattle.rg_keep.specs.Keeping.{Adds, Agree, HasLength, IsAnswer, IsCause, IsKept, IsKeptBy, IsReplayed, Reopens, adds, added_if, is_full, is_past, with_count}
+use Rattle.rg_keep.specs.Keeping.{Adds, Agree, Counts, HasLength, IsAnswer, IsCause, IsKept, IsKeptBy, IsReplayed, Reopens, adds, added_if, is_full, is_past, with_count}
 use Rattle.rg_keep.specs.declared.kept_admin.KeptReply.{KeptReply}
 use Rattle.rg_keep.specs.declared.kept_admin.KeptReply.TheVariants.{Reply, Full}
 use Rattle.rg_keep.specs.declared.reopen.ReopenCause.{ReopenCause}
@@ -190,6 +190,21 @@ kept_replay (Some entries) n config first a start lawful same is =
       is.counts,
     )
 
+pub replay_kept : (told new : Option (List (List ℕ))) (n : ℕ) (config : Config) (first a : Administration) → start_fault config ≡ None → first ≡ started config → IsStart (started config) → IsReplaying told first n a → new ≡ told
+    → IsKept new config a
+replay_kept told new n config first a lawful same start is stays = subst (λ o. IsKept o config a) (sym stays) (kept_replay told n config first a start lawful same is).0
+
+pub replay_replayed : (told new : Option (List (List ℕ))) (n : ℕ) (config : Config) (first a : Administration) → start_fault config ≡ None → first ≡ started config → IsStart (started config) → IsReplaying told first n a → new ≡ told
+    → IsReplayed new config a
+replay_replayed told new n config first a lawful same start is stays = subst (λ o. IsReplayed o config a) (sym stays) (kept_replay told n config first a start lawful same is).1
+
+replay_length : (told : Option (List (List ℕ))) (n : ℕ) (first a : Administration) → IsReplaying told first n a → HasLength told n
+replay_length None n first a is = tt
+replay_length (Some entries) n first a is = is.counts
+
+pub replay_counts : (told new : Option (List (List ℕ))) (n : ℕ) (first a : Administration) → IsReplaying told first n a → n ≤ most_kept → new ≡ told → Counts new n
+replay_counts told new n first a is high stays = subst (λ o. Counts o n) (sym stays) (record { counts = replay_length told n first a is; within = high })
+
 pub stopped_cause : (told : Option (List (List ℕ))) (config : Config) (first : Administration) (before now : ℕ) (cause : ReopenCause) → start_fault config ≡ None → first ≡ started config
     → IsStoppedIn told first before now cause → IsCause cause told config before now
 unfolding first_bad
@@ -205,6 +220,13 @@ start_cause None config before now (BadRecord place) is = absurd is
 start_cause (Some entries) config before now (BadRecord place) is = absurd is
 start_cause told config before now Failed is = absurd is
 start_cause told config before now NoMemory is = tt
+
+pub starts_as : (config : Config) (a : Administration) → a ≡ started config → IsStart a → IsStart (started config)
+starts_as config a same start = subst IsStart same start
+
+pub ruleset starts = (starts_as)
+
+pub ruleset replays = (replay_kept, replay_replayed, replay_counts, stopped_cause, start_cause)
 
 -- ---- results
 

@@ -3,4 +3,5 @@ pub mod Alike
 pub mod Kept
 pub mod Lists
 pub mod Passing
+pub mod Stepping
 pub mod Written

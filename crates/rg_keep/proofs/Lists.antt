@@ -14,7 +14,7 @@ pub after_more : (a : Administration) (entries : List (List ℕ)) (entry : List 
 after_more a [] entry = refl
 after_more a (e ∷ entries) entry = after_more (after_entry a e) entries entry
 
-not_most : (n : ℕ) → n < most_kept → (n == most_kept) ≡ false
+pub not_most : (n : ℕ) → n < most_kept → (n == most_kept) ≡ false
 not_most n low = grind (arith, nat_tests)
 
 pub good_more : (a : Administration) (place : ℕ) (entries : List (List ℕ)) (entry : List ℕ) → first_bad_from a place entries ≡ None → place + length entries < most_kept
@@ -88,3 +88,21 @@ part_stops (Some entries) first place before now later a (BadRecord named) part 
     ∙ ap (λ n. Some n) (sym is.told)
 part_stops told first place before now later a Failed part le is = omega (arith, le, is)
 part_stops told first place before now later a NoMemory part le is = tt
+
+-- the next entry of the list that the keeper still has
+pub part_next : (told now : Option (List (List ℕ))) (first : Administration) (place : ℕ) (a b : Administration) (more : Bool) → now ≡ told → IsPart told first place a → Takes now place a more b → more ≡ true
+    → IsPart told first (place + 1) b
+part_next told now first place a b more same part taken is =
+    part_goes_on told first place a b part (subst (λ (m : Bool). Takes told place a m b) is (subst (λ o. Takes o place a more b) same taken))
+
+pub part_last : (told now : Option (List (List ℕ))) (first : Administration) (place : ℕ) (a b : Administration) (more : Bool) → now ≡ told → IsPart told first place a → Takes now place a more b → more ≡ false
+    → IsReplaying told first place b
+part_last told now first place a b more same part taken is =
+    part_ends told first place a b part (subst (λ (m : Bool). Takes told place a m b) is (subst (λ o. Takes o place a more b) same taken))
+
+pub part_cut : (told now : Option (List (List ℕ))) (first : Administration) (place before between after : ℕ) (a : Administration) (cause : ReopenCause) → now ≡ told → IsPart told first place a → before ≤ between
+    → IsStopped now place a between after cause → IsStoppedIn told first before after cause
+part_cut told now first place before between after a cause same part le is =
+    part_stops told first place before between after a cause part le (subst (λ o. IsStopped o place a between after cause) same is)
+
+pub ruleset parts = (part_begins, part_next, part_last, part_cut)

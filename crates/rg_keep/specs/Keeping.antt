@@ -1,5 +1,5 @@
 -- What stands between a kept administration and its keeper's list.
-use Rattle.std.specs.Prelude.{◌≡◌, ◌<◌, ◌==◌, ◌&&◌, not, ℕ, Bool, true, false, List, [], ◌∷◌, ◌++◌, length, Option, Some, None}
+use Rattle.std.specs.Prelude.{◌≡◌, ◌+◌, ◌≤◌, ◌<◌, ◌==◌, ◌&&◌, not, ℕ, Bool, true, false, List, [], ◌∷◌, ◌++◌, length, Option, Some, None}
 use Rattle.rg_cmd.specs.declared.ask.AdminReply.{AdminReply}
 use Rattle.rg_cmd.specs.declared.ask.Ask.{Ask}
 use Rattle.rg_cmd.specs.declared.config.Config.{Config}
@@ -23,6 +23,11 @@ pub record Desk (K : Type 0) : Type 0 where
 abbrev pub HasLength : Option (List (List ℕ)) → ℕ → Type 0
 HasLength None n = Unit {0}
 HasLength (Some entries) n = n ≡ length entries
+
+-- and it is one that may be kept
+pub record Counts (told : Option (List (List ℕ))) (n : ℕ) : Type 0 where
+  pub counts : HasLength told n
+  pub within : n ≤ most_kept
 
 -- ---- agreement
 
@@ -76,6 +81,11 @@ is_past n ask = is_keeping ask.command && n == most_kept
 -- the ask is kept behind so many others
 abbrev pub adds : ℕ → Administration → Ask → Bool
 adds n a ask = not (n == most_kept) && is_kept a ask
+
+-- so many, with one more where another was kept
+abbrev pub count_one : ℕ → Bool → ℕ
+count_one n true = n + 1
+count_one n false = n
 
 -- the entry is added where it is to be
 abbrev pub added_if : Bool → List ℕ → List (List ℕ) → List (List ℕ)

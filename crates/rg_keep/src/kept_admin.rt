@@ -1,13 +1,14 @@
 // An administration whose commands are kept.
-ghost use Rattle.std.specs.Prelude.{◌≡◌, ◌≤◌, ◌<◌, ℕ, List, Some, None, true, false, IfOk, IfErr, OnErr};
+ghost use Rattle.std.specs.Prelude.{◌≡◌, ◌≤◌, ◌<◌, ℕ, List, Some, None, Ok, true, false, IfOk, IfErr, OnErr};
 ghost use Rattle.rg_cmd.specs.declared.config.Config.{Config};
 ghost use Rattle.rg_keeper.specs.Keeping.{Nothing, Passes};
 ghost use Rattle.rg_ask_wire.specs.Asks.{ask_text};
 ghost use Rattle.rg_ask_wire.specs.Keeping.{is_keeping};
 ghost use Rattle.rg_ask_wire.specs.KeyOrder.{IsInKeyOrder};
+ghost use Rattle.rg_ask_wire.specs.Reading.{ask_reading};
 ghost use Rattle.rg_admin.specs.Starting.{start_fault};
 ghost use Rattle.rg_keep.specs.Crashes.{Gains, IsFit, MayGain, MayLeave, MayTell, Survives};
-ghost use Rattle.rg_keep.specs.Keeping.{Adds, Desk, HasLength, IsAnswer, IsCause, IsKept, IsReplayed, Reopens, adds, is_full, is_past};
+ghost use Rattle.rg_keep.specs.Keeping.{Adds, Desk, HasLength, IsAnswer, IsCause, IsKept, IsReplayed, Reopens, adds, count_one, is_full, is_past};
 ghost use Rattle.rg_keep.specs.Replay.{is_kept, most_kept, stepped};
 
 use crate::reopen::{MOST_KEPT, ReopenFault, answer, is_refused, replay};
@@ -27,13 +28,13 @@ pub struct KeptAdmin<P: Keeper + Drop> {
 }
 
 impl<P: Keeper + Drop> Model for KeptAdmin<P> {
-    ghost use Rattle.rg_keep.specs.Keeping.{Desk, HasLength};
+    ghost use Rattle.rg_keep.specs.Keeping.{Counts, Desk};
 
     ghost Value = { Desk P };
 
     ghost view = { λ k. record { admin = k.admin; keeper = k.keeper; kept = k.kept } };
 
-    ghost invariant = { λ k. HasLength (P.kept k.keeper) k.kept };
+    ghost invariant = { λ k. Counts (P.kept k.keeper) k.kept };
 }
 
 /// What an ask is answered.
@@ -56,6 +57,14 @@ pub struct Stopped<P: Drop> {
 struct Answered {
     reply: AdminReply,
     is_kept: bool,
+}
+
+/// The number of kept commands, with one more where another was kept.
+fn count_one(kept: u64, is_kept: bool) -> u64
+    requires { kept < most_kept }
+    ensures { result ≡ count_one kept is_kept }
+{
+    if is_kept { kept + 1 } else { kept }
 }
 
 /// Answers an ask of a command that is kept where it is accepted. Its record is with the keeper before the reply is there.
@@ -145,6 +154,7 @@ impl<P: Keeper + Drop> KeptAdmin<P> {
     pub fn kept(&self) -> u64
         ensures number { result ≡ self.now.kept }
         ensures length { HasLength (P.kept self.now.keeper) result }
+        ensures within { result ≤ most_kept }
     {
         self.kept
     }
@@ -159,11 +169,19 @@ impl<P: Keeper + Drop> KeptAdmin<P> {
     }
 
     /// Answers an ask of a command that only looks.
+    #[tactic(auto, using(crate::proofs::Stepping::looking, crate::proofs::Passing::passing))]
     fn look(self, alloc: Global, ask: Ask) -> Result<(KeptAdmin<P>, KeptReply), Stopped<P>>
+        requires { is_keeping ask.command ≡ false }
         ensures answer { IfOk result (λ r. IsAnswer self.admin ask r.0.admin r.1) }
-        ensures full { IfOk result (λ r. is_full r.1 ≡ false) }
-        ensures same { IfOk result (λ r. (r.0.keeper ≡ self.keeper) × (r.0.kept ≡ self.kept)) }
-        ensures stopped { IfErr result (λ s. s ≡ record { keeper = self.keeper; cause = KeeperFault.NoMemory }) }
+        ensures full { IfOk result (λ r. is_full r.1 ≡ is_past self.kept ask) }
+        ensures added { IfOk result (λ r. Adds (P.kept self.keeper) (adds self.kept self.admin ask) (ask_text ask) (P.kept r.0.keeper)) }
+        ensures fit { IfOk result (λ r. adds self.kept self.admin ask ≡ true → IsFit self.admin ask self.kept) }
+        ensures stopped { IfErr result (λ s. MayTell (P.kept self.keeper) self.admin ask self.kept (P.kept s.keeper)) }
+        ensures moments { IfOk result (λ r. Passes (P.moment self.keeper) (P.moment r.0.keeper) (P.left_since self.keeper) (P.left_since r.0.keeper) (MayLeave (P.kept self.keeper) self.admin ask self.kept)) }
+        ensures moments_err { IfErr result (λ s. Passes (P.moment self.keeper) (P.moment s.keeper) (P.left_since self.keeper) (P.left_since s.keeper) (MayLeave (P.kept self.keeper) self.admin ask self.kept)) }
+        ensures counted { IfOk result (λ r. P.faults self.keeper ≤ P.faults r.0.keeper) }
+        ensures counted_err { IfErr result (λ s. P.faults self.keeper ≤ P.faults s.keeper) }
+        ensures failed { IfErr result (λ s. s.cause ≡ KeeperFault.Failed → P.faults self.keeper < P.faults s.keeper) }
     {
         let mut desk = self;
         match answer(alloc, &mut desk.admin, ask) {
@@ -172,7 +190,8 @@ impl<P: Keeper + Drop> KeptAdmin<P> {
         }
     }
 
-    /// Answers an ask of a command that is kept where it is accepted.
+    /// Answers an ask of a command that is kept where it is accepted. The entry is its record.
+    #[tactic(auto, using(crate::proofs::Stepping::keeping))]
     fn keep(
         self,
         alloc: Global,
@@ -181,12 +200,15 @@ impl<P: Keeper + Drop> KeptAdmin<P> {
     ) -> Result<(KeptAdmin<P>, KeptReply), Stopped<P>>
         requires keeps { is_keeping ask.command ≡ true }
         requires room { self.kept < most_kept }
+        requires printed { entry.now ≡ ask_text ask }
+        requires again { ask_reading (ask_text ask) ≡ Ok ask }
         ensures answer { IfOk result (λ r. IsAnswer self.admin ask r.0.admin r.1) }
-        ensures full { IfOk result (λ r. is_full r.1 ≡ false) }
-        ensures added { IfOk result (λ r. Adds (P.kept self.keeper) (is_kept self.admin ask) entry.now (P.kept r.0.keeper)) }
-        ensures stopped { IfErr result (λ s. Gains (P.kept self.keeper) (is_kept self.admin ask) entry.now (P.kept s.keeper)) }
-        ensures moments { IfOk result (λ r. Passes (P.moment self.keeper) (P.moment r.0.keeper) (P.left_since self.keeper) (P.left_since r.0.keeper) (MayGain (P.kept self.keeper) (is_kept self.admin ask) entry.now)) }
-        ensures moments_err { IfErr result (λ s. Passes (P.moment self.keeper) (P.moment s.keeper) (P.left_since self.keeper) (P.left_since s.keeper) (MayGain (P.kept self.keeper) (is_kept self.admin ask) entry.now)) }
+        ensures full { IfOk result (λ r. is_full r.1 ≡ is_past self.kept ask) }
+        ensures added { IfOk result (λ r. Adds (P.kept self.keeper) (adds self.kept self.admin ask) (ask_text ask) (P.kept r.0.keeper)) }
+        ensures fit { IfOk result (λ r. adds self.kept self.admin ask ≡ true → IsFit self.admin ask self.kept) }
+        ensures stopped { IfErr result (λ s. MayTell (P.kept self.keeper) self.admin ask self.kept (P.kept s.keeper)) }
+        ensures moments { IfOk result (λ r. Passes (P.moment self.keeper) (P.moment r.0.keeper) (P.left_since self.keeper) (P.left_since r.0.keeper) (MayLeave (P.kept self.keeper) self.admin ask self.kept)) }
+        ensures moments_err { IfErr result (λ s. Passes (P.moment self.keeper) (P.moment s.keeper) (P.left_since self.keeper) (P.left_since s.keeper) (MayLeave (P.kept self.keeper) self.admin ask self.kept)) }
         ensures counted { IfOk result (λ r. P.faults self.keeper ≤ P.faults r.0.keeper) }
         ensures counted_err { IfErr result (λ s. P.faults self.keeper ≤ P.faults s.keeper) }
         ensures failed { IfErr result (λ s. s.cause ≡ KeeperFault.Failed → P.faults self.keeper < P.faults s.keeper) }
@@ -199,11 +221,10 @@ impl<P: Keeper + Drop> KeptAdmin<P> {
         let (mut admin, mut keeper) = (admin, keeper);
         match answer_keeping(alloc, &mut admin, &mut keeper, ask, entry) {
             Ok(answered) => {
-                let kept = if answered.is_kept { kept + 1 } else { kept };
                 let desk = KeptAdmin {
                     admin,
                     keeper,
-                    kept,
+                    kept: count_one(kept, answered.is_kept),
                 };
                 Ok((desk, KeptReply::Reply(answered.reply)))
             }
@@ -215,6 +236,7 @@ impl<P: Keeper + Drop> KeptAdmin<P> {
     }
 
     /// Answers an ask, and says what becomes of the keeper's list.
+    #[tactic(auto, using(crate::proofs::Stepping::stepping, crate::proofs::Passing::passing))]
     fn step_list(self, alloc: Global, ask: Ask) -> Result<(KeptAdmin<P>, KeptReply), Stopped<P>>
         requires { IsInKeyOrder ask }
         ensures length { HasLength (P.kept self.keeper) self.kept }

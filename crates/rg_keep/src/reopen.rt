@@ -4,7 +4,7 @@ ghost use Rattle.rg_machine.specs.Laws.{is_refused};
 ghost use Rattle.rg_machine.specs.Starts.{IsStart};
 ghost use Rattle.rg_admin.specs.Starting.{start_fault, started};
 ghost use Rattle.rg_keeper.specs.Keeping.{Nothing, Passes};
-ghost use Rattle.rg_keep.specs.Keeping.{HasLength, IsCause, IsKept, IsReplayed};
+ghost use Rattle.rg_keep.specs.Keeping.{Counts, IsCause, IsKept, IsReplayed};
 ghost use Rattle.rg_keep.specs.Replay.{after_entry, is_bad, is_kept, most_kept, stepped};
 ghost use Rattle.rg_keep.specs.Replaying.{IsNoStart, IsReplaying, IsStopped, IsStoppedIn, Takes};
 
@@ -129,8 +129,10 @@ fn take_at<P: Keeper>(
 }
 
 /// Takes the entries in order, and says how many there are.
+#[tactic(auto, using(crate::proofs::Lists::parts))]
 fn take_all<P: Keeper>(alloc: Global, admin: &mut Admin, keeper: &mut P) -> Result<u64, ReopenCause>
     ensures all { IfOk result (λ n. IsReplaying (P.kept keeper.old) admin.old n admin.new) }
+    ensures within { IfOk result (λ n. n ≤ most_kept) }
     ensures stopped { IfErr result (λ cause. IsStoppedIn (P.kept keeper.old) admin.old (P.faults keeper.old) (P.faults keeper.new) cause) }
     ensures same { P.kept keeper.new ≡ P.kept keeper.old }
     ensures moments { Passes (P.moment keeper.old) (P.moment keeper.new) (P.left_since keeper.old) (P.left_since keeper.new) Nothing }
@@ -138,7 +140,8 @@ fn take_all<P: Keeper>(alloc: Global, admin: &mut Admin, keeper: &mut P) -> Resu
 {
     let mut place = 0;
     'entries: loop {
-        if !take_at(alloc, admin, keeper, place)? {
+        let more = take_at(alloc, admin, keeper, place)?;
+        if !more {
             return Ok(place);
         }
         place += 1;
@@ -146,6 +149,7 @@ fn take_all<P: Keeper>(alloc: Global, admin: &mut Admin, keeper: &mut P) -> Resu
 }
 
 /// Starts from the configuration.
+#[tactic(auto, using(crate::proofs::Kept::starts))]
 fn start(alloc: Global, config: Config) -> Result<Admin, ReopenCause>
     ensures ok { IfOk result (λ admin. (start_fault config ≡ None) × (admin ≡ started config) × IsStart (started config)) }
     ensures err { IfErr result (λ cause. IsNoStart config cause) }
@@ -158,6 +162,7 @@ fn start(alloc: Global, config: Config) -> Result<Admin, ReopenCause>
 }
 
 /// The administration that the entries make, and how many they are.
+#[tactic(auto, using(crate::proofs::Kept::replays, crate::proofs::Passing::passing))]
 pub(crate) fn replay<P: Keeper>(
     alloc: Global,
     config: Config,
@@ -165,7 +170,7 @@ pub(crate) fn replay<P: Keeper>(
 ) -> Result<(Admin, u64), ReopenCause>
     ensures kept { IfOk result (λ r. IsKept (P.kept keeper.new) config r.0) }
     ensures replayed { IfOk result (λ r. IsReplayed (P.kept keeper.new) config r.0) }
-    ensures counts { IfOk result (λ r. HasLength (P.kept keeper.new) r.1) }
+    ensures counts { IfOk result (λ r. Counts (P.kept keeper.new) r.1) }
     ensures lawful { IfOk result (λ r. start_fault config ≡ None) }
     ensures cause { IfErr result (λ cause. IsCause cause (P.kept keeper.old) config (P.faults keeper.old) (P.faults keeper.new)) }
     ensures same { P.kept keeper.new ≡ P.kept keeper.old }
