@@ -41,4 +41,8 @@ pub ask_taken : (d : Data) (command : AdminCommand) → fault_of ask_shape d ≡
     → ask_in (Some d) ≡ Ok (record { actor = text_at (ask_name own.Actor) d; command = command })
 ask_taken d command right h = command_next d right ∙ ap (with_command (text_at (ask_name own.Actor) d)) h
 
+pub ask_read : (d : Data) (actor : List ℕ) (command : AdminCommand) → fault_of ask_shape d ≡ None → actor ≡ text_at (ask_name own.Actor) d → reading_in (Some (within (ask_name own.Command) d)) ≡ Ok command
+    → ask_in (Some d) ≡ Ok (record { actor = actor; command = command })
+ask_read d actor command right is h = ask_taken d command right h ∙ ap (λ (a : List ℕ). Ok (record { actor = a; command = command })) (sym is)
+
 pub ruleset refusals = (fields_refused, command_refused, ask_taken)

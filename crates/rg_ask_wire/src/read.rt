@@ -1,14 +1,18 @@
 // Asks, read.
-ghost use Rattle.std.specs.Prelude.{◌≡◌, ◌≤◌, IfOk, IfSome, Some, option_map};
+ghost use Rattle.std.specs.Prelude.{◌≡◌, ◌≤◌, IfErr, IfOk, IfSome, None, Some, option_map};
 ghost use Rattle.serde_json.specs.Data.{depth};
 ghost use Rattle.serde_json.specs.Read.{max_depth};
 ghost use Rattle.serde_json.specs.View.{view};
 ghost use Rattle.rg_cmd_wire.specs.Commands.{OwnsPolicy};
 ghost use Rattle.rg_cmd_wire.specs.Reading.{reading_in};
-ghost use Rattle.rg_json.specs.Reading.{Answers};
+ghost use Rattle.rg_json.specs.Faults.{fault_of};
+ghost use Rattle.rg_json.specs.Fields.{within};
+ghost use Rattle.rg_json.specs.Reading.{Answers, Refuses};
 ghost use Rattle.rg_json.specs.Texts.{data_of};
 ghost use Rattle.rg_ask_wire.specs.KeyOrder.{IsInKeyOrder};
-ghost use Rattle.rg_ask_wire.specs.Reading.{IsBelowCommand, ask_in, ask_reading};
+ghost use Rattle.rg_ask_wire.specs.Asks.{ask_name};
+ghost use Rattle.rg_ask_wire.specs.Reading.{IsBelowCommand, ask_in, ask_reading, ask_shape};
+ghost use Rattle.rg_ask_wire.specs.declared.key.AskKey.TheVariants as own;
 
 use crate::key::{AskKey, AskTable};
 use crate::orderly::see;
@@ -69,17 +73,34 @@ fn below_command(alloc: Global, fault: WireFault) -> WireFault
     }
 }
 
+/// The first fault of the fields of an ask.
+fn judge_ask(alloc: Global, value: &Value) -> Result<(), WireFault>
+    ensures right { IfOk result (λ u. fault_of ask_shape (view value.now) ≡ None) }
+    ensures wrong { IfErr result (λ e. Refuses e (fault_of ask_shape (view value.now))) }
+{
+    judge::<AskKey, AskTable>(alloc, AskTable.fields(), value)
+}
+
+/// The command of an ask.
+#[tactic(auto, using(crate::proofs::Depths::depths))]
+fn command_at(alloc: Global, value: &Value) -> Result<AdminCommand, WireFault>
+    requires { depth (view value.now) ≤ max_depth }
+    ensures reads { Answers result (reading_in (Some (within (ask_name own.Command) (view value.now)))) }
+    ensures owned { IfOk result OwnsPolicy }
+{
+    let null = Value::Null;
+    command_in(alloc, find_or(value, AskKey::Command, &null))
+}
+
 /// The ask of a value, or its first fault.
-#[tactic(auto, using(crate::proofs::Refusals::refusals, crate::proofs::Depths::depths, crate::proofs::Owned::orders))]
 fn ask_of(alloc: Global, value: &Value) -> Result<Ask, WireFault>
     requires { depth (view value.now) ≤ max_depth }
     ensures reads { Answers result (ask_in (Some (view value.now))) }
     ensures in_order { IfOk result IsInKeyOrder }
 {
     see(value);
-    judge::<AskKey, AskTable>(alloc, AskTable.fields(), value)?;
-    let null = Value::Null;
-    match command_in(alloc, find_or(value, AskKey::Command, &null)) {
+    judge_ask(alloc, value)?;
+    match command_at(alloc, value) {
         Err(fault) => Err(below_command(alloc, fault)),
         Ok(command) => match text_at(alloc, value, AskKey::Actor) {
             Err(_) => Err(WireFault::NoMemory),
