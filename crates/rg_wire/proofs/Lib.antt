@@ -3,3 +3,4 @@ pub mod Plain
 pub mod Policies
 pub mod Resources
 pub mod Right
+mod Tokens

@@ -13,12 +13,8 @@ use Rattle.rg_policy.specs.declared.policy.Item.{Item}
 use Rattle.rg_policy.specs.declared.policy.PolicyResource.{PolicyResource}
 use Rattle.rg_policy.specs.declared.policy.ResourceMap.{ResourceMap}
 use Rattle.rg_policy.specs.declared.policy.Policy.{Policy}
-use Rattle.rg_policy.specs.declared.request.AccessRequest.{AccessRequest}
-use Rattle.rg_facts.specs.declared.decision.Access.{Access}
-use Rattle.rg_facts.specs.declared.decision.Decision.{Decision}
-use Rattle.rg_facts.specs.declared.decision.MaskText.{MaskText}
 use Rattle.rg_wire.specs.Names.{name_of}
-use Rattle.rg_wire.specs.Printing.{entry_data, entry_members, condition_members, mask_members, schedule_members, filter_members, item_members, resource_members, policy_members, condition_data, mask_data, recurrences_data, schedule_data, filter_data, item_data, resource_data, level_members, resources_data, map_data, policy_data, access_data, mask_text_data, mask_text_members, decision_data, decision_members, audit_data, audit_members}
+use Rattle.rg_wire.specs.Printing.{entry_data, entry_members, condition_members, mask_members, schedule_members, filter_members, item_members, resource_members, policy_members, condition_data, mask_data, recurrences_data, schedule_data, filter_data, item_data, resource_data, level_members, resources_data, map_data, policy_data}
 
 entry_plain : (e : AccessEntry) → Plain 1 (entry_data e)
 unfolding entry_data
@@ -164,77 +160,4 @@ policy_has_no_float p = (policy_plain p).0
 pub policy_is_shallow : (p : Policy) → depth (policy_data p) ≤ 127
 policy_is_shallow p = omega (arith, (policy_plain p).1)
 
-mask_text_plain : (n : ℕ) (m : MaskText) → 1 ≤ n → Plain n (mask_text_data m)
-unfolding mask_text_data
-mask_text_plain n m h = object_plain name_of 0 n (mask_text_members m) h (text_plain 0 m.expr, (text_plain 0 m.kind, tt))
-
-access_plain : (n : ℕ) (a : Access) → Plain n (access_data a)
-access_plain n a = (refl, omega arith)
-
-pub decision_plain : (d : Decision) → Plain 2 (decision_data d)
-unfolding decision_data
-decision_plain d = object_plain name_of 1 2 (decision_members d) (omega arith) (
-  access_plain 1 d.access,
-  (
-    bool_plain 1 d.audited,
-    (
-      option_plain 1 mask_text_data d.mask (λ m. mask_text_plain 1 m (omega arith)),
-      (
-        integer_plain 1 d.policy.0,
-        (
-          count_plain 1 d.policy_version.0,
-          (
-            option_plain 1 text_data d.filter (text_plain 1),
-            (
-              count_plain 1 d.serial.0,
-              (
-                count_plain 1 d.tag_version.0,
-                tt,
-              ),
-            ),
-          ),
-        ),
-      ),
-    ),
-  ),
-)
-
-pub decision_has_no_float : (d : Decision) → has_float (decision_data d) ≡ false
-decision_has_no_float d = (decision_plain d).0
-
-pub audit_plain : (service : List ℕ) (q : AccessRequest) (d : Decision) → Plain 1 (audit_data service q d)
-unfolding audit_data
-audit_plain service q d = object_plain name_of 0 1 (audit_members service q d) (omega arith) (
-  text_plain 0 q.access,
-  (
-    integer_plain 0 q.moment.0,
-    (
-      integer_plain 0 d.policy.0,
-      (
-        text_plain 0 service,
-        (
-          text_plain 0 q.user,
-          (
-            text_plain 0 d.path,
-            (
-              access_plain 0 d.access,
-              (
-                count_plain 0 d.serial.0,
-                tt,
-              ),
-            ),
-          ),
-        ),
-      ),
-    ),
-  ),
-)
-
-pub audit_has_no_float : (service : List ℕ) (q : AccessRequest) (d : Decision) → has_float (audit_data service q d) ≡ false
-audit_has_no_float service q d = (audit_plain service q d).0
-
 pub ruleset policies = (policy_has_no_float, policy_is_shallow)
-
-pub ruleset decisions = (decision_has_no_float)
-
-pub ruleset audits = (audit_has_no_float)

@@ -4,4 +4,5 @@ pub mod Own
 pub mod Printing
 pub mod Records
 pub mod Shapes
+pub mod Tokens
 pub use Rattle.rg_json.specs.Reading

@@ -1,42 +1,42 @@
 // The audit line of a decision.
-ghost use Rattle.std.specs.Prelude.{◌≡◌, IfOk};
+ghost use Rattle.std.specs.Prelude.{◌≡◌, IfOk, OnOk};
 ghost use Rattle.std.specs.Str.{chars, encode_utf8_all};
-ghost use Rattle.serde_json.specs.View.{view};
 ghost use Rattle.rg_wire.specs.Printing.{audit_data, audit_line};
+ghost use Rattle.rg_wire.specs.Tokens.{Adds, tokens_of};
 
+use crate::decision_text::LINE_ROOM;
 use crate::key::Key;
+use crate::writing::{begin, end, member, text_member, written};
+use json::Writer;
 use rg_base::{NoMemory, Text};
 use rg_facts::Decision;
-use rg_json::{put, text_of};
 use rg_policy::AccessRequest;
-use serde_json::{Map, Value};
 use std::alloc::Global;
 
-#[tactic(auto, unfolding(crate::specs::Printing::audit_data))]
-fn audit_json(
-    alloc: Global,
+fn write_audit(
+    out: &mut Writer,
     service: &str,
     request: &AccessRequest,
     decision: &Decision,
-) -> Result<Value, NoMemory>
-    ensures { IfOk result (λ v. view v ≡ audit_data (chars service.now) request.now decision.now) }
+) -> Result<(), NoMemory>
+    ensures { OnOk result (Adds out.old out.new (tokens_of (audit_data (chars service.now) request.now decision.now))) }
 {
-    let service = Text::copy_of(alloc, service)?;
-    let mut members = Map::new(alloc);
-    put(alloc, &mut members, Key::Access, &request.access)?;
-    put(alloc, &mut members, Key::EvtTime, &request.moment.0)?;
-    put(alloc, &mut members, Key::Policy, &decision.policy.0)?;
-    put(alloc, &mut members, Key::Repo, &service)?;
-    put(alloc, &mut members, Key::ReqUser, &request.user)?;
-    put(alloc, &mut members, Key::Resource, &decision.path)?;
-    put(alloc, &mut members, Key::Result, &decision.access)?;
-    put(alloc, &mut members, Key::Serial, &decision.serial.0)?;
-    Ok(Value::Object(members))
+    begin(out)?;
+    member(out, Key::Access, &request.access)?;
+    member(out, Key::EvtTime, &request.moment.0)?;
+    member(out, Key::Policy, &decision.policy.0)?;
+    text_member(out, Key::Repo, service)?;
+    member(out, Key::ReqUser, &request.user)?;
+    member(out, Key::Resource, &decision.path)?;
+    member(out, Key::Result, &decision.access)?;
+    member(out, Key::Serial, &decision.serial.0)?;
+    end(out)?;
+    Ok(())
 }
 
 /// Prints the audit line of a request to the service, without its LF: what was asked, when and by whom, on which resource, and
 /// what was decided, by which policy and over which publication. Whether the decision is audited is for the caller.
-#[tactic(auto, using(crate::proofs::Plain::audits), unfolding(crate::specs::Printing::audit_line))]
+#[tactic(auto, using(crate::proofs::Tokens::tokens_printed), unfolding(crate::specs::Printing::audit_line))]
 pub fn print_audit(
     alloc: Global,
     service: &str,
@@ -46,8 +46,9 @@ pub fn print_audit(
     ensures text { IfOk result (λ t. t ≡ chars (audit_line (chars service.now) request.now decision.now)) }
     ensures bytes { IfOk result (λ t. encode_utf8_all t ≡ audit_line (chars service.now) request.now decision.now) }
 {
-    let value = audit_json(alloc, service, request, decision)?;
-    text_of(alloc, &value)
+    let mut out = Writer::new(Vec::with_capacity(alloc, LINE_ROOM)?);
+    write_audit(&mut out, service, request, decision)?;
+    Ok(written(out))
 }
 
 #[cfg(test)]

@@ -4,11 +4,14 @@ ghost use Rattle.std.specs.Str.{chars, encode_utf8_all};
 ghost use Rattle.rg_wire.specs.Printing.{decision_text, word_of};
 
 use crate::key::Key;
+use crate::writing::{WriteJson, begin, end, member, written};
+use json::Writer;
 use rg_base::{NoMemory, Text};
 use rg_facts::{Access, Decision, MaskText};
-use rg_json::{ToJson, put, text_of};
-use serde_json::{Map, Value};
 use std::alloc::Global;
+
+/// The room for a line, in bytes: enough for one without a row filter and a mask. A longer one takes more.
+pub(crate) const LINE_ROOM: usize = 192;
 
 #[tactic(auto, unfolding(crate::specs::Printing::word_of))]
 fn word_of(access: Access) -> &'static str
@@ -21,61 +24,59 @@ fn word_of(access: Access) -> &'static str
     }
 }
 
-impl ToJson<Key> for Access {
+impl WriteJson for Access {
     ghost use Rattle.rg_wire.specs.Printing.{access_data};
 
     ghost printing = { access_data };
 
-    fn json(&self, alloc: Global) -> Result<Value, NoMemory> {
-        Ok(Value::String(String::from_str(alloc, word_of(*self))?))
+    #[tactic(auto, unfolding(crate::specs::Tokens::tokens_of))]
+    fn write(&self, out: &mut Writer) -> Result<(), NoMemory> {
+        out.string(word_of(*self))?;
+        Ok(())
     }
 }
 
-impl ToJson<Key> for MaskText {
+impl WriteJson for MaskText {
     ghost use Rattle.rg_wire.specs.Printing.{mask_text_data};
 
     ghost printing = { mask_text_data };
 
-    #[tactic(auto, unfolding(crate::specs::Printing::mask_text_data))]
-    fn json(&self, alloc: Global) -> Result<Value, NoMemory> {
-        let mut members = Map::new(alloc);
-        put(alloc, &mut members, Key::Expr, &self.expr)?;
-        put(alloc, &mut members, Key::Type, &self.kind)?;
-        Ok(Value::Object(members))
+    fn write(&self, out: &mut Writer) -> Result<(), NoMemory> {
+        begin(out)?;
+        member(out, Key::Expr, &self.expr)?;
+        member(out, Key::Type, &self.kind)?;
+        end(out)?;
+        Ok(())
     }
 }
 
-impl ToJson<Key> for Decision {
+impl WriteJson for Decision {
     ghost use Rattle.rg_wire.specs.Printing.{decision_data};
 
     ghost printing = { decision_data };
 
-    #[tactic(auto, unfolding(crate::specs::Printing::decision_data))]
-    fn json(&self, alloc: Global) -> Result<Value, NoMemory> {
-        let mut members = Map::new(alloc);
-        put(alloc, &mut members, Key::Access, &self.access)?;
-        put(alloc, &mut members, Key::Audited, &self.audited)?;
-        put(alloc, &mut members, Key::Mask, &self.mask)?;
-        put(alloc, &mut members, Key::PolicyId, &self.policy.0)?;
-        put(
-            alloc,
-            &mut members,
-            Key::PolicyVersion,
-            &self.policy_version.0,
-        )?;
-        put(alloc, &mut members, Key::RowFilter, &self.filter)?;
-        put(alloc, &mut members, Key::Serial, &self.serial.0)?;
-        put(alloc, &mut members, Key::TagVersion, &self.tag_version.0)?;
-        Ok(Value::Object(members))
+    fn write(&self, out: &mut Writer) -> Result<(), NoMemory> {
+        begin(out)?;
+        member(out, Key::Access, &self.access)?;
+        member(out, Key::Audited, &self.audited)?;
+        member(out, Key::Mask, &self.mask)?;
+        member(out, Key::PolicyId, &self.policy.0)?;
+        member(out, Key::PolicyVersion, &self.policy_version.0)?;
+        member(out, Key::RowFilter, &self.filter)?;
+        member(out, Key::Serial, &self.serial.0)?;
+        member(out, Key::TagVersion, &self.tag_version.0)?;
+        end(out)?;
+        Ok(())
     }
 }
 
 /// Prints a decision: the decision line of a script, without its LF.
-#[tactic(auto, using(crate::proofs::Plain::decisions), unfolding(crate::specs::Printing::decision_text))]
+#[tactic(auto, using(crate::proofs::Tokens::tokens_printed), unfolding(crate::specs::Printing::decision_text))]
 pub fn print_decision(alloc: Global, decision: &Decision) -> Result<Text, NoMemory>
     ensures text { IfOk result (λ t. t ≡ chars (decision_text decision.now)) }
     ensures bytes { IfOk result (λ t. encode_utf8_all t ≡ decision_text decision.now) }
 {
-    let value = decision.json(alloc)?;
-    text_of(alloc, &value)
+    let mut out = Writer::new(Vec::with_capacity(alloc, LINE_ROOM)?);
+    decision.write(&mut out)?;
+    Ok(written(out))
 }

@@ -15,6 +15,7 @@ mod request;
 mod rows;
 mod tables;
 mod wire;
+mod writing;
 
 pub use audit_text::print_audit;
 pub use decision_text::print_decision;
