@@ -12,6 +12,7 @@ use std::alloc::Global;
 use std::env;
 
 /// The work, the policies or changes that are there before, and how often the work is done.
+#[derive(Clone, Copy)]
 struct Load {
     work: Work,
     before: u32,

@@ -1,5 +1,5 @@
 // A change of one policy, and the engine after it.
-ghost use Rattle.std.specs.Prelude.{◌≡◌, ◌≤◌, IfOk, true, ◌×◌};
+ghost use Rattle.std.specs.Prelude.{◌≡◌, ◌≤◌, IfOk, true};
 ghost use Rattle.rg_delta.specs.Applied.{applied};
 ghost use Rattle.rg_facts.specs.Sound.{sound};
 

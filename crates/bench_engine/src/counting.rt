@@ -12,6 +12,7 @@ const POLICIES: u32 = 60;
 /// How many requests are drawn.
 const REQUESTS: u32 = 20_000;
 
+#[derive(Clone, Copy)]
 pub(crate) struct Counts {
     pub(crate) compiles: u64,
     pub(crate) edits: u64,

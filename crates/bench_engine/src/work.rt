@@ -28,6 +28,7 @@ pub(crate) enum Work {
 }
 
 /// The work, how many policies there are, and how often it is done.
+#[derive(Clone, Copy)]
 pub(crate) struct Load {
     pub(crate) work: Work,
     pub(crate) policies: u32,

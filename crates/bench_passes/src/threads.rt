@@ -95,7 +95,7 @@ fn decided<R: Threads + Wait + Clock, P: Wait + Drop>(
             shared.0.as_slice(),
             load.rounds,
         );
-        return done(rt, start, seen, 0);
+        return done_since(rt, start, seen, 0);
     }
     let handles = start_all(rt, alloc, passes, &shared, load.rounds)?;
     let mut publications = 0;
@@ -103,10 +103,10 @@ fn decided<R: Threads + Wait + Clock, P: Wait + Drop>(
         publications = change_until(rt, alloc, turn, seat, refresher, &*shared.1, load);
     }
     let seen = join_all(rt, handles);
-    done(rt, start, seen, publications)
+    done_since(rt, start, seen, publications)
 }
 
-fn done<R: Clock>(rt: &R, start: Instant, seen: Seen, publications: u64) -> Result<Done> {
+fn done_since<R: Clock>(rt: &R, start: Instant, seen: Seen, publications: u64) -> Result<Done> {
     let micros = start.elapsed(rt)?.as_micros();
     Ok(Done {
         decisions: seen.decisions,

@@ -25,6 +25,7 @@ const CONFIG: &str =
 const PLUGIN: &str = "hive1";
 
 /// What was done.
+#[derive(Clone, Copy)]
 pub(crate) struct Counts {
     /// Calls of the administration by the first link.
     pub(crate) created: u64,

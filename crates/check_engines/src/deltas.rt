@@ -1,5 +1,5 @@
 // Made-up deltas, which lead facts towards other ones.
-ghost use Rattle.std.specs.Prelude.{◌≡◌, ◌≤◌, IfOk, ◌×◌};
+ghost use Rattle.std.specs.Prelude.{◌≡◌, ◌≤◌, IfOk};
 
 use crate::draws::Draw;
 use crate::texts::{POLICY_IDS, ROW_IDS, TAG_POLICY_IDS};
@@ -154,7 +154,7 @@ fn role_delta(
 }
 
 /// What leads these facts towards the other ones.
-pub(crate) fn deltas(
+pub(crate) fn deltas_towards(
     alloc: Global,
     before: &Facts,
     other: &Facts,

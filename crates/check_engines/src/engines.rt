@@ -2,7 +2,7 @@
 ghost use Rattle.std.specs.Prelude.{◌≡◌, IfOk, true};
 ghost use Rattle.rg_facts.specs.Sound.{sound};
 
-use crate::deltas::deltas;
+use crate::deltas::deltas_towards;
 use crate::draws::Draw;
 use crate::texts;
 use rg_base::{Moment, NoMemory, Steps, TryCopy};
@@ -157,7 +157,7 @@ pub(crate) fn moved(
 ) -> Result<Engine, NoMemory> {
     let before = engine.facts(alloc)?;
     let other = made_facts(alloc, draw.part(step))?;
-    let deltas = deltas(alloc, &before, &other, draw.part(step.saturating_add(100)))?;
+    let deltas = deltas_towards(alloc, &before, &other, draw.part(step.saturating_add(100)))?;
     let after = apply_plain(alloc, before, &deltas.policies, &deltas.tags, &deltas.roles)?;
     let after = judged(alloc, after)?;
     match engine.apply(

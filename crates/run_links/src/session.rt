@@ -8,7 +8,7 @@ ghost use Rattle.rg_session.specs.Right.{AreRightFor};
 
 use crate::notation::written;
 use crate::telling::told;
-use crate::watched::{Lines, lines, watch};
+use crate::watched::{Lines, no_lines, watch};
 use anyhow::{Result, anyhow};
 use rg_admin::Admin;
 use rg_base::{Moment, Seq, Steps};
@@ -157,8 +157,8 @@ fn told_of_link<R: Wait>(
 ) -> Result<String, AllocError>
     requires { seat.old.turn ≡ turn.now.turn }
 {
-    let first = lines(alloc, Vec::from_slice(alloc, case.sink)?)?;
-    let second = lines(alloc, Vec::new(alloc))?;
+    let first = no_lines(alloc, Vec::from_slice(alloc, case.sink)?)?;
+    let second = no_lines(alloc, Vec::new(alloc))?;
     let mut link = link_of(alloc, case.bytes, case.piece, case.fails)?;
     let calls = seat.calls();
     let (end, dropped) = serve_watched(rt, alloc, turn, seat, pass, &mut link, &first, &second)?;

@@ -33,7 +33,7 @@ impl AuditSink for Watched {
 }
 
 /// No lines yet. `fails` lists the calls that are to fail.
-pub(crate) fn lines(alloc: Global, fails: Vec<u64>) -> Result<Lines, AllocError> {
+pub(crate) fn no_lines(alloc: Global, fails: Vec<u64>) -> Result<Lines, AllocError> {
     let audit = MemAudit::new(Seq::new(alloc), Seq::from_vec(fails));
     Ok(Arc::new(alloc, Mutex::new(audit))?)
 }

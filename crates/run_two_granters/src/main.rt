@@ -4,7 +4,7 @@
 
 ghost use Rattle.std.specs.Prelude.{◌≡◌};
 
-use anyhow::{Context, Result, anyhow};
+use anyhow::{Context, Result};
 use rg_admin::Admin;
 use rg_base::{NoMemory, Text};
 use rg_cmd::{AdminReply, Ask};
@@ -164,24 +164,52 @@ fn with_policy(alloc: Global) -> Option<GrantDesk> {
     }
 }
 
+/// Ends the turn, of which these are both seats. Gives the administration and how many entries its history has.
+fn ended(
+    alloc: Global,
+    turn: Turn<GrantDesk>,
+    one: Seat<GrantDesk>,
+    two: Seat<GrantDesk>,
+) -> Option<(GrantDesk, u64)>
+    requires seats { (one.turn ≡ turn.turn) × (two.turn ≡ turn.turn) }
+    requires all { turn.seats ≡ 2 }
+{
+    let mut seats = Vec::new(alloc);
+    if seats.push(one).is_err() || seats.push(two).is_err() {
+        return None;
+    }
+    match turn.close(alloc, seats) {
+        Ok((desk, past)) => {
+            let entries = past.entries();
+            drop(past);
+            Some((desk, entries))
+        }
+        Err(_) => None,
+    }
+}
+
+/// Two threads grant by the administration, and what is left of it is told.
+fn granted_at_once<R: Threads + Wait + Sync>(rt: &R, alloc: Global, desk: GrantDesk) -> Option<String> {
+    let Ok((turn, mut seats)) = Turn::new(alloc, desk, 2) else {
+        return None;
+    };
+    let (Some(one), Some(two)) = (seats.pop(), seats.pop()) else {
+        return None;
+    };
+    drop(seats);
+    let ((one, kept), (two, others)) = granted_by_two(rt, alloc, &turn, one, two);
+    let (desk, entries) = ended(alloc, turn, one, two)?;
+    let (for_a, for_b, all) = items_of_first(&desk);
+    drop(desk);
+    format!(in alloc;
+        "granted={kept}+{others} appended={for_a}+{for_b} items={all} entries={entries}"
+    ).ok()
+}
+
 fn main(rt: HostRuntime) -> Result<()> {
     let alloc = rt.alloc();
     let desk = with_policy(alloc).context("there is no policy")?;
-    let Ok((turn, mut seats)) = Turn::new(alloc, desk, 2) else {
-        return Err(anyhow!("memory was refused"));
-    };
-    let (Some(one), Some(two)) = (seats.pop(), seats.pop()) else {
-        return Err(anyhow!("there are two seats"));
-    };
-    let ((one, kept), (two, others)) = granted_by_two(&rt, alloc, &turn, one, two);
-    if seats.push(one).is_err() || seats.push(two).is_err() {
-        return Err(anyhow!("memory was refused"));
-    }
-    let Ok((desk, past)) = turn.close(alloc, seats) else {
-        return Err(anyhow!("a turn is never refused its end"));
-    };
-    let (for_a, for_b, all) = items_of_first(&desk);
-    let entries = past.entries();
-    println!(rt; "granted={kept}+{others} appended={for_a}+{for_b} items={all} entries={entries}")?;
+    let told = granted_at_once(&rt, alloc, desk).context("memory was refused")?;
+    println!(rt; "{}", told.as_str())?;
     Ok(())
 }
