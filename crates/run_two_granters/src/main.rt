@@ -189,7 +189,11 @@ fn ended(
 }
 
 /// Two threads grant by the administration, and what is left of it is told.
-fn granted_at_once<R: Threads + Wait + Sync>(rt: &R, alloc: Global, desk: GrantDesk) -> Option<String> {
+fn granted_at_once<R: Threads + Wait + Sync>(
+    rt: &R,
+    alloc: Global,
+    desk: GrantDesk,
+) -> Option<String> {
     let Ok((turn, mut seats)) = Turn::new(alloc, desk, 2) else {
         return None;
     };
