@@ -4,7 +4,8 @@
 usage: checks/pages.py [RANGERD [CHECKER]]      (the built programs where not given)
 
 A block of commands is compared with the block behind it, where one line that begins with `prints` stands between them; a block
-with a script, where that line begins with `Printed`. The line may name the exit status, which is 0 where it doesn't.
+with a script, where that line begins with `Printed`. The line may name the exit status, which is 0 where it doesn't, and the command that
+the script is for, which is `replay` where it doesn't.
 """
 
 import pathlib
@@ -24,9 +25,14 @@ def status_of(told):
     return int(found[1]) if found else 0
 
 
-def commands_of(kind, text, programs):
+def command_of(told):
+    found = re.search(r"by `(\w+)`", told)
+    return found[1] if found else "replay"
+
+
+def commands_of(kind, text, told, programs):
     if kind != "sh":
-        return "'%s' replay <<'END'\n%sEND\n" % (programs["bin/rangerd"], text)
+        return "'%s' %s <<'END'\n%sEND\n" % (programs["bin/rangerd"], command_of(told), text)
     return re.sub(r"bin/rangerd(-check)?\b", lambda found: "'%s'" % programs[found[0]], text)
 
 
@@ -44,7 +50,7 @@ def main(rangerd=TOP / "crates/rangerd/out/rangerd", checker=TOP / "crates/range
     passed, failed = 0, 0
     for page in PAGES:
         for kind, text, told, wanted in SHOWN.findall((TOP / page).read_text()):
-            got = run(commands_of(kind, text, programs))
+            got = run(commands_of(kind, text, told, programs))
             if got == (wanted, status_of(told)):
                 passed += 1
             else:
