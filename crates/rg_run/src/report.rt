@@ -157,7 +157,10 @@ impl Reports {
         match read_line(alloc, line, now) {
             Ok(Line::Blank) => Ok(()),
             Ok(Line::Facts(facts)) => self.begin(alloc, facts),
-            Ok(_) => Err(LineFault::Bad),
+            Ok(Line::Config(_)) => Err(LineFault::Bad),
+            Ok(Line::Admin(_)) => Err(LineFault::Bad),
+            Ok(Line::Refresh) => Err(LineFault::Bad),
+            Ok(Line::Decide(_)) => Err(LineFault::Bad),
             Err(fault) => Err(fault),
         }
     }
