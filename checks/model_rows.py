@@ -6,6 +6,7 @@ import admin_model
 import grants_model
 import model
 import records
+import report_model
 
 TOP = pathlib.Path(__file__).resolve().parent.parent
 
@@ -235,14 +236,26 @@ def masks_and_filters():
     assert model.first_fault(facts({**select, "conditions": unsupported})) == "V9"
 
 
+def words(folder):
+    return (folder / "args").read_text().strip() if (folder / "args").exists() else None
+
+
+def stored_reports():
+    """The same of `report`."""
+    cases = [(run / "stdin", run / "stdout") for run in sorted((TOP / "crates").iterdir()) if words(run) == "report"]
+    cases.append((TOP / "examples" / "report.script", TOP / "examples" / "report.out"))
+    assert len(cases) >= 3
+    for script, out in cases:
+        assert report_model.printed(script.read_text()) == out.read_text(), script
+
+
 def stored_runs():
     """Every run of `replay` and of `grants` that the gate keeps, and the examples that have their output beside them."""
     kinds = {"replay": admin_model.Script, "grants": grants_model.GrantScript}
-    words = lambda folder: (folder / "args").read_text().strip() if (folder / "args").exists() else None
     cases = [(run.name, kinds[words(run)], run / "stdin", run / "stdout", run / "status")
              for run in sorted((TOP / "crates").iterdir()) if words(run) in kinds and (run / "stdin").exists()]
     cases += [(out.name, kinds["grants" if out.stem == "grants" else "replay"], out.with_suffix(".script"), out, TOP / "none")
-              for out in sorted((TOP / "examples").glob("*.out"))]
+              for out in sorted((TOP / "examples").glob("*.out")) if out.stem != "report"]
     assert len(cases) >= 7
     for name, kind, script, out, status in cases:
         text, number, cause = admin_model.worked(script.read_bytes(), kind=kind)
@@ -251,7 +264,7 @@ def stored_runs():
 
 
 EXAMPLES = (resource_policies, resources, additional_maps, schedules_and_conditions, roles, zones, tags, eight_cells, two_tags, tags_in_zones,
-            masks_and_filters, stored_runs)
+            masks_and_filters, stored_runs, stored_reports)
 for example in EXAMPLES:
     example()
 print("%d groups of examples agree" % len(EXAMPLES))

@@ -20,7 +20,7 @@ def compact(value):
 
 def parted(line):
     """The words before the record, and the record, where there is one."""
-    found = re.match(r"((?:facts|config|decide|(?:admin|grant|revoke) [^ ]+) )(.*)", line, re.DOTALL)
+    found = re.match(r"((?:facts|config|decide|report|(?:admin|grant|revoke) [^ ]+) )(.*)", line, re.DOTALL)
     return (found[1], found[2]) if found else (line, None)
 
 

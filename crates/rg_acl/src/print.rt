@@ -2,12 +2,12 @@
 ghost use Rattle.std.specs.Prelude.{◌≡◌, IfOk};
 ghost use Rattle.std.specs.Str.{chars, encode_utf8_all};
 ghost use Rattle.rg_acl.specs.Printing.{kind_word, row_text};
-ghost use Rattle.rg_wire.specs.Printing.{word_of};
 
 use crate::row::{ReportRow, SubjectKind};
 use rg_base::{NoMemory, Text};
 use rg_facts::Access;
 use rg_json::{Name, ToJson, put, text_of};
+use rg_wire::access_word;
 use serde_json::{Map, Value};
 use std::alloc::Global;
 
@@ -47,17 +47,6 @@ fn kind_word(kind: SubjectKind) -> &'static str
         SubjectKind::Group => "group",
         SubjectKind::Role => "role",
         SubjectKind::Other => "other",
-    }
-}
-
-#[tactic(auto, unfolding(rg_wire::specs::Printing::word_of))]
-fn access_word(access: Access) -> &'static str
-    ensures { result.now ≡ word_of access }
-{
-    match access {
-        Access::Allowed => "ALLOWED",
-        Access::Denied => "DENIED",
-        Access::Undetermined => "UNDETERMINED",
     }
 }
 

@@ -2,7 +2,7 @@
 use Rattle.std.proofs.Common.{◌≡◌, ◌⊎◌, ◌∙◌, ◌<◌, ◌++◌, arith, ℕ, List, [], Bool, true, false, Option, Some, None, Result, Ok, Err, inl, inr, refl, ap, sym, subst}
 use Rattle.rg_base.specs.declared.numbers.Moment.{Moment}
 use Rattle.rg_run.specs.declared.command.Command.{Command}
-use Rattle.rg_run.specs.declared.command.Command.TheVariants.{Replay, Serve, Drill, Grants}
+use Rattle.rg_run.specs.declared.command.Command.TheVariants.{Replay, Serve, Drill, Grants, Report}
 use Rattle.rg_run.specs.declared.status.Status.{Status}
 use Rattle.rg_run.specs.declared.status.Status.TheVariants.{Done, Usage, BadLine, ReadFault, WriteFault, NetFault, TooLong, NoMemory}
 use Rattle.rg_run.specs.Commands.{only_built}
@@ -11,7 +11,9 @@ use Rattle.rg_run.specs.Grants.{grants}
 use Rattle.rg_run.specs.Limits.{is_too_long}
 use Rattle.rg_run.specs.Ports.{Ports}
 use Rattle.rg_run.specs.Replay.{replayed}
-use Rattle.rg_run.specs.Runs.{Answers, CountsReads, CountsWrites, EndsIn, Follows, IsEndOf, IsRun, OfStatus, Overran, Stands}
+use Rattle.rg_run.specs.Report.{reported}
+use Rattle.rg_run.specs.Runs.{Answers, CountsReads, CountsWrites, EndsIn, Follows, IsEndOf, IsRun, OfStatus, Overran, ServesLinks, Stands}
+use Rattle.rg_run.specs.Serve.{Door}
 use Rattle.rg_run.specs.Statuses.{number_of}
 use Rattle.rg_run.specs.Streams.{HasRead, IsAll, Wrote, WrotePrefix}
 use Rattle.rg_run.proofs.Limits.{all_too_long}
@@ -102,12 +104,13 @@ module _ {S : Type 0} (script : Script S) (p q : Ports) (got seen : List ℕ) (a
   }
 
 -- memory was refused before anything was done
-pub undone : (command : Option Command) (p : Ports) → IsRun (Answers command) p p NoMemory
-undone None p = record { stands = refl; reads = refl; writes = refl }
-undone (Some Replay) p = record { stands = (refl, inl refl); reads = refl; writes = refl }
-undone (Some (Serve address links)) p = record { stands = refl; reads = refl; writes = refl }
-undone (Some (Drill seed policies requests)) p = record { stands = refl; reads = refl; writes = refl }
-undone (Some Grants) p = record { stands = (refl, inl refl); reads = refl; writes = refl }
+pub undone : (d : Door) (command : Option Command) (p : Ports) → IsRun (Answers d d command) p p NoMemory
+undone d None p = record { stands = refl; reads = refl; writes = refl }
+undone d (Some Replay) p = record { stands = (refl, inl refl); reads = refl; writes = refl }
+undone d (Some (Serve address links)) p = record { stands = (inl (refl, refl), refl); reads = refl; writes = refl }
+undone d (Some (Drill seed policies requests)) p = record { stands = refl; reads = refl; writes = refl }
+undone d (Some Grants) p = record { stands = (refl, inl refl); reads = refl; writes = refl }
+undone d (Some Report) p = record { stands = (refl, inl refl); reads = refl; writes = refl }
 
 -- bytes within the limits don't overrun them
 in_limits : (left left' : Option (List ℕ)) (bytes : List ℕ) → left ≡ Some bytes → is_too_long bytes ≡ false → Overran left left' → ⊥
@@ -116,39 +119,51 @@ in_limits left left' bytes told within o =
     let wrong : true ≡ false = sym all ∙ within in absurd (let no : ⊥ = cc in no)
 
 -- no fault and bytes within the limits leave the script's own statuses, and want of memory
-completes : {S : Type 0} (script : Script S) (p q : Ports) (n : ℕ) (status : Status) (bytes : List ℕ) → n ≡ number_of status → Stands S script p q status
-    → CountsReads p q status → CountsWrites p q status
+completes : {S : Type 0} (script : Script S) (p q : Ports) (n : ℕ) (status : Status) (bytes : List ℕ) → n ≡ number_of status → IsRun (Stands S script) p q status
     → q.read_faults ≡ p.read_faults → q.write_faults ≡ p.write_faults → p.left ≡ Some bytes → is_too_long bytes ≡ false → (n ≡ 0) ⊎ ((n ≡ 2) ⊎ (n ≡ 9))
-completes script p q n Done bytes e stands read wrote reads writes told within = inl e
-completes script p q n BadLine bytes e stands read wrote reads writes told within = inr (inl e)
-completes script p q n NoMemory bytes e stands read wrote reads writes told within = inr (inr e)
-completes script p q n ReadFault bytes e stands read wrote reads writes told within = absurd (omega (arith, read))
-completes script p q n WriteFault bytes e stands read wrote reads writes told within = absurd (omega (arith, wrote))
-completes script p q n TooLong bytes e stands read wrote reads writes told within = absurd (in_limits p.left q.left bytes told within stands.0)
-completes script p q n Usage bytes e stands read wrote reads writes told within = absurd stands
-completes script p q n NetFault bytes e stands read wrote reads writes told within = absurd stands
+completes script p q n Done bytes e run reads writes told within = inl e
+completes script p q n BadLine bytes e run reads writes told within = inr (inl e)
+completes script p q n NoMemory bytes e run reads writes told within = inr (inr e)
+completes script p q n ReadFault bytes e run reads writes told within = absurd (omega (arith, run.reads))
+completes script p q n WriteFault bytes e run reads writes told within = absurd (omega (arith, run.writes))
+completes script p q n TooLong bytes e run reads writes told within = absurd (in_limits p.left q.left bytes told within run.stands.0)
+completes script p q n Usage bytes e run reads writes told within = absurd run.stands
+completes script p q n NetFault bytes e run reads writes told within = absurd run.stands
 
 -- a drill whose sink doesn't fail is carried out, or lacks memory
-drilled : (seed policies requests : ℕ) (p q : Ports) (n : ℕ) (status : Status) → n ≡ number_of status → IsRun (Answers (Some (Drill seed policies requests))) p q status
+drilled : (d d' : Door) (seed policies requests : ℕ) (p q : Ports) (n : ℕ) (status : Status) → n ≡ number_of status → IsRun (Answers d d' (Some (Drill seed policies requests))) p q status
     → q.write_faults ≡ p.write_faults → (n ≡ 0) ⊎ ((n ≡ 2) ⊎ (n ≡ 9))
-drilled seed policies requests p q n Done e run writes = inl e
-drilled seed policies requests p q n NoMemory e run writes = inr (inr e)
-drilled seed policies requests p q n WriteFault e run writes = absurd (omega (arith, run.writes))
-drilled seed policies requests p q n BadLine e run writes = absurd run.stands
-drilled seed policies requests p q n ReadFault e run writes = absurd run.stands
-drilled seed policies requests p q n TooLong e run writes = absurd run.stands
-drilled seed policies requests p q n Usage e run writes = absurd run.stands
-drilled seed policies requests p q n NetFault e run writes = absurd run.stands
+drilled d d' seed policies requests p q n Done e run writes = inl e
+drilled d d' seed policies requests p q n NoMemory e run writes = inr (inr e)
+drilled d d' seed policies requests p q n WriteFault e run writes = absurd (omega (arith, run.writes))
+drilled d d' seed policies requests p q n BadLine e run writes = absurd run.stands
+drilled d d' seed policies requests p q n ReadFault e run writes = absurd run.stands
+drilled d d' seed policies requests p q n TooLong e run writes = absurd run.stands
+drilled d d' seed policies requests p q n Usage e run writes = absurd run.stands
+drilled d d' seed policies requests p q n NetFault e run writes = absurd run.stands
+
+-- links that were asked for were served, or memory was refused, or a line is bad
+served : (most : ℕ) (d d' : Door) (p q : Ports) (n : ℕ) (status : Status) (bytes : List ℕ) → n ≡ number_of status → IsRun (ServesLinks most d d') p q status
+    → q.read_faults ≡ p.read_faults → q.write_faults ≡ p.write_faults → d'.faults ≡ d.faults → p.left ≡ Some bytes → is_too_long bytes ≡ false → (n ≡ 0) ⊎ ((n ≡ 2) ⊎ (n ≡ 9))
+served most d d' p q n Done bytes e run reads writes links told within = inl e
+served most d d' p q n BadLine bytes e run reads writes links told within = inr (inl e)
+served most d d' p q n NoMemory bytes e run reads writes links told within = inr (inr e)
+served most d d' p q n ReadFault bytes e run reads writes links told within = absurd (omega (arith, run.reads))
+served most d d' p q n WriteFault bytes e run reads writes links told within = absurd (omega (arith, run.writes))
+served most d d' p q n NetFault bytes e run reads writes links told within = absurd (omega (arith, run.stands.1))
+served most d d' p q n TooLong bytes e run reads writes links told within = absurd (in_limits p.left q.left bytes told within run.stands.0.0)
+served most d d' p q n Usage bytes e run reads writes links told within = absurd run.stands.0
 
 -- for each command that is built
-pub completed : (asked : Option Command) (command : Command) (p q : Ports) (n : ℕ) (status : Status) (bytes : List ℕ) → only_built asked ≡ Some command
-    → n ≡ number_of status → IsRun (Answers (only_built asked)) p q status
-    → q.read_faults ≡ p.read_faults → q.write_faults ≡ p.write_faults → p.left ≡ Some bytes → is_too_long bytes ≡ false → (n ≡ 0) ⊎ ((n ≡ 2) ⊎ (n ≡ 9))
-completed (Some Replay) command p q n status bytes named e run reads writes told within = completes replayed p q n status bytes e run.stands run.reads run.writes reads writes told within
-completed (Some Grants) command p q n status bytes named e run reads writes told within = completes grants p q n status bytes e run.stands run.reads run.writes reads writes told within
-completed (Some (Drill seed policies requests)) command p q n status bytes named e run reads writes told within = drilled seed policies requests p q n status e run writes
-completed (Some (Serve address links)) command p q n status bytes named e run reads writes told within = cc
-completed None command p q n status bytes named e run reads writes told within = cc
+pub completed : (d d' : Door) (asked : Option Command) (command : Command) (p q : Ports) (n : ℕ) (status : Status) (bytes : List ℕ) → only_built asked ≡ Some command
+    → n ≡ number_of status → IsRun (Answers d d' (only_built asked)) p q status
+    → q.read_faults ≡ p.read_faults → q.write_faults ≡ p.write_faults → d'.faults ≡ d.faults → p.left ≡ Some bytes → is_too_long bytes ≡ false → (n ≡ 0) ⊎ ((n ≡ 2) ⊎ (n ≡ 9))
+completed d d' (Some Replay) command p q n status bytes named e run reads writes links told within = completes replayed p q n status bytes e run reads writes told within
+completed d d' (Some Grants) command p q n status bytes named e run reads writes links told within = completes grants p q n status bytes e run reads writes told within
+completed d d' (Some Report) command p q n status bytes named e run reads writes links told within = completes reported p q n status bytes e run reads writes told within
+completed d d' (Some (Serve address most)) command p q n status bytes named e run reads writes links told within = served most d d' p q n status bytes e run reads writes links told within
+completed d d' (Some (Drill seed policies requests)) command p q n status bytes named e run reads writes links told within = drilled d d' seed policies requests p q n status e run writes
+completed d d' None command p q n status bytes named e run reads writes links told within = cc
 
-pub ended_so : (command : Option Command) (p q : Ports) (n m : ℕ) → m ≡ n → OfStatus n (IsRun (Answers command) p q) → IsEndOf command m
-ended_so command p q n m same of = (p, q, subst (λ k. OfStatus k (IsRun (Answers command) p q)) (sym same) of)
+pub ended_so : (d d' : Door) (command : Option Command) (p q : Ports) (n m : ℕ) → m ≡ n → OfStatus n (IsRun (Answers d d' command) p q) → IsEndOf command m
+ended_so d d' command p q n m same of = (d, d', p, q, subst (λ k. OfStatus k (IsRun (Answers d d' command) p q)) (sym same) of)

@@ -5,7 +5,7 @@ use Rattle.std.specs.Char.{is_ascii_digit}
 use Rattle.std.specs.Str.{bytes_eq, chars}
 use Rattle.std.specs.Str.Parse.{digits_value}
 use Rattle.rg_run.specs.declared.command.Command.{Command}
-use Rattle.rg_run.specs.declared.command.Command.TheVariants.{Replay, Serve, Drill, Grants}
+use Rattle.rg_run.specs.declared.command.Command.TheVariants.{Replay, Serve, Drill, Grants, Report}
 
 abbrev pub has_dash : List ℕ → Bool
 has_dash [] = false
@@ -33,6 +33,10 @@ abbrev pub replay_of : List (List ℕ) → Option Command
 replay_of [] = Some Replay
 replay_of _ = None
 
+abbrev pub report_of : List (List ℕ) → Option Command
+report_of [] = Some Report
+report_of _ = None
+
 -- `serve ADDRESS LINKS`
 abbrev pub serve_of : List (List ℕ) → Option Command
 serve_of (address ∷ links ∷ []) = option_map (λ n. Serve (chars address) n) (number_in 1 1000000 links)
@@ -56,7 +60,8 @@ unfoldable pub named : List ℕ → List (List ℕ) → Option Command
 named word parts = if bytes_eq word (codes "replay") then replay_of parts else (
     if bytes_eq word (codes "serve") then serve_of parts else (
     if bytes_eq word (codes "drill") then drill_of parts else (
-    if bytes_eq word (codes "grants") then grants_of parts else None)))
+    if bytes_eq word (codes "grants") then grants_of parts else (
+    if bytes_eq word (codes "report") then report_of parts else None))))
 
 abbrev pub command_from : List (List ℕ) → Option Command
 command_from [] = None
@@ -69,12 +74,21 @@ command_of words = if list_all is_plain words then command_from words else None
 -- the commands that aren't built yet are answered as words that ask for none
 abbrev pub only_built : Option Command → Option Command
 only_built (Some Replay) = Some Replay
+only_built (Some (Serve address links)) = Some (Serve address links)
 only_built (Some (Drill seed policies requests)) = Some (Drill seed policies requests)
 only_built (Some Grants) = Some Grants
+only_built (Some Report) = Some Report
 only_built _ = None
 
 -- the commands that read a script
 abbrev pub reads : Option Command → Bool
 reads (Some Replay) = true
 reads (Some Grants) = true
+reads (Some (Serve address links)) = true
+reads (Some Report) = true
 reads _ = false
+
+-- the command that serves links
+abbrev pub serves : Option Command → Bool
+serves (Some (Serve address links)) = true
+serves _ = false

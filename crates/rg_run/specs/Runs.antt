@@ -5,7 +5,7 @@ use Rattle.rg_workload.specs.Drill.{IsCarriedOut}
 use Rattle.rg_workload.specs.Report.{report_text}
 use Rattle.rg_workload.specs.declared.totals.Totals.{Totals}
 use Rattle.rg_run.specs.declared.command.Command.{Command}
-use Rattle.rg_run.specs.declared.command.Command.TheVariants.{Replay, Serve, Drill, Grants}
+use Rattle.rg_run.specs.declared.command.Command.TheVariants.{Replay, Serve, Drill, Grants, Report}
 use Rattle.rg_run.specs.declared.status.Status.{Status}
 use Rattle.rg_run.specs.declared.status.Status.TheVariants.{Done, Usage, BadLine, ReadFault, WriteFault, NetFault, TooLong, NoMemory}
 use Rattle.rg_run.specs.Follow.{Comes, Output, Script}
@@ -13,11 +13,13 @@ use Rattle.rg_run.specs.Grants.{grants}
 use Rattle.rg_run.specs.Limits.{is_too_long, room}
 use Rattle.rg_run.specs.Ports.{Ports}
 use Rattle.rg_run.specs.Replay.{replayed}
+use Rattle.rg_run.specs.Report.{reported}
+use Rattle.rg_run.specs.Serve.{AreTotals, Asked, Asking, Door, Numbers, printed_of, replies_to, taken, totals_line}
 use Rattle.rg_run.specs.Statuses.{number_of}
 use Rattle.rg_run.specs.Streams.{HasRead, IsAll, Wrote, WrotePrefix}
 
 abbrev pub usage_text : List ℕ
-usage_text = codes "usage: rangerd replay | serve ADDRESS LINKS | drill SEED POLICIES REQUESTS | grants\n"
+usage_text = codes "usage: rangerd replay | serve ADDRESS LINKS | drill SEED POLICIES REQUESTS | grants | report\n"
 
 abbrev pub too_long_text : List ℕ
 too_long_text = codes "too long\n"
@@ -38,6 +40,14 @@ pub record Overran (left left' : Option (List ℕ)) : Type 0 where
   pub within : is_too_long bytes ≡ false
   pub over : is_too_long (bytes ++ last) ≡ true
   pub one : length last ≤ room
+
+-- what stands where a script wasn't read to its end, by the status
+abbrev pub IsUnread : Ports → Ports → Status → Type 0
+IsUnread p q ReadFault = (q.held ≡ p.held) × (q.given ≡ p.given)
+IsUnread p q TooLong = Overran p.left q.left × (q.given ≡ p.given) × Wrote p.held q.held too_long_text
+IsUnread p q WriteFault = Overran p.left q.left × (q.given ≡ p.given) × WrotePrefix p.held q.held too_long_text
+IsUnread p q NoMemory = (q.held ≡ p.held) × (q.given ≡ p.given)
+IsUnread p q _ = ⊥
 
 -- what stands after a script, by the status
 abbrev pub Stands : (S : Type 0) → Script S → Ports → Ports → Status → Type 0
@@ -71,12 +81,43 @@ Drilled seed policies requests old new WriteFault = (t : Totals) × IsCarriedOut
 Drilled seed policies requests old new NoMemory = new ≡ old
 Drilled seed policies requests old new _ = ⊥
 
+-- all lines of the script were taken; its moments were given, and more since
+abbrev pub IsTakenWhole : Ports → Ports → Asked → Type 0
+IsTakenWhole p q a = (now : Option (List Moment)) × (output : Output Asking) × Follows Asking taken p (record q { given = now }) [] output
+    × (output.status ≡ Done) × (output.state ≡ Some a)
+
+-- what stands after links were served, by the status
+abbrev pub Serves : ℕ → Door → Door → Ports → Ports → Status → Type 0
+Serves most d e p q Done = (a : Asked) × (t : Numbers) × IsTakenWhole p q a × AreTotals most a d e t × Wrote p.held q.held (replies_to a ++ totals_line t)
+Serves most d e p q NetFault = (a : Asked) × IsTakenWhole p q a × Wrote p.held q.held (replies_to a)
+Serves most d e p q BadLine =
+    (output : Output Asking) × Follows Asking taken p q [] output × (output.status ≡ BadLine) × Wrote p.held q.held (printed_of output) × (e ≡ d)
+Serves most d e p q ReadFault = (q.held ≡ p.held) × (q.given ≡ p.given) × (e ≡ d)
+Serves most d e p q TooLong = Overran p.left q.left × (q.given ≡ p.given) × Wrote p.held q.held too_long_text × (e ≡ d)
+Serves most d e p q WriteFault =
+    (Overran p.left q.left × (q.given ≡ p.given) × WrotePrefix p.held q.held too_long_text × (e ≡ d))
+    ⊎ (((output : Output Asking) × Follows Asking taken p q [] output × WrotePrefix p.held q.held (printed_of output) × (e ≡ d))
+    ⊎ ((a : Asked) × (t : Numbers) × IsTakenWhole p q a × AreTotals most a d e t × WrotePrefix p.held q.held (replies_to a ++ totals_line t)))
+Serves most d e p q NoMemory =
+    ((q.held ≡ p.held) × (e ≡ d)) ⊎ ((a : Asked) × IsTakenWhole p q a × Wrote p.held q.held (replies_to a))
+Serves most d e p q Usage = ⊥
+
+-- the listener's count of faults rose where the status says that it failed, and else it stayed
+abbrev pub CountsLinks : Door → Door → Status → Type 0
+CountsLinks d e NetFault = d.faults < e.faults
+CountsLinks d e _ = e.faults ≡ d.faults
+
+abbrev pub ServesLinks : ℕ → Door → Door → Ports → Ports → Status → Type 0
+ServesLinks most d e p q status = Serves most d e p q status × CountsLinks d e status
+
 -- what stands after the command, None for words that ask for none
-abbrev pub Answers : Option Command → Ports → Ports → Status → Type 0
-Answers (Some Replay) p q status = Stands _ replayed p q status
-Answers (Some (Drill seed policies requests)) p q status = Drilled seed policies requests p.held q.held status
-Answers (Some Grants) p q status = Stands _ grants p q status
-Answers _ p q status = IsTold p q status
+abbrev pub Answers : Door → Door → Option Command → Ports → Ports → Status → Type 0
+Answers d e (Some Replay) p q status = Stands _ replayed p q status
+Answers d e (Some (Serve address links)) p q status = ServesLinks links d e p q status
+Answers d e (Some (Drill seed policies requests)) p q status = Drilled seed policies requests p.held q.held status
+Answers d e (Some Grants) p q status = Stands _ grants p q status
+Answers d e (Some Report) p q status = Stands _ reported p q status
+Answers d e _ p q status = IsTold p q status
 
 -- the source's count of faults rose where the status says that it failed, and else it stayed
 abbrev pub CountsReads : Ports → Ports → Status → Type 0
@@ -103,4 +144,4 @@ OfStatus n P = (status : Status) × (n ≡ number_of status) × P status
 
 -- the number is that of some run of the command
 abbrev pub IsEndOf : Option Command → ℕ → Type 0
-IsEndOf command n = (p : Ports) × (q : Ports) × OfStatus n (IsRun (Answers command) p q)
+IsEndOf command n = (d : Door) × (e : Door) × (p : Ports) × (q : Ports) × OfStatus n (IsRun (Answers d e command) p q)

@@ -4,7 +4,7 @@ ghost use Rattle.std.specs.Char.{is_ascii_digit};
 ghost use Rattle.std.specs.List.{list_all};
 ghost use Rattle.clap.specs.Words.{app_of, found_of, matches_of, rows_of};
 ghost use Rattle.rg_run.specs.CommandLine.{words_app};
-ghost use Rattle.rg_run.specs.Commands.{command_of, drill_of, grants_of, is_numeral, is_plain, named, number_in, number_of, replay_of, serve_of};
+ghost use Rattle.rg_run.specs.Commands.{command_of, drill_of, grants_of, is_numeral, is_plain, named, number_in, number_of, replay_of, report_of, serve_of};
 
 use clap::{Arg, ArgAction, ArgMatches};
 use rg_base::{NoMemory, Text};
@@ -28,6 +28,8 @@ pub enum Command {
     },
     /// Reads a script of grants to its end, and then works it line by line.
     Grants,
+    /// Reads a script of facts to its end, and then prints who may do what with the resources that it asks about.
+    Report,
 }
 
 /// Whether the word is neither an option nor `help`.
@@ -83,6 +85,15 @@ fn replay_of(parts: &[&str]) -> Option<Command>
     }
 }
 
+fn report_of(parts: &[&str]) -> Option<Command>
+    ensures { result ≡ report_of (map (λ part. part.now) parts.now) }
+{
+    match parts {
+        [] => Some(Command::Report),
+        _ => None,
+    }
+}
+
 /// `serve ADDRESS LINKS`.
 fn serve_of(alloc: Global, parts: &[&str]) -> Result<Option<Command>, NoMemory>
     ensures { IfOk result (λ command. command ≡ serve_of (map (λ part. part.now) parts.now)) }
@@ -130,6 +141,7 @@ fn named(alloc: Global, word: &str, parts: &[&str]) -> Result<Option<Command>, N
         "serve" => serve_of(alloc, parts),
         "drill" => Ok(drill_of(parts)),
         "grants" => Ok(grants_of(parts)),
+        "report" => Ok(report_of(parts)),
         _ => Ok(None),
     }
 }

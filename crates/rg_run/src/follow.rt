@@ -40,7 +40,7 @@ pub(crate) struct Worked {
 
 /// Names the line behind the text.
 #[tactic(auto, unfolding(crate::specs::Follow::bad_line_text))]
-fn name_bad_line(mut text: String, number: u64) -> Result<Worked, NoMemory>
+pub(crate) fn name_bad_line(mut text: String, number: u64) -> Result<Worked, NoMemory>
     ensures { IfOk result (λ worked. (worked.status ≡ Status.BadLine) × (string_bytes worked.text ≡ string_bytes text ++ bad_line_text number)) }
 {
     match writeln!(&mut text, "bad line {number}") {

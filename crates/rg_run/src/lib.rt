@@ -5,9 +5,13 @@ mod command;
 mod follow;
 mod grants;
 mod machine;
+mod preparing;
 mod program;
 mod reading;
 mod replay;
+mod report;
+mod script;
+mod serving;
 mod status;
 mod writing;
 

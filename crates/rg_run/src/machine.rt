@@ -1,22 +1,59 @@
 // The program over the machine.
-ghost use Rattle.std.specs.Prelude.{IfOk, map, string_bytes};
+ghost use Rattle.std.specs.Prelude.{◌≡◌, IfOk, length, map, string_bytes};
 ghost use Rattle.std.specs.Process.{exit_status};
 ghost use Rattle.rg_run.specs.Commands.{command_of, only_built};
 ghost use Rattle.rg_run.specs.Runs.{IsEndOf};
 
 use crate::program::run;
-use rg_ports::{StdSink, StdSource, WallClock};
+use rg_hook::{AuditFan, Enrichers, WorkerHooks};
+use rg_ports::{FreeGate, StdSink, StdSource, TcpNet, WallClock};
+use std::alloc::{AllocError, Global};
 use std::io;
 use std::process::ExitCode;
 use std::sync::Wait;
+use std::thread::Threads;
 
-/// Runs over standard input and output and the machine's clock, and waits by `waits`. The answer is what `main` ends with.
-pub fn start(rt: &HostRuntime, waits: &impl Wait, words: &[String]) -> io::Result<ExitCode>
+/// How many links are served at once. A worker serves its link to the end, so a silent client keeps it.
+const WORKERS: u32 = 64;
+
+/// Workers without sinks and enrichers.
+fn plain_workers(alloc: Global) -> Result<Vec<WorkerHooks>, AllocError>
+    ensures { IfOk result (λ hooks. length hooks.items ≡ 64) }
+{
+    let mut workers = Vec::new(alloc);
+    for made in 0..WORKERS {
+        workers.push(WorkerHooks {
+            sinks: AuditFan::new(Vec::new(alloc)),
+            enrichers: Enrichers::new(Vec::new(alloc)),
+        })?;
+    }
+    Ok(workers)
+}
+
+/// Runs over standard input and output, the machine's clock and its network, and starts its threads by `threads`. The answer is
+/// what `main` ends with.
+pub fn start(
+    rt: &HostRuntime,
+    threads: &(impl Threads + Wait + Sync),
+    words: &[String],
+) -> io::Result<ExitCode>
     ensures { IfOk result (λ code. IsEndOf (only_built (command_of (map string_bytes words.now))) (exit_status code)) }
 {
     let mut source = StdSource::new(rt.stdin());
     let mut sink = StdSink::new(rt.stdout());
     let mut clock = WallClock(rt.clone()?);
-    let status = run(waits, rt.alloc(), words, &mut source, &mut sink, &mut clock);
+    let mut net = TcpNet::new(rt.clone()?);
+    let mut workers = plain_workers(rt.alloc())?;
+    let status = run(
+        threads,
+        rt.alloc(),
+        words,
+        &mut source,
+        &mut sink,
+        &mut clock,
+        &mut net,
+        &FreeGate,
+        &mut workers,
+    );
     Ok(ExitCode::from(status))
 }

@@ -1,23 +1,29 @@
 // From words and bytes to bytes and a status.
-ghost use Rattle.std.specs.Prelude.{◌≡◌, ◌⊎◌, ℕ, List, Some, None, false, map, string_bytes};
+ghost use Rattle.std.specs.Prelude.{◌≡◌, ◌⊎◌, ◌≤◌, ℕ, List, Some, None, false, length, map, string_bytes};
 ghost use Rattle.rg_run.specs.declared.command.Command.{Command};
-ghost use Rattle.rg_run.specs.Commands.{command_of, only_built, reads};
+ghost use Rattle.rg_run.specs.Commands.{command_of, only_built, reads, serves};
 ghost use Rattle.rg_run.specs.Follow.{worked};
 ghost use Rattle.rg_run.specs.Limits.{is_too_long};
 ghost use Rattle.rg_run.specs.Ports.{ports};
 ghost use Rattle.rg_run.specs.Runs.{Answers, Drilled, EndsIn, IsRun, OfStatus, Stands, WriteFaults};
+ghost use Rattle.rg_run.specs.Serve.{door};
 
 use crate::command::{Command, command_of};
 use crate::follow::{Worker, follow};
 use crate::grants::Grants;
 use crate::reading::{Stop, read_all};
 use crate::replay::{Replay, Stage};
+use crate::report::Reports;
+use crate::serving::serve_script;
 use crate::status::Status;
 use crate::writing::write_all;
-use rg_ports::{Clock, Sink, Source};
+use rg_hook::RequestHooks;
+use rg_ports::{Clock, Gate, Listener, Sink, Source};
 use rg_workload::{add_report, carry_out};
 use std::alloc::Global;
+use std::mem;
 use std::sync::Wait;
+use std::thread::Threads;
 
 /// Reads a script to its end, and then works it.
 pub fn work_script<W: Worker, S: Source, K: Sink, C: Clock>(
@@ -82,19 +88,32 @@ fn drill<R: Wait, K: Sink>(
 }
 
 /// Answers a command; None is that of words that ask for none.
-fn answer<R: Wait, S: Source, K: Sink, C: Clock>(
+fn answer<
+    S: Source,
+    K: Sink,
+    C: Clock,
+    N: Listener,
+    G: Gate,
+    H: RequestHooks + Send,
+    R: Threads + Wait + Sync,
+>(
     rt: &R,
     alloc: Global,
     command: Option<Command>,
     source: &mut S,
     sink: &mut K,
     clock: &mut C,
+    net: &mut N,
+    gate: &G,
+    hooks: &mut Vec<H>,
 ) -> Status
-    ensures run { IsRun (Answers (only_built command))
+    requires { (1 ≤ length hooks.old.items) × (length hooks.old.items ≤ 64) }
+    ensures run { IsRun (Answers (door (N.given net.old) (N.ended net.old) (N.faults net.old)) (door (N.given net.new) (N.ended net.new) (N.faults net.new)) (only_built command))
         (ports (S.left source.old) (S.ended source.old) (S.faults source.old) (C.given clock.old) (K.held sink.old) (K.faults sink.old))
         (ports (S.left source.new) (S.ended source.new) (S.faults source.new) (C.given clock.new) (K.held sink.new) (K.faults sink.new)) result }
     ensures clock_stays { (result ≡ Status.ReadFault) ⊎ (result ≡ Status.TooLong) → clock.new ≡ clock.old }
     ensures untouched { reads (only_built command) ≡ false → (source.new ≡ source.old) × (clock.new ≡ clock.old) }
+    ensures unserved { serves (only_built command) ≡ false → (net.new ≡ net.old) × (hooks.new ≡ hooks.old) }
 {
     match &command {
         Some(Command::Replay) => {
@@ -105,6 +124,12 @@ fn answer<R: Wait, S: Source, K: Sink, C: Clock>(
             let status = work_script(alloc, &mut replay, source, sink, clock);
             drop(replay);
             status
+        }
+        Some(Command::Serve { address, links }) => {
+            let hooks = mem::replace(hooks, Vec::new(alloc));
+            serve_script(
+                rt, alloc, address, *links, source, sink, clock, net, gate, hooks,
+            )
         }
         Some(
             Command::Drill {
@@ -119,10 +144,15 @@ fn answer<R: Wait, S: Source, K: Sink, C: Clock>(
             drop(grants);
             status
         }
-        // `serve` isn't built yet.
-        _ => match write_all(
+        Some(Command::Report) => {
+            let mut reports = Reports::new();
+            let status = work_script(alloc, &mut reports, source, sink, clock);
+            drop(reports);
+            status
+        }
+        None => match write_all(
             sink,
-            b"usage: rangerd replay | serve ADDRESS LINKS | drill SEED POLICIES REQUESTS | grants\n",
+            b"usage: rangerd replay | serve ADDRESS LINKS | drill SEED POLICIES REQUESTS | grants | report\n",
         ) {
             Ok(()) => Status::Usage,
             Err(_) => Status::WriteFault,
@@ -130,33 +160,40 @@ fn answer<R: Wait, S: Source, K: Sink, C: Clock>(
     }
 }
 
-/// Runs the command that the words ask for, and answers the number of its status.
-pub fn run<S: Source, K: Sink, C: Clock>(
-    rt: &impl Wait,
+/// Runs the command that the words ask for, and answers the number of its status. There are as many workers as hooks, 1 to 64.
+/// `serve` takes the hooks and leaves none.
+pub fn run<S: Source, K: Sink, C: Clock, N: Listener, G: Gate, H: RequestHooks + Send>(
+    rt: &(impl Threads + Wait + Sync),
     alloc: Global,
     words: &[String],
     source: &mut S,
     sink: &mut K,
     clock: &mut C,
+    net: &mut N,
+    gate: &G,
+    hooks: &mut Vec<H>,
 ) -> u8
+    requires { (1 ≤ length hooks.old.items) × (length hooks.old.items ≤ 64) }
     // Each status comes as `Answers` says: with Done and BadLine the sink got exactly the text of the command's definition over the source's
     // lines and the clock's moments, after a failed write a prefix of the one text that belongs to the words, the bytes and these moments,
-    // and a count of faults rose exactly where the status says so.
-    ensures answers { OfStatus result (IsRun (Answers (only_built (command_of (map string_bytes words.now))))
+    // and a count of faults rose exactly where the status says so. After links were served the totals are those of `AreTotals`.
+    ensures answers { OfStatus result (IsRun (Answers (door (N.given net.old) (N.ended net.old) (N.faults net.old)) (door (N.given net.new) (N.ended net.new) (N.faults net.new)) (only_built (command_of (map string_bytes words.now))))
         (ports (S.left source.old) (S.ended source.old) (S.faults source.old) (C.given clock.old) (K.held sink.old) (K.faults sink.old))
         (ports (S.left source.new) (S.ended source.new) (S.faults source.new) (C.given clock.new) (K.held sink.new) (K.faults sink.new))) }
 
-    // Words that ask for no command, and a drill, leave source and clock alone, and limits are decided before the clock is asked.
+    // Words that ask for no command, and a drill, leave source and clock alone, and limits are decided before the clock is asked. Other
+    // commands than `serve` leave the listener and the hooks alone.
     ensures untouched { reads (only_built (command_of (map string_bytes words.now))) ≡ false → (source.new ≡ source.old) × (clock.new ≡ clock.old) }
     ensures clock_stays { (result ≡ 1) ⊎ ((result ≡ 3) ⊎ (result ≡ 6)) → clock.new ≡ clock.old }
+    ensures unserved { serves (only_built (command_of (map string_bytes words.now))) ≡ false → (net.new ≡ net.old) × (hooks.new ≡ hooks.old) }
 
     // Completeness: a command, bytes within the limits and no fault give the script's status, or want of memory.
     ensures complete { (command : Command) → only_built (command_of (map string_bytes words.now)) ≡ Some command →
-        S.faults source.new ≡ S.faults source.old → K.faults sink.new ≡ K.faults sink.old →
+        S.faults source.new ≡ S.faults source.old → K.faults sink.new ≡ K.faults sink.old → N.faults net.new ≡ N.faults net.old →
         (bytes : List ℕ) → S.left source.old ≡ Some bytes → is_too_long bytes ≡ false → (result ≡ 0) ⊎ ((result ≡ 2) ⊎ (result ≡ 9)) }
 {
     match command_of(alloc, words) {
-        Ok(command) => answer(rt, alloc, command, source, sink, clock).number(),
+        Ok(command) => answer(rt, alloc, command, source, sink, clock, net, gate, hooks).number(),
         Err(_) => Status::NoMemory.number(),
     }
 }

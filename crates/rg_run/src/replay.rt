@@ -7,6 +7,7 @@ ghost use Rattle.rg_admin.specs.Starting.{start_fault};
 ghost use Rattle.rg_running.specs.Running.{opened_unless};
 ghost use Rattle.rg_run.specs.Follow.{IsWorked};
 ghost use Rattle.rg_run.specs.Replay.{admin_work, config_work, decide_work, decision_by_newest, decision_line, facts_work, published_facts, refresh_line, refresh_work, reply_line};
+ghost use Rattle.rg_run.specs.Report.{AreSound};
 
 use crate::follow::Worker;
 use rg_base::{Moment, NoMemory, Serial, Steps, Text};
@@ -37,6 +38,15 @@ impl Model for Published {
     ghost Value = { Facts };
 
     ghost view = { λ p. arc_value p.engine };
+}
+
+impl Published {
+    /// The engine, by which reports are made too.
+    pub(crate) fn engine(&self) -> &Engine
+        ensures { result.now ≡ self.now }
+    {
+        &self.engine
+    }
 }
 
 /// The administration of a script. Contracts see it as it is running.
@@ -147,8 +157,9 @@ fn build(alloc: Global, facts: Facts) -> Result<Option<Published>, NoMemory>
 }
 
 /// The engine over facts that are sound; None for facts that aren't.
-fn publish(alloc: Global, facts: Facts) -> Result<Option<Published>, NoMemory>
-    ensures { IfOk result (λ engine. engine ≡ published_facts facts) }
+pub(crate) fn publish(alloc: Global, facts: Facts) -> Result<Option<Published>, NoMemory>
+    ensures made { IfOk result (λ engine. engine ≡ published_facts facts) }
+    ensures sound { IfOk result (λ engine. AreSound engine) }
 {
     match facts_fault(alloc, &facts) {
         Ok(false) => build(alloc, facts),

@@ -13,8 +13,9 @@ use std::alloc::Global;
 /// The room for a line, in bytes: enough for one without a row filter and a mask. A longer one takes more.
 pub(crate) const LINE_ROOM: usize = 192;
 
+/// The word for what a decision says of an access.
 #[tactic(auto, unfolding(crate::specs::Printing::word_of))]
-fn word_of(access: Access) -> &'static str
+pub fn access_word(access: Access) -> &'static str
     ensures { result.now ≡ word_of access }
 {
     match access {
@@ -31,7 +32,7 @@ impl WriteJson for Access {
 
     #[tactic(auto, unfolding(crate::specs::Tokens::tokens_of))]
     fn write(&self, out: &mut Writer) -> Result<(), NoMemory> {
-        out.string(word_of(*self))?;
+        out.string(access_word(*self))?;
         Ok(())
     }
 }

@@ -18,7 +18,7 @@ mod wire;
 mod writing;
 
 pub use audit_text::print_audit;
-pub use decision_text::print_decision;
+pub use decision_text::{access_word, print_decision};
 pub use key::Key;
 pub use law::read_again;
 pub use policy_text::{print_policy, resources_json};

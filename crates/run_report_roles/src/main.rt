@@ -1,0 +1,10 @@
+// `rangerd report` over one policy that names one role, and a role that names one user.
+#![tactic(auto)]
+
+use std::process::ExitCode;
+use std::{env, io};
+
+fn main(rt: HostRuntime) -> io::Result<ExitCode> {
+    let words: Vec<String> = env::args(&rt)?.skip(1).collect(rt.alloc())?;
+    rg_run::start(&rt, &rt, words.as_slice())
+}

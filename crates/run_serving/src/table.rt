@@ -1,0 +1,106 @@
+// The table's rows: `name|workers|most|failing|meeting|line|bytes|bytes ..`. Of the bytes `~` is CR LF. A link whose bytes begin
+// with `!` fails at its second read.
+ghost use Rattle.std.specs.Prelude.{◌≤◌, IfSome};
+
+use crate::links::{SharedLink, Taken};
+use crate::serving::{Case, served};
+use anyhow::{Result, anyhow};
+use std::alloc::{AllocError, Global};
+use std::str;
+use std::sync::{Arc, Mutex, Wait};
+use std::thread::Threads;
+
+/// The bytes that the text stands for.
+fn spelled(alloc: Global, text: &str) -> Result<Vec<u8>, AllocError> {
+    let mut bytes = Vec::new(alloc);
+    for byte in text.as_bytes() {
+        match *byte {
+            b'~' => bytes.extend_from_slice(b"\r\n")?,
+            other => bytes.push(other)?,
+        }
+    }
+    Ok(bytes)
+}
+
+/// Appends the bytes, with `~` for CR LF.
+fn tell_bytes(told: &mut String, taken: &Taken) -> Result<(), AllocError> {
+    told.push('|')?;
+    let Some(bytes) = taken.try_lock() else {
+        return told.push_str("lost");
+    };
+    for (place, line) in str::from_utf8(bytes.as_slice())
+        .unwrap_or("no text")
+        .split("\r\n")
+        .enumerate()
+    {
+        if 0 < place {
+            told.push('~')?;
+        }
+        told.push_str(line)?;
+    }
+    Ok(())
+}
+
+/// A link of the row, which keeps what it takes.
+fn link_of(alloc: Global, text: &str, taken: Taken) -> Result<SharedLink, AllocError> {
+    match text.strip_prefix('!') {
+        Some(rest) => {
+            let bytes = spelled(alloc, rest)?;
+            SharedLink::new(alloc, bytes.as_slice(), &[2], taken)
+        }
+        None => {
+            let bytes = spelled(alloc, text)?;
+            SharedLink::new(alloc, bytes.as_slice(), &[], taken)
+        }
+    }
+}
+
+/// The number of workers, if it is 1 to 64.
+fn workers_of(text: &str) -> Option<u32>
+    ensures { IfSome result (λ n. (1 ≤ n) × (n ≤ 64)) }
+{
+    match text.parse::<u32>() {
+        Ok(number) if 1 <= number && number <= 64 => Some(number),
+        _ => None,
+    }
+}
+
+fn number_of(text: Option<&str>) -> u64 {
+    text.unwrap_or("").parse::<u64>().unwrap_or(0)
+}
+
+/// Serves the row's links, and tells how the run ended and what each link took.
+pub(crate) fn told_of<R: Threads + Wait + Sync>(
+    rt: &R,
+    alloc: Global,
+    config: &str,
+    line: &str,
+) -> Result<String> {
+    let mut fields = line.split('|');
+    let name = fields.next().unwrap_or("");
+    let Some(workers) = workers_of(fields.next().unwrap_or("")) else {
+        return Err(anyhow!("1 to 64 workers"));
+    };
+    let case = Case {
+        config,
+        workers,
+        most: fields.next().unwrap_or(""),
+        failing: number_of(fields.next()),
+        meeting: number_of(fields.next()) as u32,
+        line: fields.next().unwrap_or(""),
+    };
+    let mut links = Vec::new(alloc);
+    let mut all_taken = Vec::new(alloc);
+    for text in fields {
+        let taken: Taken = Arc::new(alloc, Mutex::new(Vec::new(alloc)))?;
+        links.push(link_of(alloc, text, Arc::try_clone(&taken)?)?)?;
+        all_taken.push(taken)?;
+    }
+    let printed = served(rt, alloc, &case, links)?;
+    let mut told = String::new(alloc);
+    write!(told, "{name}|{}", printed.as_str())?;
+    for taken in &all_taken {
+        tell_bytes(&mut told, taken)?;
+    }
+    Ok(told)
+}
