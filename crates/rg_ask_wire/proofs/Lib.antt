@@ -1,0 +1,12 @@
+pub mod Asked
+pub mod Depths
+pub mod InOrder
+pub mod Maps
+pub mod Owned
+pub mod Parsed
+pub mod Paths
+pub mod Plain
+pub mod Refusals
+pub mod Right
+pub mod Rows
+pub mod Seen

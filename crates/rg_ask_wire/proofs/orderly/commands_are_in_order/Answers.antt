@@ -1,0 +1,7 @@
+use Rattle.std.proofs.lemmas.Result.{on_ok_weaker}
+use Rattle.rg_json.specs.Texts.{data_of}
+use Rattle.rg_ask_wire.proofs.Owned.{found_in_order}
+use Rattle.rg_ask_wire.proofs.orderly.commands_are_in_order.Goals as goal
+
+pub returns : goal.returns
+returns c = on_ok_weaker c.see_json.result (found_in_order (data_of c.args.text.now)) c.see_json.ensures

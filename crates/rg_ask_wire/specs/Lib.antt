@@ -1,0 +1,5 @@
+pub mod Asks
+pub mod KeyOrder
+pub mod Keeping
+pub mod Orderly
+pub mod Reading
