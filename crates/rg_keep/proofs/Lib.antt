@@ -1,0 +1,7 @@
+pub mod Adding
+pub mod Alike
+pub mod Kept
+pub mod Lists
+pub mod Passing
+pub mod Stepping
+pub mod Written

@@ -1,0 +1,4 @@
+pub mod Crashes
+pub mod Keeping
+pub mod Replay
+pub mod Replaying
