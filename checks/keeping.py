@@ -1,16 +1,17 @@
 #!/usr/bin/env python3
-"""Prints what the program run_keeping is to print, from the rules: which asks are accepted by admin_model.py, which of them are kept, and
-what a keeper holds of whose calls one fails.
+"""Prints what the program run_keeping is to print, from the rules: which asks are accepted by admin_model.py, which of them are kept and as
+what records, what a keeper holds of whose calls one fails, and what lines of a script of a kept administration ask.
 
 usage: checks/keeping.py
 """
 import json
 import pathlib
+import re
 
 import admin_model
 import reading
 
-SCRIPT = pathlib.Path(__file__).resolve().parent.parent / "crates" / "run_keeping" / "stdin"
+CRATE = pathlib.Path(__file__).resolve().parent.parent / "crates" / "run_keeping"
 CALLS = range(1, 40)
 LOOKS = ("getPolicy", "listPolicies", "download")
 
@@ -50,6 +51,14 @@ def ask_of(record):
         return None
     command, fault = reading.read_command(json.dumps(whole["command"]).encode())
     return None if fault else (whole["actor"], command)
+
+
+def printed(actor, command):
+    """The record of an ask."""
+    command = admin_model.filled(command)
+    if "policy" in command:
+        command = {**command, "policy": admin_model.policy_printed(command["policy"])}
+    return admin_model.compact({"actor": actor, "command": command})
 
 
 def is_kept(admin, ask):
@@ -122,13 +131,36 @@ def spoiled(config, asks):
         yield "{} in place %d: %s" % (place, told_with_records(config, records[:place] + ["{}"] + records[place + 1:]))
 
 
+def line_row(line):
+    """The record of an ask, or what else the line asks, in a word."""
+    word, space, rest = line.partition(" ")
+    if not line or line.startswith("#"):
+        return "blank"
+    if line == "reopen":
+        return "reopen"
+    if word not in ("config", "admin", "decide") or not space:
+        return "bad"
+    try:
+        if word == "admin":
+            actor, text = admin_model.actor_and_rest(rest.encode())
+            return printed(actor, admin_model.taken(reading.read_command(text)))
+        admin_model.taken(reading.read(reading.CONFIG if word == "config" else reading.REQUEST, rest.encode()))
+        return word
+    except admin_model.Bad:
+        return "bad"
+
+
 def main():
-    first, *asks = SCRIPT.read_text("utf-8").splitlines()
+    first, *asks = (CRATE / "stdin").read_text("utf-8").splitlines()
     config = admin_model.taken(reading.read(reading.CONFIG, first.encode()))
     for rows in (failures, taken, spoiled):
         for row in rows(config, asks):
             print(row)
     print("a database: %d answered, %s" % (len(asks), told(config, kept_of(config, asks))))
+    for record in kept_of(config, asks):
+        print(printed(*ask_of(record)))
+    for line in re.search(r'r#"(.*?)"#', (CRATE / "src" / "lines.rt").read_text("utf-8"), re.DOTALL)[1].split("\n"):
+        print(line_row(line))
 
 
 if __name__ == "__main__":
