@@ -4,7 +4,7 @@ use Rattle.rg_work.specs.declared.status.Status.{Status}
 use Rattle.rg_work.specs.declared.status.Status.TheVariants.{Done, Usage, BadLine, ReadFault, WriteFault, NetFault, TooLong, NoMemory}
 use Rattle.rg_work.specs.Limits.{is_too_long}
 use Rattle.rg_work.specs.Ports.{Ports}
-use Rattle.rg_work.specs.Runs.{IsRun, OfStatus}
+use Rattle.rg_work.specs.Runs.{IsRun}
 use Rattle.rg_work.specs.Statuses.{number_of}
 use Rattle.rg_work.proofs.Runs.{completes, in_limits}
 use Rattle.rg_replay.specs.Grants.{grants}
@@ -61,5 +61,5 @@ completed d d' (Some (Serve address most)) command p q n status bytes named e ru
 completed d d' (Some (Drill seed policies requests)) command p q n status bytes named e run reads writes links told within = drilled d d' seed policies requests p q n status e run writes
 completed d d' None command p q n status bytes named e run reads writes links told within = cc
 
-pub ended_so : (d d' : Door) (command : Option Command) (p q : Ports) (n m : ℕ) → m ≡ n → OfStatus n (IsRun (Answers d d' command) p q) → IsEndOf command m
-ended_so d d' command p q n m same of = (d, d', p, q, subst (λ k. OfStatus k (IsRun (Answers d d' command) p q)) (sym same) of)
+pub ended_so : (command : Option Command) (n m : ℕ) → m ≡ n → IsEndOf command n → IsEndOf command m
+ended_so command n m same is = subst (IsEndOf command) (sym same) is
