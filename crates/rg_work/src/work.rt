@@ -4,7 +4,7 @@ ghost use Rattle.rg_work.specs.Follow.{worked};
 ghost use Rattle.rg_work.specs.Ports.{ports};
 ghost use Rattle.rg_work.specs.Runs.{EndsIn, IsRun, Stands};
 
-use crate::follow::{Worker, follow};
+use crate::lines::{Worker, follow};
 use crate::script::read_script;
 use crate::status::Status;
 use crate::writing::write_all;

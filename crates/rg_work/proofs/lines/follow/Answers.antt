@@ -4,7 +4,7 @@ use Rattle.rg_work.specs.Follow.{bad_line_text}
 use Rattle.std.proofs.lemmas.List.{nil_from_length}
 use Rattle.std.proofs.lemmas.Bool.Decides.{nat_tests}
 use Rattle.rg_work.proofs.Scripts.{begun, cut_off, finished, stepped, stopped}
-use Rattle.rg_work.proofs.follow.follow.Goals as goal
+use Rattle.rg_work.proofs.lines.follow.Goals as goal
 
 pub lines-init : goal.lines-init
 lines-init g c = record { followed = rw c.new-text.ensures.bytes (begun g.W.Worker.step c.args.worker.now (g.C.Clock.given c.args.clock.now) c.args.bytes.now); bound = omega arith }

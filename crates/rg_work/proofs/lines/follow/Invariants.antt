@@ -1,6 +1,6 @@
 use Rattle.std.proofs.Common.{◌+◌, ◌≤◌, length, string_bytes}
 use Rattle.rg_work.proofs.Scripts.{IsFollowed}
-use Rattle.rg_work.proofs.follow.follow.Given as goal
+use Rattle.rg_work.proofs.lines.follow.Given as goal
 
 abbrev pub invariant-lines : goal.invariant-lines
 invariant-lines g l = record {
