@@ -136,10 +136,14 @@ pub fn serve_script<
     drop(bytes);
     match write_all(sink, text.as_bytes()) {
         Ok(()) => {}
-        Err(_) => return Status::WriteFault,
+        Err(_) => {
+            drop(opened);
+            return Status::WriteFault;
+        }
     }
-    let Some(opened) = opened else {
-        return Status::BadLine;
+    let opened = match opened {
+        Some(opened) => opened,
+        None => return Status::BadLine,
     };
     let totals = match serve_links(rt, alloc, opened, hooks, net, address, clock, gate, links) {
         Ok(totals) => totals,
