@@ -33,9 +33,9 @@ use Rattle.rg_script.specs.Causes.{cause_from, cause_of}
 use Rattle.rg_script.specs.Line.{line_of, line_read}
 use Rattle.rg_sound.specs.Causes.{first_cause}
 use Rattle.rg_sound.specs.declared.unsound.Unsound.{Unsound as Unsoundness}
-use Rattle.rg_run.specs.declared.replay.Stage.TheVariants as state
-use Rattle.rg_run.specs.Follow.{Work}
-use Rattle.rg_run.specs.Replay.{State, admin_work, config_work, decide_work, deciding, facts_work, line_work, published_facts, quiet, refresh_work, refreshed_from, replay_step}
+use Rattle.rg_replay.specs.declared.replay.Stage.TheVariants as state
+use Rattle.rg_work.specs.Follow.{Work}
+use Rattle.rg_replay.specs.Replay.{State, admin_work, config_work, decide_work, deciding, facts_work, line_work, published_facts, quiet, refresh_work, refreshed_from, replay_step}
 use Rattle.rg_check.specs.Causes.{cause_text}
 use Rattle.rg_check.specs.Checking.{finding, found, kind_at, place_of}
 use Rattle.rg_check.specs.Kinds.{kind_of, place_after}

@@ -1,9 +1,3 @@
 pub mod CommandLine
-pub mod Finishing
-pub mod Limits
 pub mod Numbers
-pub mod Readied
 pub mod Runs
-pub mod Scripts
-pub mod Streams
-pub mod Working

@@ -1,15 +1,3 @@
 pub mod CommandLine
 pub mod Commands
-pub mod Follow
-pub mod Grants
-pub mod Limits
-pub mod Links
-pub mod Moments
-pub mod Ports
-pub mod Preparing
-pub mod Replay
-pub mod Report
 pub mod Runs
-pub mod Serve
-pub mod Statuses
-pub mod Streams

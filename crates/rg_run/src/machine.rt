@@ -1,12 +1,14 @@
 // The program over the machine.
-ghost use Rattle.std.specs.Prelude.{◌≡◌, IfOk, length, map, string_bytes};
+ghost use Rattle.std.specs.Prelude.{◌≡◌, ◌≤◌, IfOk, length, map, string_bytes};
 ghost use Rattle.std.specs.Process.{exit_status};
 ghost use Rattle.rg_run.specs.Commands.{command_of, only_built};
 ghost use Rattle.rg_run.specs.Runs.{IsEndOf};
 
 use crate::program::run;
 use rg_hook::{AuditFan, Enrichers, WorkerHooks};
-use rg_ports::{FreeGate, StdSink, StdSource, TcpNet, WallClock};
+use rg_ports::{
+    Clock, FreeGate, Listener, Sink, Source, StdSink, StdSource, TcpNet, WallClock,
+};
 use std::alloc::{AllocError, Global};
 use std::io;
 use std::process::ExitCode;
@@ -30,6 +32,25 @@ fn plain_workers(alloc: Global) -> Result<Vec<WorkerHooks>, AllocError>
     Ok(workers)
 }
 
+/// Runs with these workers. It stands apart from `start`, where it isn't found that the workers may cross threads.
+fn run_plain<S: Source, K: Sink, C: Clock, N: Listener>(
+    threads: &(impl Threads + Wait + Sync),
+    alloc: Global,
+    words: &[String],
+    source: &mut S,
+    sink: &mut K,
+    clock: &mut C,
+    net: &mut N,
+    workers: &mut Vec<WorkerHooks>,
+) -> u8
+    requires { (1 ≤ length workers.old.items) × (length workers.old.items ≤ 64) }
+    ensures { IsEndOf (only_built (command_of (map string_bytes words.now))) result }
+{
+    run(
+        threads, alloc, words, source, sink, clock, net, &FreeGate, workers,
+    )
+}
+
 /// Runs over standard input and output, the machine's clock and its network, and starts its threads by `threads`. The answer is
 /// what `main` ends with.
 pub fn start(
@@ -44,7 +65,7 @@ pub fn start(
     let mut clock = WallClock(rt.clone()?);
     let mut net = TcpNet::new(rt.clone()?);
     let mut workers = plain_workers(rt.alloc())?;
-    let status = run(
+    let status = run_plain(
         threads,
         rt.alloc(),
         words,
@@ -52,7 +73,6 @@ pub fn start(
         &mut sink,
         &mut clock,
         &mut net,
-        &FreeGate,
         &mut workers,
     );
     Ok(ExitCode::from(status))

@@ -2,64 +2,23 @@
 ghost use Rattle.std.specs.Prelude.{◌≡◌, ◌⊎◌, ◌≤◌, ℕ, List, Some, None, false, length, map, string_bytes};
 ghost use Rattle.rg_run.specs.declared.command.Command.{Command};
 ghost use Rattle.rg_run.specs.Commands.{command_of, only_built, reads, serves};
-ghost use Rattle.rg_run.specs.Follow.{worked};
-ghost use Rattle.rg_run.specs.Limits.{is_too_long};
-ghost use Rattle.rg_run.specs.Ports.{ports};
-ghost use Rattle.rg_run.specs.Runs.{Answers, Drilled, EndsIn, IsRun, OfStatus, Stands, WriteFaults};
-ghost use Rattle.rg_run.specs.Serve.{door};
+ghost use Rattle.rg_work.specs.Limits.{is_too_long};
+ghost use Rattle.rg_work.specs.Ports.{ports};
+ghost use Rattle.rg_run.specs.Runs.{Answers, Drilled};
+ghost use Rattle.rg_work.specs.Runs.{IsRun, OfStatus, WriteFaults};
+ghost use Rattle.rg_service.specs.Serve.{door};
 
 use crate::command::{Command, command_of};
-use crate::follow::{Worker, follow};
-use crate::grants::Grants;
-use crate::reading::{Stop, read_all};
-use crate::replay::{Replay, Stage};
-use crate::report::Reports;
-use crate::serving::serve_script;
-use crate::status::Status;
-use crate::writing::write_all;
 use rg_hook::RequestHooks;
 use rg_ports::{Clock, Gate, Listener, Sink, Source};
+use rg_replay::{Grants, Replay, Reports};
+use rg_service::serve_script;
+use rg_work::{Status, work_script, write_all};
 use rg_workload::{add_report, carry_out};
 use std::alloc::Global;
 use std::mem;
 use std::sync::Wait;
 use std::thread::Threads;
-
-/// Reads a script to its end, and then works it.
-pub fn work_script<W: Worker, S: Source, K: Sink, C: Clock>(
-    alloc: Global,
-    worker: &mut W,
-    source: &mut S,
-    sink: &mut K,
-    clock: &mut C,
-) -> Status
-    ensures run { IsRun (Stands _ (worked W.step worker.old 1))
-        (ports (S.left source.old) (S.ended source.old) (S.faults source.old) (C.given clock.old) (K.held sink.old) (K.faults sink.old))
-        (ports (S.left source.new) (S.ended source.new) (S.faults source.new) (C.given clock.new) (K.held sink.new) (K.faults sink.new)) result }
-    ensures clock_stays { (result ≡ Status.ReadFault) ⊎ (result ≡ Status.TooLong) → clock.new ≡ clock.old }
-    ensures ends_in { result ≡ Status.Done → EndsIn (worked W.step worker.old 1)
-        (ports (S.left source.old) (S.ended source.old) (S.faults source.old) (C.given clock.old) (K.held sink.old) (K.faults sink.old))
-        (ports (S.left source.new) (S.ended source.new) (S.faults source.new) (C.given clock.new) (K.held sink.new) (K.faults sink.new)) worker.new }
-{
-    let bytes = match read_all(alloc, source) {
-        Ok(bytes) => bytes,
-        Err(Stop::Fault) => return Status::ReadFault,
-        Err(Stop::NoMemory) => return Status::NoMemory,
-        Err(Stop::TooLong) => {
-            return match write_all(sink, b"too long\n") {
-                Ok(()) => Status::TooLong,
-                Err(_) => Status::WriteFault,
-            };
-        }
-    };
-    match follow(alloc, worker, bytes.as_slice(), clock) {
-        Ok(worked) => match write_all(sink, worked.text.as_bytes()) {
-            Ok(()) => worked.status,
-            Err(_) => Status::WriteFault,
-        },
-        Err(_) => Status::NoMemory,
-    }
-}
 
 /// Carries out a drill, and writes its report.
 fn drill<R: Wait, K: Sink>(
@@ -117,10 +76,7 @@ fn answer<
 {
     match &command {
         Some(Command::Replay) => {
-            let mut replay = Replay {
-                rt,
-                stage: Stage::Empty,
-            };
+            let mut replay = Replay::new(rt);
             let status = work_script(alloc, &mut replay, source, sink, clock);
             drop(replay);
             status
@@ -139,7 +95,7 @@ fn answer<
             },
         ) => drill(rt, alloc, *seed, *policies, *requests, sink),
         Some(Command::Grants) => {
-            let mut grants = Grants { granting: None };
+            let mut grants = Grants::new();
             let status = work_script(alloc, &mut grants, source, sink, clock);
             drop(grants);
             status

@@ -5,7 +5,9 @@ use crate::links::{Links, SharedLink};
 use anyhow::Result;
 use rg_base::{Moment, Seq};
 use rg_hook::{AuditFan, Enrichers, WorkerHooks};
-use rg_ports::{ListClock, MeetingGate, MemSink, MemSource};
+use rg_ports::{
+    Clock, Gate, ListClock, Listener, MeetingGate, MemSink, MemSource, Sink, Source,
+};
 use rg_run::run;
 use std::alloc::{AllocError, Global};
 use std::str;
@@ -76,6 +78,25 @@ fn tell(told: &mut String, status: u8, printed: &[u8]) -> Result<(), AllocError>
     Ok(())
 }
 
+/// Runs with these workers. In `served` it isn't found that they may cross threads.
+fn run_with<S: Source, K: Sink, C: Clock, N: Listener, G: Gate, R: Threads + Wait + Sync>(
+    rt: &R,
+    alloc: Global,
+    words: &[String],
+    source: &mut S,
+    sink: &mut K,
+    clock: &mut C,
+    net: &mut N,
+    gate: &G,
+    workers: &mut Vec<WorkerHooks>,
+) -> u8
+    requires { (1 ≤ length workers.old.items) × (length workers.old.items ≤ 64) }
+{
+    run(
+        rt, alloc, words, source, sink, clock, net, gate, workers,
+    )
+}
+
 /// Runs, and tells how it ended.
 pub(crate) fn served<R: Threads + Wait + Sync>(
     rt: &R,
@@ -93,7 +114,7 @@ pub(crate) fn served<R: Threads + Wait + Sync>(
     let mut net = Links::new(links, case.failing);
     let gate = MeetingGate::new(case.meeting);
     let mut hooks = hooks_of(alloc, case.workers)?;
-    let status = run(
+    let status = run_with(
         rt,
         alloc,
         words.as_slice(),

@@ -1,5 +1,5 @@
 use Rattle.std.proofs.Common.{◌∙◌, ap, rules}
-use Rattle.rg_run.specs.declared.status.Status.TheVariants.{NoMemory}
+use Rattle.rg_work.specs.declared.status.Status.TheVariants.{NoMemory}
 use Rattle.rg_run.specs.Commands.{only_built}
 use Rattle.rg_run.proofs.Runs.{completed, undone}
 use Rattle.rg_run.proofs.program.run.Goals as goal

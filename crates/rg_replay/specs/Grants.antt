@@ -1,0 +1,57 @@
+-- The command `grants`: a script of an administration with grants, and of what its plugin decides.
+use Rattle.std.specs.Prelude.{ℕ, List, [], Option, Some, None, option_map, option_and_then}
+use Rattle.rg_base.specs.declared.numbers.Moment.{Moment}
+use Rattle.rg_policy.specs.declared.request.AccessRequest.{AccessRequest}
+use Rattle.rg_cmd.specs.declared.ask.AdminReply.{AdminReply}
+use Rattle.rg_cmd.specs.declared.config.Config.{Config}
+use Rattle.rg_machine.specs.Logs.{Administration}
+use Rattle.rg_admin.specs.Starting.{start_fault}
+use Rattle.rg_grant.specs.Steps.{granted}
+use Rattle.rg_grant.specs.declared.ask.GrantAsk.{GrantAsk}
+use Rattle.rg_granting.specs.Granting.{decision_now, started_unless}
+use Rattle.rg_granting.specs.Lines.{grant_line_of}
+use Rattle.rg_granting.specs.declared.line.GrantLine.{GrantLine}
+use Rattle.rg_granting.specs.declared.line.GrantLine.TheVariants as line
+use Rattle.rg_work.specs.Follow.{Output, Work, worked}
+use Rattle.rg_replay.specs.Replay.{deciding, quiet, reply_line}
+
+-- the administration; None before the configuration
+abbrev pub State : Type 0
+State = Option Administration
+
+-- ---- the work of a line in a state; None for a bad line
+
+-- a script begins with a configuration, which breaks no rule
+unfoldable pub start_work : State → Config → Option (Work State)
+start_work None config = option_map (λ a. quiet (Some a)) (started_unless (start_fault config) config)
+start_work (Some a) config = None
+
+-- the reply is printed, and nothing is decided
+abbrev pub replied : Administration × AdminReply → Work State
+replied r = record { text = reply_line r.1; state = Some r.0; decided = [] }
+
+-- after it the administration is asked, also what is granted and revoked
+unfoldable pub ask_work : State → GrantAsk → Option (Work State)
+ask_work (Some a) ask = Some (replied (granted a ask))
+ask_work None ask = None
+
+-- and requests are decided over what the plugin sees then
+unfoldable pub decide_work : State → AccessRequest → Option (Work State)
+decide_work s q = option_map (deciding s q) (option_and_then (λ a. decision_now a q) s)
+
+abbrev pub line_work : State → Option GrantLine → Option (Work State)
+line_work s None = None
+line_work s (Some line.Blank) = Some (quiet s)
+line_work s (Some (line.Config config)) = start_work s config
+line_work s (Some (line.Ask ask)) = ask_work s ask
+line_work s (Some (line.Decide q)) = decide_work s q
+
+-- ---- the script
+
+-- a line in a state at its moment
+abbrev pub grants_step : State → List ℕ → Moment → Option (Work State)
+grants_step s bytes now = line_work s (grant_line_of bytes now)
+
+-- what the lines come to, each read and worked at its moment
+abbrev pub grants : List (List ℕ) → List Moment → Option (Output State)
+grants = worked grants_step None 1

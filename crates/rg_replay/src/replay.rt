@@ -1,0 +1,387 @@
+// The command `replay`: a script of facts, or of an administration and its plugin.
+ghost use Rattle.std.specs.Prelude.{◌≡◌, ◌++◌, [], Err, None, Some, true, IfOk, OnOk, string_bytes};
+ghost use Rattle.std.specs.Str.{encode_utf8_all};
+ghost use Rattle.rg_cmd_wire.specs.PrintedReplies.{reply_text};
+ghost use Rattle.rg_facts.specs.Sound.{sound};
+ghost use Rattle.rg_admin.specs.Starting.{start_fault};
+ghost use Rattle.rg_running.specs.Running.{opened_unless};
+ghost use Rattle.rg_work.specs.Follow.{IsWorked};
+ghost use Rattle.rg_replay.specs.Replay.{admin_work, config_work, decide_work, decision_by_newest, decision_line, facts_work, published_facts, refresh_line, refresh_work, reply_line};
+ghost use Rattle.rg_replay.specs.Report.{AreSound};
+
+use rg_base::{Moment, NoMemory, Serial, Steps, Text};
+use rg_cmd::{AdminReply, Ask, Config};
+use rg_cmd_wire::print_reply;
+use rg_engine::{Engine, numbered};
+use rg_facts::{Decision, Facts};
+use rg_policy::AccessRequest;
+use rg_running::Running;
+use rg_script::{Line, LineFault, read_line};
+use rg_sound::facts_fault;
+use rg_wire::print_decision;
+use rg_work::Worker;
+use std::alloc::Global;
+use std::marker::Model;
+use std::mem;
+use std::sync::{Arc, Wait};
+
+/// The engine over the facts of a script. Contracts see the facts.
+#[derive(Drop)]
+pub struct Published {
+    engine: Arc<Engine>,
+}
+
+impl Model for Published {
+    ghost use Rattle.std.specs.Arc.{arc_value};
+    ghost use Rattle.rg_facts.specs.declared.facts.Facts.{Facts};
+
+    ghost Value = { Facts };
+
+    ghost view = { λ p. arc_value p.engine };
+}
+
+impl Published {
+    /// The engine, by which reports are made too.
+    pub(crate) fn engine(&self) -> &Engine
+        ensures { result.now ≡ self.now }
+    {
+        &self.engine
+    }
+}
+
+/// The administration of a script. Contracts see it as it is running.
+#[derive(Drop)]
+pub(crate) struct Administered<'a, R: Wait> {
+    running: Box<Running<&'a R>>,
+}
+
+impl<'a, R: Wait> Model for Administered<'a, R> {
+    ghost use Rattle.std.specs.Box.{box_value};
+    ghost use Rattle.rg_running.specs.Running as the;
+
+    ghost Value = { the.Running };
+
+    ghost view = { λ a. box_value a.running };
+}
+
+/// How far a script has come.
+#[derive(Drop)]
+pub enum Stage<A> {
+    /// There were only blank lines.
+    Empty,
+    /// Facts are published.
+    Facts(Published),
+    /// An administration is running.
+    Config(A),
+}
+
+/// A script that is worked. Contracts see how far it has come.
+#[derive(Drop)]
+pub struct Replay<'a, R: Wait> {
+    rt: &'a R,
+    stage: Stage<Administered<'a, R>>,
+}
+
+impl<'a, R: Wait> Model for Replay<'a, R> {
+    ghost use Rattle.rg_replay.specs.Replay.{State};
+
+    ghost Value = { State };
+
+    ghost view = { λ r. r.stage };
+}
+
+// ---- printed lines
+
+/// Adds the decision line.
+#[tactic(auto, unfolding(crate::specs::Replay::decision_line))]
+pub(crate) fn add_decision(
+    alloc: Global,
+    text: &mut String,
+    decision: &Decision,
+) -> Result<(), NoMemory>
+    ensures { OnOk result (string_bytes text.new ≡ string_bytes text.old ++ decision_line decision.now) }
+{
+    let printed = print_decision(alloc, decision)?;
+    let line = printed.as_str();
+    match writeln!(text, "{line}") {
+        Ok(()) => Ok(()),
+        Err(_) => Err(NoMemory),
+    }
+}
+
+/// The text of a reply, which is let go.
+fn spelled(alloc: Global, reply: AdminReply) -> Result<Text, NoMemory>
+    ensures { IfOk result (λ t. encode_utf8_all t ≡ reply_text reply) }
+{
+    print_reply(alloc, &reply)
+}
+
+/// Adds the line of a reply.
+#[tactic(auto, unfolding(crate::specs::Replay::reply_line))]
+pub fn add_reply(alloc: Global, text: &mut String, reply: AdminReply) -> Result<(), NoMemory>
+    ensures { OnOk result (string_bytes text.new ≡ string_bytes text.old ++ reply_line reply) }
+{
+    let printed = spelled(alloc, reply)?;
+    let line = printed.as_str();
+    match writeln!(text, "{line}") {
+        Ok(()) => Ok(()),
+        Err(_) => Err(NoMemory),
+    }
+}
+
+/// Adds the line of a refresh.
+#[tactic(auto, unfolding(crate::specs::Replay::refresh_line))]
+fn add_refresh(text: &mut String, published: Option<Serial>) -> Result<(), NoMemory>
+    ensures { OnOk result (string_bytes text.new ≡ string_bytes text.old ++ refresh_line published) }
+{
+    let written = match published {
+        Some(Serial(serial)) => writeln!(text, "{{\"published\":{serial}}}"),
+        None => writeln!(text, "{{\"unchanged\":true}}"),
+    };
+    match written {
+        Ok(()) => Ok(()),
+        Err(_) => Err(NoMemory),
+    }
+}
+
+// ---- the work of a line
+
+/// The engine over facts that are sound.
+fn build(alloc: Global, facts: Facts) -> Result<Option<Published>, NoMemory>
+    requires { sound facts ≡ true }
+    ensures { IfOk result (λ engine. engine ≡ Some facts) }
+{
+    let engine = Engine::build(alloc, facts, &mut Steps::silent())?;
+    let engine = Arc::new(alloc, engine)?;
+    Ok(Some(Published { engine }))
+}
+
+/// The engine over facts that are sound; None for facts that aren't.
+pub(crate) fn publish(alloc: Global, facts: Facts) -> Result<Option<Published>, NoMemory>
+    ensures made { IfOk result (λ engine. engine ≡ published_facts facts) }
+    ensures sound { IfOk result (λ engine. AreSound engine) }
+{
+    match facts_fault(alloc, &facts) {
+        Ok(false) => build(alloc, facts),
+        Ok(true) => {
+            drop(facts);
+            Ok(None)
+        }
+        Err(refused) => {
+            drop(facts);
+            Err(refused)
+        }
+    }
+}
+
+/// The administration that the configuration starts; None where it breaks a rule.
+fn administer<'a, R: Wait>(
+    rt: &'a R,
+    alloc: Global,
+    config: Config,
+) -> Result<Option<Administered<'a, R>>, NoMemory>
+    ensures { IfOk result (λ running. running ≡ opened_unless (start_fault config) config) }
+{
+    let Some(running) = Running::start(rt, alloc, config)? else {
+        return Ok(None);
+    };
+    let running = Box::new(alloc, running)?;
+    Ok(Some(Administered { running }))
+}
+
+/// Asks the administration, and adds the line of its reply.
+fn ask_and_print<R: Wait>(
+    rt: &R,
+    alloc: Global,
+    administered: &mut Administered<R>,
+    ask: Ask,
+    text: &mut String,
+) -> Result<(), NoMemory>
+    ensures { OnOk result (IsWorked (admin_work (Stage.Config administered.old) ask) (Stage.Config administered.new) (string_bytes text.old) (string_bytes text.new)) }
+{
+    let reply = administered.running.ask(rt, alloc, ask)?;
+    add_reply(alloc, text, reply)
+}
+
+/// Refreshes the plugin, and adds the line of what was published.
+fn refresh_and_print<R: Wait>(
+    rt: &R,
+    alloc: Global,
+    administered: &mut Administered<R>,
+    text: &mut String,
+) -> Result<(), NoMemory>
+    ensures { OnOk result (IsWorked (refresh_work (Stage.Config administered.old)) (Stage.Config administered.new) (string_bytes text.old) (string_bytes text.new)) }
+{
+    let published = administered
+        .running
+        .refresh(rt, alloc, &mut Steps::silent())?;
+    add_refresh(text, published)
+}
+
+/// An ask that stands out of place is let go.
+fn refuse(_ask: Ask) -> LineFault
+    ensures { result ≡ LineFault.Bad }
+{
+    LineFault::Bad
+}
+
+impl<'a, R: Wait> Replay<'a, R> {
+    /// A script of which no line is worked yet.
+    pub fn new(rt: &'a R) -> Replay<'a, R>
+        ensures { result ≡ Stage.Empty }
+    {
+        Replay {
+            rt,
+            stage: Stage::Empty,
+        }
+    }
+
+    /// Publishes the facts, where the script begins with them and they are sound.
+    #[tactic(auto, unfolding(crate::specs::Replay::facts_work))]
+    fn begin(&mut self, alloc: Global, facts: Facts) -> Result<(), LineFault>
+        ensures worked { OnOk result (IsWorked (facts_work self.old facts) self.new [] []) }
+        ensures bad { result ≡ Err LineFault.Bad → (facts_work self.old facts ≡ None) × (self.new ≡ self.old) }
+    {
+        match self.stage {
+            Stage::Empty => {}
+            _ => return Err(LineFault::Bad),
+        }
+        match publish(alloc, facts) {
+            Ok(None) => Err(LineFault::Bad),
+            Ok(Some(published)) => {
+                drop(mem::replace(&mut self.stage, Stage::Facts(published)));
+                Ok(())
+            }
+            Err(_) => Err(LineFault::NoMemory),
+        }
+    }
+
+    /// Starts the administration, where the script begins with its configuration, which breaks no rule.
+    #[tactic(auto, unfolding(crate::specs::Replay::config_work))]
+    fn start(&mut self, alloc: Global, config: Config) -> Result<(), LineFault>
+        ensures worked { OnOk result (IsWorked (config_work self.old config) self.new [] []) }
+        ensures bad { result ≡ Err LineFault.Bad → (config_work self.old config ≡ None) × (self.new ≡ self.old) }
+    {
+        match self.stage {
+            Stage::Empty => {}
+            _ => return Err(LineFault::Bad),
+        }
+        match administer(self.rt, alloc, config) {
+            Ok(None) => Err(LineFault::Bad),
+            Ok(Some(administered)) => {
+                drop(mem::replace(&mut self.stage, Stage::Config(administered)));
+                Ok(())
+            }
+            Err(_) => Err(LineFault::NoMemory),
+        }
+    }
+
+    /// Asks the administration, and prints its reply.
+    #[tactic(auto, unfolding(crate::specs::Replay::admin_work))]
+    fn ask(&mut self, alloc: Global, ask: Ask, text: &mut String) -> Result<(), LineFault>
+        ensures worked { OnOk result (IsWorked (admin_work self.old ask) self.new (string_bytes text.old) (string_bytes text.new)) }
+        ensures bad { result ≡ Err LineFault.Bad → (admin_work self.old ask ≡ None) × (self.new ≡ self.old) }
+        ensures unwritten { result ≡ Err LineFault.Bad → string_bytes text.new ≡ string_bytes text.old }
+    {
+        match &mut self.stage {
+            Stage::Config(administered) => match ask_and_print(
+                self.rt,
+                alloc,
+                administered,
+                ask,
+                text,
+            ) {
+                Ok(()) => Ok(()),
+                Err(_) => Err(LineFault::NoMemory),
+            },
+            Stage::Empty | Stage::Facts(_) => Err(refuse(ask)),
+        }
+    }
+
+    /// Refreshes the plugin, and prints what was published.
+    #[tactic(auto, unfolding(crate::specs::Replay::refresh_work))]
+    fn refresh(&mut self, alloc: Global, text: &mut String) -> Result<(), LineFault>
+        ensures worked { OnOk result (IsWorked (refresh_work self.old) self.new (string_bytes text.old) (string_bytes text.new)) }
+        ensures bad { result ≡ Err LineFault.Bad → (refresh_work self.old ≡ None) × (self.new ≡ self.old) }
+        ensures unwritten { result ≡ Err LineFault.Bad → string_bytes text.new ≡ string_bytes text.old }
+    {
+        match &mut self.stage {
+            Stage::Config(administered) => match refresh_and_print(
+                self.rt,
+                alloc,
+                administered,
+                text,
+            ) {
+                Ok(()) => Ok(()),
+                Err(_) => Err(LineFault::NoMemory),
+            },
+            Stage::Empty | Stage::Facts(_) => Err(LineFault::Bad),
+        }
+    }
+
+    /// The decision by what is published last; None before anything is.
+    fn decided(
+        &mut self,
+        alloc: Global,
+        request: &AccessRequest,
+    ) -> Result<Option<Decision>, NoMemory>
+        ensures same { self.new ≡ self.old }
+        ensures decision { IfOk result (λ d. d ≡ decision_by_newest self.old request.now) }
+    {
+        match &mut self.stage {
+            Stage::Empty => Ok(None),
+            Stage::Facts(published) => {
+                let engine = &*published.engine;
+                let decision = engine.decide(alloc, request, &mut Steps::silent())?;
+                Ok(Some(numbered(decision, Serial(1))))
+            }
+            Stage::Config(a) => Ok(Some(a.running.decide(alloc, request, &mut Steps::silent())?)),
+        }
+    }
+
+    /// Prints the decision by what is published last.
+    #[tactic(auto, unfolding(crate::specs::Replay::decide_work))]
+    fn decide(
+        &mut self,
+        alloc: Global,
+        request: &AccessRequest,
+        text: &mut String,
+    ) -> Result<(), LineFault>
+        ensures worked { OnOk result (IsWorked (decide_work self.old request.now) self.new (string_bytes text.old) (string_bytes text.new)) }
+        ensures bad { result ≡ Err LineFault.Bad → (decide_work self.old request.now ≡ None) × (self.new ≡ self.old) × (string_bytes text.new ≡ string_bytes text.old) }
+    {
+        let decision = match self.decided(alloc, request) {
+            Ok(Some(decision)) => decision,
+            Ok(None) => return Err(LineFault::Bad),
+            Err(_) => return Err(LineFault::NoMemory),
+        };
+        match add_decision(alloc, text, &decision) {
+            Ok(()) => Ok(()),
+            Err(_) => Err(LineFault::NoMemory),
+        }
+    }
+}
+
+impl<'a, R: Wait> Worker for Replay<'a, R> {
+    ghost use Rattle.rg_replay.specs.Replay.{replay_step};
+
+    ghost step = { replay_step };
+
+    fn work(
+        &mut self,
+        alloc: Global,
+        line: &[u8],
+        now: Moment,
+        text: &mut String,
+    ) -> Result<(), LineFault> {
+        match read_line(alloc, line, now) {
+            Ok(Line::Blank) => Ok(()),
+            Ok(Line::Facts(facts)) => self.begin(alloc, facts),
+            Ok(Line::Config(config)) => self.start(alloc, config),
+            Ok(Line::Admin(ask)) => self.ask(alloc, ask, text),
+            Ok(Line::Refresh) => self.refresh(alloc, text),
+            Ok(Line::Decide(request)) => self.decide(alloc, &request, text),
+            Err(fault) => Err(fault),
+        }
+    }
+}

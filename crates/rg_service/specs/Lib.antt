@@ -1,0 +1,4 @@
+pub mod Links
+pub mod Preparing
+pub mod Serve
+pub mod Serves

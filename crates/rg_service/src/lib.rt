@@ -1,0 +1,7 @@
+// The command `serve`: a script of one configuration and commands of the administration, and then links.
+#![tactic(auto)]
+
+mod preparing;
+mod serving;
+
+pub use serving::serve_script;

@@ -1,0 +1,7 @@
+pub mod Follow
+pub mod Limits
+pub mod Moments
+pub mod Ports
+pub mod Runs
+pub mod Statuses
+pub mod Streams

@@ -1,0 +1,15 @@
+// A script, read to its end and worked line by line, whatever the command; and how a run ends.
+#![tactic(auto)]
+
+mod lines;
+mod reading;
+mod script;
+mod status;
+mod work;
+mod writing;
+
+pub use lines::{Worked, Worker, follow, name_bad_line};
+pub use script::read_script;
+pub use status::Status;
+pub use work::work_script;
+pub use writing::write_all;

@@ -1,0 +1,41 @@
+// The work of a whole script.
+ghost use Rattle.std.specs.Prelude.{◌≡◌, ◌⊎◌};
+ghost use Rattle.rg_work.specs.Follow.{worked};
+ghost use Rattle.rg_work.specs.Ports.{ports};
+ghost use Rattle.rg_work.specs.Runs.{EndsIn, IsRun, Stands};
+
+use crate::lines::{Worker, follow};
+use crate::script::read_script;
+use crate::status::Status;
+use crate::writing::write_all;
+use rg_ports::{Clock, Sink, Source};
+use std::alloc::Global;
+
+/// Reads a script to its end, and then works it.
+pub fn work_script<W: Worker, S: Source, K: Sink, C: Clock>(
+    alloc: Global,
+    worker: &mut W,
+    source: &mut S,
+    sink: &mut K,
+    clock: &mut C,
+) -> Status
+    ensures run { IsRun (Stands _ (worked W.step worker.old 1))
+        (ports (S.left source.old) (S.ended source.old) (S.faults source.old) (C.given clock.old) (K.held sink.old) (K.faults sink.old))
+        (ports (S.left source.new) (S.ended source.new) (S.faults source.new) (C.given clock.new) (K.held sink.new) (K.faults sink.new)) result }
+    ensures clock_stays { (result ≡ Status.ReadFault) ⊎ (result ≡ Status.TooLong) → clock.new ≡ clock.old }
+    ensures ends_in { result ≡ Status.Done → EndsIn (worked W.step worker.old 1)
+        (ports (S.left source.old) (S.ended source.old) (S.faults source.old) (C.given clock.old) (K.held sink.old) (K.faults sink.old))
+        (ports (S.left source.new) (S.ended source.new) (S.faults source.new) (C.given clock.new) (K.held sink.new) (K.faults sink.new)) worker.new }
+{
+    let bytes = match read_script(alloc, source, sink) {
+        Ok(bytes) => bytes,
+        Err(status) => return status,
+    };
+    match follow(alloc, worker, bytes.as_slice(), clock) {
+        Ok(worked) => match write_all(sink, worked.text.as_bytes()) {
+            Ok(()) => worked.status,
+            Err(_) => Status::WriteFault,
+        },
+        Err(_) => Status::NoMemory,
+    }
+}
