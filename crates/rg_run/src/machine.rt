@@ -6,9 +6,7 @@ ghost use Rattle.rg_run.specs.Runs.{IsEndOf};
 
 use crate::program::run;
 use rg_hook::{AuditFan, Enrichers, WorkerHooks};
-use rg_ports::{
-    Clock, FreeGate, Listener, Sink, Source, StdSink, StdSource, TcpNet, WallClock,
-};
+use rg_ports::{Clock, FreeGate, Listener, Sink, Source, StdSink, StdSource, TcpNet, WallClock};
 use std::alloc::{AllocError, Global};
 use std::io;
 use std::process::ExitCode;

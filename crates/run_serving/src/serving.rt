@@ -5,9 +5,7 @@ use crate::links::{Links, SharedLink};
 use anyhow::Result;
 use rg_base::{Moment, Seq};
 use rg_hook::{AuditFan, Enrichers, WorkerHooks};
-use rg_ports::{
-    Clock, Gate, ListClock, Listener, MeetingGate, MemSink, MemSource, Sink, Source,
-};
+use rg_ports::{Clock, Gate, ListClock, Listener, MeetingGate, MemSink, MemSource, Sink, Source};
 use rg_run::run;
 use std::alloc::{AllocError, Global};
 use std::str;
@@ -92,9 +90,7 @@ fn run_with<S: Source, K: Sink, C: Clock, N: Listener, G: Gate, R: Threads + Wai
 ) -> u8
     requires { (1 ≤ length workers.old.items) × (length workers.old.items ≤ 64) }
 {
-    run(
-        rt, alloc, words, source, sink, clock, net, gate, workers,
-    )
+    run(rt, alloc, words, source, sink, clock, net, gate, workers)
 }
 
 /// Runs, and tells how it ended.
