@@ -1,0 +1,206 @@
+// A link served by an administration of its own.
+ghost use Rattle.std.specs.Prelude.{◌≡◌, IfSome, List};
+ghost use Rattle.rg_turn.specs.declared.rule.Entry.{Entry};
+ghost use Rattle.rg_cmd.specs.declared.ask.AdminReply.{AdminReply};
+ghost use Rattle.rg_cmd.specs.declared.ask.Ask.{Ask};
+ghost use Rattle.rg_machine.specs.Starts.{IsStart};
+ghost use Rattle.rg_session.specs.Right.{AreRightFor};
+
+use crate::notation::written;
+use crate::telling::told;
+use crate::watched::{Lines, no_lines, watch};
+use anyhow::{Result, anyhow};
+use rg_admin::Admin;
+use rg_base::{Moment, Seq, Steps};
+use rg_cmd_wire::read_config;
+use rg_hook::{AuditFan, AuditSink, Enrichers, WorkerHooks};
+use rg_link::{LinkFault, Report, serve_link};
+use rg_ports::{FreeGate, ListClock, MemLink};
+use rg_publish::Pass;
+use rg_session::{Bell, Refresher, Service, open};
+use rg_turn::{Seat, Turn};
+use std::alloc::{AllocError, Global};
+use std::sync::Wait;
+
+/// The plugin's service.
+const PLUGIN: &str = "hive1";
+
+/// A link, and what it meets.
+#[derive(Clone, Copy)]
+pub(crate) struct Case<'c> {
+    pub(crate) config: &'c str,
+    /// The bytes of an earlier link, after which there is a refresh; none where it is empty.
+    pub(crate) before: &'c [u8],
+    pub(crate) bytes: &'c [u8],
+    /// The most bytes that a call moves; 0 sets no bound.
+    pub(crate) piece: u32,
+    /// The calls that fail.
+    pub(crate) fails: &'c [u64],
+    /// The calls of the first sink that fail.
+    pub(crate) sink: &'c [u64],
+}
+
+/// The administration that the configuration starts.
+fn started(alloc: Global, config: &str) -> Option<Admin>
+    ensures { IfSome result IsStart }
+{
+    match read_config(alloc, config.as_bytes()) {
+        Ok(config) => match Admin::start(alloc, config) {
+            Ok(admin) => Some(admin),
+            Err(_) => None,
+        },
+        Err(_) => None,
+    }
+}
+
+/// A link with these bytes to come. A call moves as many bytes as `piece` says, or all where it is 0.
+fn link_of(alloc: Global, bytes: &[u8], piece: u32, fails: &[u64]) -> Result<MemLink, AllocError> {
+    let mut pieces = Vec::new(alloc);
+    if 0 < piece {
+        pieces.push(piece)?;
+    }
+    Ok(MemLink::new(
+        Seq::from_vec(Vec::from_slice(alloc, bytes)?),
+        Seq::new(alloc),
+        Seq::from_vec(pieces),
+        Seq::from_vec(Vec::from_slice(alloc, fails)?),
+    ))
+}
+
+/// The moments of a session's messages: 100, 200, and 300 for the third and all later ones.
+fn clock(alloc: Global) -> Result<ListClock, AllocError> {
+    let moments = Vec::from_slice(alloc, &[Moment(100), Moment(200), Moment(300)])?;
+    Ok(ListClock::new(Seq::from_vec(moments)))
+}
+
+/// Serves the link, at moments of a clock of its own.
+fn serve<R: Wait>(
+    rt: &R,
+    alloc: Global,
+    turn: &Turn<Admin>,
+    seat: &mut Seat<Admin>,
+    pass: &mut Pass,
+    hooks: &mut WorkerHooks,
+    link: &mut MemLink,
+) -> Result<Result<Report, LinkFault>, AllocError>
+    requires { seat.old.turn ≡ turn.now.turn }
+    ensures { seat.new.turn ≡ seat.old.turn }
+{
+    let mut clock = clock(alloc)?;
+    let bell = Bell::new();
+    Ok(serve_link(
+        rt, alloc, link, turn, seat, pass, &mut clock, hooks, &FreeGate, &bell, PLUGIN, 0,
+    ))
+}
+
+/// Serves the earlier link, where there is one, and publishes what it changed.
+fn serve_before<R: Wait, P: Wait + Drop>(
+    rt: &R,
+    alloc: Global,
+    turn: &Turn<Admin>,
+    seat: &mut Seat<Admin>,
+    refresher: &mut Refresher<P>,
+    pass: &mut Pass,
+    bytes: &[u8],
+) -> Result<(), AllocError>
+    requires turn { seat.old.turn ≡ turn.now.turn }
+    requires start { IsStart turn.now.start }
+    requires service { refresher.old.service ≡ turn.now.start.state.plugin }
+    requires right { (h : List (Entry Ask AdminReply)) → AreRightFor turn.now.start h refresher.old.publisher.list }
+    ensures { seat.new.turn ≡ seat.old.turn }
+{
+    if bytes.is_empty() {
+        return Ok(());
+    }
+    let mut hooks = WorkerHooks {
+        sinks: AuditFan::new(Vec::new(alloc)),
+        enrichers: Enrichers::new(Vec::new(alloc)),
+    };
+    let mut link = link_of(alloc, bytes, 0, &[])?;
+    let _end = serve(rt, alloc, turn, seat, pass, &mut hooks, &mut link)?;
+    let _refresh = refresher.refresh(rt, alloc, turn, seat, &mut Steps::silent());
+    Ok(())
+}
+
+/// Serves the link with two sinks, which keep these lines. Gives how it ended, and how many sinks were dropped.
+fn serve_watched<R: Wait>(
+    rt: &R,
+    alloc: Global,
+    turn: &Turn<Admin>,
+    seat: &mut Seat<Admin>,
+    pass: &mut Pass,
+    link: &mut MemLink,
+    first: &Lines,
+    second: &Lines,
+) -> Result<(Result<Report, LinkFault>, u32), AllocError>
+    requires { seat.old.turn ≡ turn.now.turn }
+{
+    let mut sinks: Vec<Box<dyn AuditSink + Send>> = Vec::new(alloc);
+    sinks.push(Box::new(alloc, watch(first)?)?)?;
+    sinks.push(Box::new(alloc, watch(second)?)?)?;
+    let mut hooks = WorkerHooks {
+        sinks: AuditFan::new(sinks),
+        enrichers: Enrichers::new(Vec::new(alloc)),
+    };
+    let end = serve(rt, alloc, turn, seat, pass, &mut hooks, link)?;
+    Ok((end, hooks.sinks.dropped()))
+}
+
+/// Serves the link, and tells what it left.
+fn told_of_link<R: Wait>(
+    rt: &R,
+    alloc: Global,
+    turn: &Turn<Admin>,
+    seat: &mut Seat<Admin>,
+    pass: &mut Pass,
+    case: &Case,
+) -> Result<String, AllocError>
+    requires { seat.old.turn ≡ turn.now.turn }
+{
+    let first = no_lines(alloc, Vec::from_slice(alloc, case.sink)?)?;
+    let second = no_lines(alloc, Vec::new(alloc))?;
+    let mut link = link_of(alloc, case.bytes, case.piece, case.fails)?;
+    let calls = seat.calls();
+    let (end, dropped) = serve_watched(rt, alloc, turn, seat, pass, &mut link, &first, &second)?;
+    let calls = seat.calls().saturating_sub(calls);
+    let text = written(alloc, link.held())?;
+    told(alloc, &end, calls, text.as_str(), &first, dropped, &second)
+}
+
+/// Starts an administration, serves the case's link, and tells what that left.
+pub(crate) fn told_of<R: Wait>(rt: &R, alloc: Global, case: &Case) -> Result<String> {
+    let Some(admin) = started(alloc, case.config) else {
+        return Err(anyhow!("the configuration starts nothing"));
+    };
+    let opened = open(rt, alloc, admin, 1, 1, &mut Steps::silent());
+    let Ok(
+        Service {
+            turn,
+            mut seats,
+            mut refresher,
+            mut passes,
+        },
+    ) = opened
+    else {
+        return Err(anyhow!("memory was refused"));
+    };
+    let (Some(mut seat), Some(mut pass)) = (seats.pop(), passes.pop()) else {
+        return Err(anyhow!("there are a seat and a pass"));
+    };
+    let told = match serve_before(
+        rt,
+        alloc,
+        &turn,
+        &mut seat,
+        &mut refresher,
+        &mut pass,
+        case.before,
+    ) {
+        Ok(()) => told_of_link(rt, alloc, &turn, &mut seat, &mut pass, case),
+        Err(refused) => Err(refused),
+    };
+    match told {
+        Ok(told) => Ok(told),
+        Err(_) => Err(anyhow!("memory was refused")),
+    }
+}
