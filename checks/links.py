@@ -47,16 +47,18 @@ def told(text):
     return front + "".join((f"{count}*" if count > 1 else "") + START + part for count, part in runs)
 
 
-def line(name, end, calls, text, audited=(), dropped=0, second=()):
+def line(name, end, calls, text, audited=(), dropped=0, second=(), bell=()):
     """What is printed of one link."""
     left = f"{name}|{end}|{calls}|{told(text)}|audited" + "".join(f" {audit}" for audit in audited) + f"|dropped {dropped}"
     if dropped:
         left += "|the second sink" + "".join(f" {audit}" for audit in second)
+    if bell:
+        left += "|bell" + "".join(f" {word}" for word in bell)
     wanted.append(left)
 
 
-def row(name, text, cut="", piece="", fails="", sink="", before=""):
-    rows.append("|".join([name, text, cut, str(piece), fails, sink, before]).rstrip("|"))
+def row(name, text, cut="", piece="", fails="", sink="", before="", bell=""):
+    rows.append("|".join([name, text, cut, str(piece), fails, sink, before, bell]).rstrip("|"))
 
 
 def case(name, text, end, calls, responses, audited=(), pieces=("",), before="", sink="", dropped=0, second=()):
@@ -233,6 +235,20 @@ def sinks():
     case("a sink that fails twice", asked, "ended after 6", 0, [DENIED] * 6, lines[2:], sink="1 2")
 
 
+def bells():
+    """The bell is rung after each accepted change, before its answer is written, and for nothing else here."""
+    put = send("POST", f"{API}/roles", '{"name":"r"}')
+    delete = f"DELETE {API}/roles/name/r HTTP/1.1~x-user: root~~"
+    messages = [(CREATE, CREATED, True), (CURRENT.replace("Version=1", "Version=2"), UNCHANGED, False),
+                (put, response(200, '{"done":true}'), True), (put.replace("root", "ann"), response(403, '{"rule":"A1"}'), False),
+                (ASK, DENIED, False), (get("/nowhere"), response(404, '{"error":"path"}'), False),
+                (delete, response(204), True), (delete, response(404, '{"rule":"E4"}'), False)]
+    name = "rung before the answers to changes"
+    row(name, "".join(text for text, _, _ in messages), bell="told")
+    line(name, f"ended after {len(messages)}", 6, "".join(answer for _, answer, _ in messages), [audit("DENIED", -1, 1)],
+         bell=["rung" if is_change else "silent" for _, _, is_change in messages])
+
+
 def unanswered():
     """Calls on the link that fail between a step and its answer. The calls are a read, the answers, and a read at the end."""
     two = send("POST", DECIDE, request("a")) + send("POST", DECIDE, request("b"))
@@ -255,7 +271,7 @@ def unanswered():
 
 def main():
     for title, table in (("downloads, and what is refused", downloads_and_refusals), ("how a link ends", ends),
-                         ("heads and bodies at their limits", limits), ("decisions", decisions), ("sinks", sinks),
+                         ("heads and bodies at their limits", limits), ("decisions", decisions), ("sinks", sinks), ("the bell", bells),
                          ("answers that can't be written", unanswered)):
         rows.append(f"# {title}")
         table()

@@ -2,6 +2,7 @@
 // and begins with no `#` is a link, which is served by an administration of its own, from its start.
 #![tactic(auto)]
 
+mod hearing;
 mod notation;
 mod session;
 mod table;

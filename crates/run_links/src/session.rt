@@ -1,11 +1,12 @@
 // A link served by an administration of its own.
-ghost use Rattle.std.specs.Prelude.{◌≡◌, IfSome, List};
+ghost use Rattle.std.specs.Prelude.{◌≡◌, ◌<◌, All, IfOk, IfSome, List};
 ghost use Rattle.rg_turn.specs.declared.rule.Entry.{Entry};
 ghost use Rattle.rg_cmd.specs.declared.ask.AdminReply.{AdminReply};
 ghost use Rattle.rg_cmd.specs.declared.ask.Ask.{Ask};
 ghost use Rattle.rg_machine.specs.Starts.{IsStart};
 ghost use Rattle.rg_session.specs.Right.{AreRightFor};
 
+use crate::hearing::HearingLink;
 use crate::notation::written;
 use crate::telling::told;
 use crate::watched::{Lines, no_lines, watch};
@@ -15,7 +16,7 @@ use rg_base::{Moment, Seq, Steps};
 use rg_cmd_wire::read_config;
 use rg_hook::{AuditFan, AuditSink, Enrichers, WorkerHooks};
 use rg_link::{LinkFault, Report, serve_link};
-use rg_ports::{FreeGate, ListClock, MemLink};
+use rg_ports::{FreeGate, Link, ListClock, MemLink};
 use rg_publish::Pass;
 use rg_session::{Bell, Refresher, Service, open};
 use rg_turn::{Seat, Turn};
@@ -38,6 +39,8 @@ pub(crate) struct Case<'c> {
     pub(crate) fails: &'c [u64],
     /// The calls of the first sink that fail.
     pub(crate) sink: &'c [u64],
+    /// Whether it is told before which writes the bell was rung.
+    pub(crate) is_heard: bool,
 }
 
 /// The administration that the configuration starts.
@@ -53,18 +56,24 @@ fn started(alloc: Global, config: &str) -> Option<Admin>
     }
 }
 
-/// A link with these bytes to come. A call moves as many bytes as `piece` says, or all where it is 0.
-fn link_of(alloc: Global, bytes: &[u8], piece: u32, fails: &[u64]) -> Result<MemLink, AllocError> {
-    let mut pieces = Vec::new(alloc);
-    if 0 < piece {
-        pieces.push(piece)?;
+/// How many bytes each call moves at most: so many, or all where it is 0.
+fn pieces_of(alloc: Global, piece: u32) -> Result<Seq<u32>, AllocError>
+    ensures { IfOk result (λ pieces. All (λ size. 0 < size) pieces.items) }
+{
+    if piece == 0 {
+        return Ok(Seq::new(alloc));
     }
-    Ok(MemLink::new(
-        Seq::from_vec(Vec::from_slice(alloc, bytes)?),
-        Seq::new(alloc),
-        Seq::from_vec(pieces),
-        Seq::from_vec(Vec::from_slice(alloc, fails)?),
-    ))
+    let mut pieces = Vec::new(alloc);
+    pieces.push(piece)?;
+    Ok(Seq::from_vec(pieces))
+}
+
+/// A link with these bytes to come.
+fn link_of(alloc: Global, bytes: &[u8], piece: u32, fails: &[u64]) -> Result<MemLink, AllocError> {
+    let bytes = Seq::from_vec(Vec::from_slice(alloc, bytes)?);
+    let fails = Seq::from_vec(Vec::from_slice(alloc, fails)?);
+    let pieces = pieces_of(alloc, piece)?;
+    Ok(MemLink::new(bytes, Seq::new(alloc), pieces, fails))
 }
 
 /// The moments of a session's messages: 100, 200, and 300 for the third and all later ones.
@@ -74,22 +83,22 @@ fn clock(alloc: Global) -> Result<ListClock, AllocError> {
 }
 
 /// Serves the link, at moments of a clock of its own.
-fn serve<R: Wait>(
+fn serve<T: Link, R: Wait>(
     rt: &R,
     alloc: Global,
     turn: &Turn<Admin>,
     seat: &mut Seat<Admin>,
     pass: &mut Pass,
     hooks: &mut WorkerHooks,
-    link: &mut MemLink,
+    bell: &Bell,
+    link: &mut T,
 ) -> Result<Result<Report, LinkFault>, AllocError>
     requires { seat.old.turn ≡ turn.now.turn }
     ensures { seat.new.turn ≡ seat.old.turn }
 {
     let mut clock = clock(alloc)?;
-    let bell = Bell::new();
     Ok(serve_link(
-        rt, alloc, link, turn, seat, pass, &mut clock, hooks, &FreeGate, &bell, PLUGIN, 0,
+        rt, alloc, link, turn, seat, pass, &mut clock, hooks, &FreeGate, bell, PLUGIN, 0,
     ))
 }
 
@@ -117,19 +126,21 @@ fn serve_before<R: Wait, P: Wait + Drop>(
         enrichers: Enrichers::new(Vec::new(alloc)),
     };
     let mut link = link_of(alloc, bytes, 0, &[])?;
-    let _end = serve(rt, alloc, turn, seat, pass, &mut hooks, &mut link)?;
+    let bell = Bell::new();
+    let _end = serve(rt, alloc, turn, seat, pass, &mut hooks, &bell, &mut link)?;
     let _refresh = refresher.refresh(rt, alloc, turn, seat, &mut Steps::silent());
     Ok(())
 }
 
 /// Serves the link with two sinks, which keep these lines. Gives how it ended, and how many sinks were dropped.
-fn serve_watched<R: Wait>(
+fn serve_watched<T: Link, R: Wait>(
     rt: &R,
     alloc: Global,
     turn: &Turn<Admin>,
     seat: &mut Seat<Admin>,
     pass: &mut Pass,
-    link: &mut MemLink,
+    bell: &Bell,
+    link: &mut T,
     first: &Lines,
     second: &Lines,
 ) -> Result<(Result<Report, LinkFault>, u32), AllocError>
@@ -142,12 +153,12 @@ fn serve_watched<R: Wait>(
         sinks: AuditFan::new(sinks),
         enrichers: Enrichers::new(Vec::new(alloc)),
     };
-    let end = serve(rt, alloc, turn, seat, pass, &mut hooks, link)?;
+    let end = serve(rt, alloc, turn, seat, pass, &mut hooks, bell, link)?;
     Ok((end, hooks.sinks.dropped()))
 }
 
 /// Serves the link, and tells what it left.
-fn told_of_link<R: Wait>(
+fn told_of_link<R: Wait + Sync>(
     rt: &R,
     alloc: Global,
     turn: &Turn<Admin>,
@@ -159,16 +170,24 @@ fn told_of_link<R: Wait>(
 {
     let first = no_lines(alloc, Vec::from_slice(alloc, case.sink)?)?;
     let second = no_lines(alloc, Vec::new(alloc))?;
-    let mut link = link_of(alloc, case.bytes, case.piece, case.fails)?;
+    let bell = Bell::new();
+    let link = link_of(alloc, case.bytes, case.piece, case.fails)?;
+    let mut link = HearingLink::new(alloc, rt, &bell, link);
     let calls = seat.calls();
-    let (end, dropped) = serve_watched(rt, alloc, turn, seat, pass, &mut link, &first, &second)?;
+    let (end, dropped) = serve_watched(
+        rt, alloc, turn, seat, pass, &bell, &mut link, &first, &second,
+    )?;
     let calls = seat.calls().saturating_sub(calls);
-    let text = written(alloc, link.held())?;
-    told(alloc, &end, calls, text.as_str(), &first, dropped, &second)
+    let text = written(alloc, link.link.held())?;
+    let mut told = told(alloc, &end, calls, text.as_str(), &first, dropped, &second)?;
+    if case.is_heard {
+        write!(&mut told, "|bell{}", link.heard.as_str())?;
+    }
+    Ok(told)
 }
 
 /// Starts an administration, serves the case's link, and tells what that left.
-pub(crate) fn told_of<R: Wait>(rt: &R, alloc: Global, case: &Case) -> Result<String> {
+pub(crate) fn told_of<R: Wait + Sync>(rt: &R, alloc: Global, case: &Case) -> Result<String> {
     let Some(admin) = started(alloc, case.config) else {
         return Err(anyhow!("the configuration starts nothing"));
     };

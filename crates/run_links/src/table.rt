@@ -1,4 +1,4 @@
-// The table's rows: `name|bytes|cut|piece|fails|sink|before`. Columns at the end may be left out.
+// The table's rows: `name|bytes|cut|piece|fails|sink|before|bell`. Columns at the end may be left out.
 use crate::notation::spelled;
 use crate::session::{Case, told_of};
 use anyhow::Result;
@@ -20,6 +20,8 @@ pub(crate) struct Row<'r> {
     sink: &'r str,
     /// The bytes of an earlier link, after which there is a refresh.
     before: &'r str,
+    /// `told` where it is told before which writes the bell was rung.
+    bell: &'r str,
 }
 
 pub(crate) fn row_of<'r>(line: &'r str) -> Row<'r> {
@@ -32,6 +34,7 @@ pub(crate) fn row_of<'r>(line: &'r str) -> Row<'r> {
         fails: fields.next().unwrap_or(""),
         sink: fields.next().unwrap_or(""),
         before: fields.next().unwrap_or(""),
+        bell: fields.next().unwrap_or(""),
     }
 }
 
@@ -47,7 +50,7 @@ fn numbers(alloc: Global, text: &str) -> Result<Vec<u64>, AllocError> {
 }
 
 /// Serves the row's link in each of its ways, and prints a line for each.
-pub(crate) fn serve_row<R: Wait>(
+pub(crate) fn serve_row<R: Wait + Sync>(
     rt: &HostRuntime,
     waits: &R,
     config: &str,
@@ -65,6 +68,7 @@ pub(crate) fn serve_row<R: Wait>(
         piece: row.piece.parse::<u32>().unwrap_or(0),
         fails: fails.as_slice(),
         sink: sink.as_slice(),
+        is_heard: row.bell == "told",
     };
     if row.cut == "each" {
         return serve_cuts(rt, waits, row.name, case);
@@ -78,7 +82,7 @@ pub(crate) fn serve_row<R: Wait>(
 }
 
 /// Serves each number of the link's first bytes.
-fn serve_cuts<R: Wait>(rt: &HostRuntime, waits: &R, name: &str, case: Case) -> Result<()> {
+fn serve_cuts<R: Wait + Sync>(rt: &HostRuntime, waits: &R, name: &str, case: Case) -> Result<()> {
     for len in 0..=case.bytes.len() {
         let cut = Case {
             bytes: &case.bytes[..len],
@@ -91,7 +95,7 @@ fn serve_cuts<R: Wait>(rt: &HostRuntime, waits: &R, name: &str, case: Case) -> R
 }
 
 /// Serves the link with each call in turn that fails, up to the one that is listed.
-fn serve_failures<R: Wait>(rt: &HostRuntime, waits: &R, name: &str, case: Case) -> Result<()> {
+fn serve_failures<R: Wait + Sync>(rt: &HostRuntime, waits: &R, name: &str, case: Case) -> Result<()> {
     let most = case.fails.first().copied().unwrap_or(0);
     for call in 1..=most {
         let fails = [call];

@@ -4,7 +4,6 @@ ghost use Rattle.rg_machine.specs.Starts.{IsStart};
 ghost use Rattle.rg_session.specs.Right.{AreRightFor};
 
 use crate::closing::told_of_end;
-use crate::learning::access_name;
 use crate::service::{CREATE, change, opened, request};
 use rg_admin::Admin;
 use rg_base::Steps;
@@ -12,6 +11,7 @@ use rg_policy::AccessRequest;
 use rg_publish::Pass;
 use rg_session::{Refresher, Service};
 use rg_turn::{Seat, Turn};
+use rg_wire::access_word;
 use std::alloc::{AllocError, Global};
 use std::sync::Wait;
 
@@ -49,7 +49,7 @@ fn tell_decision(
 {
     let answer = pass.verdict(request, &mut Steps::silent());
     let serial = answer.serial.0;
-    let access = access_name(answer.verdict.access);
+    let access = access_word(answer.verdict.access);
     write!(told, "{serial} {access}, ")
 }
 

@@ -11,18 +11,11 @@ use rg_policy::AccessRequest;
 use rg_publish::{Pass, Told};
 use rg_session::{Refresher, Service};
 use rg_turn::{Seat, Turn};
+use rg_wire::access_word;
 use std::alloc::Global;
 use std::sync::Wait;
 use std::thread;
 use std::thread::Threads;
-
-pub(crate) fn access_name(access: Access) -> &'static str {
-    match access {
-        Access::Allowed => "ALLOWED",
-        Access::Denied => "DENIED",
-        Access::Undetermined => "UNDETERMINED",
-    }
-}
 
 /// Creates the policy, publishes it, and tells. None where memory is refused.
 fn publish_and_tell<R: Wait, P: Wait + Drop>(
@@ -129,7 +122,7 @@ pub(crate) fn learnt<R: Threads + Wait + Sync>(rt: &R, alloc: Global) -> Option<
         "serial {}, policyVersion {}, {} {}; without: {}",
         answer.serial.0,
         answer.policy_version.0,
-        access_name(answer.verdict.access),
+        access_word(answer.verdict.access),
         answer.verdict.policy.0,
         is_either(&either)
     )
