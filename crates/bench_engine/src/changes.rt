@@ -60,10 +60,9 @@ pub(crate) fn one_change(
 fn check_after(alloc: Global, facts: &Facts, deltas: &Deltas) -> Result<(), NoMemory>
     ensures { IfOk result (λ _. sound (applied facts.now deltas.now.policies deltas.now.tags deltas.now.roles) ≡ true) }
 {
-    let facts = facts.try_copy(alloc)?;
-    let after = apply_plain(alloc, facts, &deltas.policies, &deltas.tags, &deltas.roles)?;
-    let after = judged(alloc, after)?;
-    drop(after);
+    let copy = facts.try_copy(alloc)?;
+    let after = apply_plain(alloc, copy, &deltas.policies, &deltas.tags, &deltas.roles)?;
+    drop(judged(alloc, after)?);
     Ok(())
 }
 

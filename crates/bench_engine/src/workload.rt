@@ -59,7 +59,8 @@ fn facts_with(alloc: Global, policies: Seq<Policy>) -> Result<Facts, NoMemory> {
 
 /// The facts themselves. Unsound ones count as want of memory: the workload has none.
 pub(crate) fn judged(alloc: Global, facts: Facts) -> Result<Facts, NoMemory>
-    ensures { IfOk result (λ facts. sound facts ≡ true) }
+    ensures same { IfOk result (λ judged. judged ≡ facts) }
+    ensures sound { IfOk result (λ _. sound facts ≡ true) }
 {
     let is_unsound = facts_fault(alloc, &facts)?;
     if is_unsound {

@@ -1,11 +1,11 @@
 // The end of a service.
-ghost use Rattle.std.specs.Prelude.{◌≡◌, All, length};
+ghost use Rattle.std.specs.Prelude.{◌≡◌, [], ◌∷◌, All, IfSome};
 ghost use Rattle.rg_session.specs.Closing.{IsOwn};
 
-use crate::service::{CREATE, change, opened};
+use crate::service::{CREATE, Opened, change, opened};
 use rg_admin::Admin;
 use rg_publish::{Pass, Publisher};
-use rg_session::{Service, Totals, close};
+use rg_session::{Totals, close};
 use rg_turn::{Seat, Turn};
 use std::alloc::Global;
 use std::sync::Wait;
@@ -28,18 +28,34 @@ fn told_of(alloc: Global, totals: &Totals) -> Option<String> {
     }
 }
 
+/// A list of two.
+pub(crate) fn pair<T: Drop>(alloc: Global, first: T, second: T) -> Option<Vec<T>>
+    ensures { IfSome result (λ v. v.items ≡ first ∷ second ∷ []) }
+{
+    let mut items = Vec::new(alloc);
+    if items.push(first).is_err() {
+        return None;
+    }
+    if items.push(second).is_err() {
+        return None;
+    }
+    Some(items)
+}
+
 /// Closes, and tells the totals.
 pub(crate) fn told_of_end<R: Wait + Drop>(
     alloc: Global,
     publisher: Publisher<R>,
     passes: Vec<Pass>,
     turn: Turn<Admin>,
-    seats: Vec<Seat<Admin>>,
+    seats: (Seat<Admin>, Seat<Admin>),
 ) -> Option<String>
-    requires seats { All (λ s. s.turn ≡ turn.turn) seats.items }
-    requires all { length seats.items ≡ turn.seats }
+    requires seats { (turn.seats ≡ 2) × (seats.0.turn ≡ turn.turn) × (seats.1.turn ≡ turn.turn) }
     requires passes { All (IsOwn publisher) passes.items }
 {
+    let Some(seats) = pair(alloc, seats.0, seats.1) else {
+        return None;
+    };
     match close(alloc, publisher, passes, turn, seats) {
         Ok(totals) => told_of(alloc, &totals),
         Err(_) => None,
@@ -49,17 +65,14 @@ pub(crate) fn told_of_end<R: Wait + Drop>(
 /// The pass of a publisher that published twice, after it has entered.
 fn pass_at_two<R: Wait>(rt: &R, alloc: Global) -> Option<Pass> {
     let Some(
-        Service {
+        Opened {
             turn,
-            mut seats,
+            seats: (mut seat, _),
             mut refresher,
-            mut passes,
+            passes: (mut pass, _),
         },
     ) = opened(rt, alloc)
     else {
-        return None;
-    };
-    let (Some(mut seat), Some(mut pass)) = (seats.pop(), passes.pop()) else {
         return None;
     };
     if !change(rt, alloc, &turn, &mut seat, &mut refresher, CREATE) {
@@ -73,11 +86,11 @@ fn pass_at_two<R: Wait>(rt: &R, alloc: Global) -> Option<Pass> {
 pub(crate) fn ahead<R: Wait>(rt: &R, alloc: Global) -> Option<String> {
     let pass = pass_at_two(rt, alloc)?;
     let Some(
-        Service {
+        Opened {
             turn,
             seats,
             refresher,
-            passes: own,
+            passes: _,
         },
     ) = opened(rt, alloc)
     else {
@@ -86,49 +99,47 @@ pub(crate) fn ahead<R: Wait>(rt: &R, alloc: Global) -> Option<String> {
     if pass.serial().0 <= refresher.publisher.serial().0 {
         return None;
     }
-    drop(own);
     let mut passes = Vec::new(alloc);
-    passes.push(pass).ok()?;
+    if passes.push(pass).is_err() {
+        return None;
+    }
     told_of_end(alloc, refresher.publisher, passes, turn, seats)
 }
 
 /// A publisher that published once, with its own passes.
 pub(crate) fn own<R: Wait>(rt: &R, alloc: Global) -> Option<String> {
     let Some(
-        Service {
+        Opened {
             turn,
             seats,
             refresher,
-            passes,
+            passes: (pass, other),
         },
     ) = opened(rt, alloc)
     else {
         return None;
     };
+    let passes = pair(alloc, pass, other)?;
     told_of_end(alloc, refresher.publisher, passes, turn, seats)
 }
 
 /// A publisher that published twice, with a pass that entered the second publication, and one that didn't.
 pub(crate) fn one_behind<R: Wait>(rt: &R, alloc: Global) -> Option<String> {
     let Some(
-        Service {
+        Opened {
             turn,
-            mut seats,
+            seats: (mut seat, second),
             mut refresher,
-            mut passes,
+            passes: (mut pass, other),
         },
     ) = opened(rt, alloc)
     else {
-        return None;
-    };
-    let (Some(mut seat), Some(mut pass)) = (seats.pop(), passes.pop()) else {
         return None;
     };
     if !change(rt, alloc, &turn, &mut seat, &mut refresher, CREATE) {
         return None;
     }
     let _entered = pass.enter();
-    seats.push(seat).ok()?;
-    passes.push(pass).ok()?;
-    told_of_end(alloc, refresher.publisher, passes, turn, seats)
+    let passes = pair(alloc, other, pass)?;
+    told_of_end(alloc, refresher.publisher, passes, turn, (seat, second))
 }

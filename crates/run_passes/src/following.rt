@@ -3,13 +3,13 @@ ghost use Rattle.std.specs.Prelude.{◌≡◌, IfSome};
 ghost use Rattle.rg_machine.specs.Starts.{IsStart};
 ghost use Rattle.rg_session.specs.Right.{AreRightFor};
 
-use crate::closing::told_of_end;
-use crate::service::{CREATE, change, opened, request};
+use crate::closing::{pair, told_of_end};
+use crate::service::{CREATE, Opened, change, opened, request};
 use rg_admin::Admin;
 use rg_base::Steps;
 use rg_policy::AccessRequest;
 use rg_publish::Pass;
-use rg_session::{Refresher, Service};
+use rg_session::Refresher;
 use rg_turn::{Seat, Turn};
 use rg_wire::access_word;
 use std::alloc::{AllocError, Global};
@@ -102,17 +102,14 @@ fn follow<R: Wait, P: Wait + Drop>(
 pub(crate) fn now_and_then<R: Wait>(rt: &R, alloc: Global) -> Option<String> {
     let request = request(alloc)?;
     let Some(
-        Service {
+        Opened {
             turn,
-            mut seats,
+            seats: (mut seat, second),
             mut refresher,
-            mut passes,
+            passes: (mut pass, other),
         },
     ) = opened(rt, alloc)
     else {
-        return None;
-    };
-    let (Some(mut seat), Some(mut pass)) = (seats.pop(), passes.pop()) else {
         return None;
     };
     let mut told = String::new(alloc);
@@ -129,9 +126,8 @@ pub(crate) fn now_and_then<R: Wait>(rt: &R, alloc: Global) -> Option<String> {
         return None;
     }
     let entered = pass.entered();
-    seats.push(seat).ok()?;
-    passes.push(pass).ok()?;
-    let end = told_of_end(alloc, refresher.publisher, passes, turn, seats)?;
+    let passes = pair(alloc, pass, other)?;
+    let end = told_of_end(alloc, refresher.publisher, passes, turn, (seat, second))?;
     write!(told, "entered {entered}; {}", end.as_str()).ok()?;
     Some(told)
 }

@@ -3,13 +3,13 @@ ghost use Rattle.std.specs.Prelude.{◌≡◌, IfSome};
 ghost use Rattle.rg_machine.specs.Starts.{IsStart};
 ghost use Rattle.rg_session.specs.Right.{AreRightFor};
 
-use crate::service::{CREATE, change, opened, request};
+use crate::service::{CREATE, Opened, change, opened, request};
 use rg_admin::Admin;
 use rg_base::Steps;
 use rg_facts::{Access, Answer};
 use rg_policy::AccessRequest;
 use rg_publish::{Pass, Told};
-use rg_session::{Refresher, Service};
+use rg_session::Refresher;
 use rg_turn::{Seat, Turn};
 use rg_wire::access_word;
 use std::alloc::Global;
@@ -100,17 +100,14 @@ fn is_either(answer: &Answer) -> bool {
 pub(crate) fn learnt<R: Threads + Wait + Sync>(rt: &R, alloc: Global) -> Option<String> {
     let request = request(alloc)?;
     let Some(
-        Service {
+        Opened {
             turn,
-            mut seats,
+            seats: (seat, _),
             refresher,
-            mut passes,
+            passes: (pass, other),
         },
     ) = opened(rt, alloc)
     else {
-        return None;
-    };
-    let (Some(seat), Some(pass), Some(other)) = (seats.pop(), passes.pop(), passes.pop()) else {
         return None;
     };
     let (told, either) = publish_beside(rt, alloc, &turn, seat, refresher, other, &request);
@@ -133,17 +130,14 @@ pub(crate) fn learnt<R: Threads + Wait + Sync>(rt: &R, alloc: Global) -> Option<
 pub(crate) fn entered<R: Wait>(rt: &R, alloc: Global) -> Option<String> {
     let request = request(alloc)?;
     let Some(
-        Service {
+        Opened {
             turn,
-            mut seats,
+            seats: (mut seat, _),
             mut refresher,
-            mut passes,
+            passes: (mut pass, _),
         },
     ) = opened(rt, alloc)
     else {
-        return None;
-    };
-    let (Some(mut seat), Some(mut pass)) = (seats.pop(), passes.pop()) else {
         return None;
     };
     if !change(rt, alloc, &turn, &mut seat, &mut refresher, CREATE) {

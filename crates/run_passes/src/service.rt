@@ -1,12 +1,7 @@
 // A service with one definition, two seats and two passes, and changes that are published.
-ghost use Rattle.std.specs.Prelude.{◌≡◌, List, IfSome, replicate};
+ghost use Rattle.std.specs.Prelude.{◌≡◌, [], ◌∷◌, IfSome};
 ghost use mathlib.Core.List.{IsPrefix};
-ghost use Rattle.rg_turn.specs.Values.{new_seat};
-ghost use Rattle.rg_turn.specs.declared.rule.Entry.{Entry};
-ghost use Rattle.rg_cmd.specs.declared.ask.AdminReply.{AdminReply};
-ghost use Rattle.rg_cmd.specs.declared.ask.Ask.{Ask};
 ghost use Rattle.rg_machine.specs.Starts.{IsStart};
-ghost use Rattle.rg_publish.specs.Passes.{new_pass};
 ghost use Rattle.rg_session.specs.Right.{AreRightFor};
 
 use rg_admin::Admin;
@@ -14,6 +9,7 @@ use rg_base::{Moment, Steps, Text};
 use rg_cmd::{AdminReply, Ask};
 use rg_cmd_wire::{read_command, read_config};
 use rg_policy::AccessRequest;
+use rg_publish::Pass;
 use rg_session::{Refresh, Refresher, Service, open, right_lists_stay_right};
 use rg_turn::{Seat, Turn};
 use rg_wire::read_request;
@@ -45,21 +41,64 @@ fn started(alloc: Global) -> Option<Admin>
     }
 }
 
-/// A service of the configuration, with two seats and two passes.
-pub(crate) fn opened<R: Wait + Drop>(rt: R, alloc: Global) -> Option<Service<R>>
-    ensures start { IfSome result (λ s. IsStart s.turn.start) }
-    ensures seats { IfSome result (λ s. (s.turn.seats ≡ 2) × (s.seats.items ≡ replicate 2 (new_seat s.turn.turn))) }
-    ensures plugin { IfSome result (λ s. s.refresher.service ≡ s.turn.start.state.plugin) }
-    ensures right { IfSome result (λ s. (h : List (Entry Ask AdminReply)) → AreRightFor s.turn.start h s.refresher.publisher.list) }
-    ensures passes { IfSome result (λ s. s.passes.items ≡ replicate 2 (new_pass s.refresher.publisher)) }
+/// A service that is open, with its two seats and its two passes.
+#[derive(Drop)]
+pub(crate) struct Opened<R: Wait + Drop> {
+    pub(crate) turn: Turn<Admin>,
+    pub(crate) seats: (Seat<Admin>, Seat<Admin>),
+    pub(crate) refresher: Refresher<R>,
+    pub(crate) passes: (Pass, Pass),
+}
+
+/// The items of a list of two.
+fn both<T: Drop>(items: Vec<T>) -> Option<(T, T)>
+    ensures { IfSome result (λ t. items.items ≡ t.0 ∷ t.1 ∷ []) }
 {
-    match started(alloc) {
-        Some(admin) => match open(rt, alloc, admin, 2, 2, &mut Steps::silent()) {
-            Ok(service) => Some(service),
-            Err(_) => None,
-        },
-        None => None,
+    let mut items = items;
+    let Some(second) = items.pop() else {
+        return None;
+    };
+    let Some(first) = items.pop() else {
+        return None;
+    };
+    if !items.is_empty() {
+        return None;
     }
+    Some((first, second))
+}
+
+/// A service of the configuration.
+pub(crate) fn opened<R: Wait + Drop>(rt: R, alloc: Global) -> Option<Opened<R>>
+    ensures start { IfSome result (λ s. IsStart s.turn.start) }
+    ensures seats { IfSome result (λ s. (s.turn.seats ≡ 2) × (s.seats.0.turn ≡ s.turn.turn) × (s.seats.1.turn ≡ s.turn.turn)) }
+    ensures service { IfSome result (λ s. s.refresher.service ≡ s.turn.start.state.plugin) }
+    ensures right { IfSome result (λ s. AreRightFor s.turn.start s.seats.0.history s.refresher.publisher.list) }
+    ensures passes { IfSome result (λ s. (s.passes.0.book ≡ s.refresher.publisher.book) × (s.passes.1.book ≡ s.refresher.publisher.book)) }
+{
+    let admin = started(alloc)?;
+    let Ok(
+        Service {
+            turn,
+            seats,
+            refresher,
+            passes,
+        },
+    ) = open(rt, alloc, admin, 2, 2, &mut Steps::silent())
+    else {
+        return None;
+    };
+    let Some(seats) = both(seats) else {
+        return None;
+    };
+    let Some(passes) = both(passes) else {
+        return None;
+    };
+    Some(Opened {
+        turn,
+        seats,
+        refresher,
+        passes,
+    })
 }
 
 /// The administrator commands what the text says. False where no policy is kept.
