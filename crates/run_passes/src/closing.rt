@@ -2,7 +2,7 @@
 ghost use Rattle.std.specs.Prelude.{◌≡◌, [], ◌∷◌, All, IfSome};
 ghost use Rattle.rg_session.specs.Closing.{IsOwn};
 
-use crate::service::{CREATE, Opened, change, opened};
+use crate::service::{CREATE, OpenService, change, opened};
 use rg_admin::Admin;
 use rg_publish::{Pass, Publisher};
 use rg_session::{Totals, close};
@@ -48,12 +48,13 @@ pub(crate) fn told_of_end<R: Wait + Drop>(
     publisher: Publisher<R>,
     passes: Vec<Pass>,
     turn: Turn<Admin>,
-    seats: (Seat<Admin>, Seat<Admin>),
+    seat: Seat<Admin>,
+    other_seat: Seat<Admin>,
 ) -> Option<String>
-    requires seats { (turn.seats ≡ 2) × (seats.0.turn ≡ turn.turn) × (seats.1.turn ≡ turn.turn) }
+    requires seats { (turn.seats ≡ 2) × (seat.turn ≡ turn.turn) × (other_seat.turn ≡ turn.turn) }
     requires passes { All (IsOwn publisher) passes.items }
 {
-    let Some(seats) = pair(alloc, seats.0, seats.1) else {
+    let Some(seats) = pair(alloc, seat, other_seat) else {
         return None;
     };
     match close(alloc, publisher, passes, turn, seats) {
@@ -65,11 +66,13 @@ pub(crate) fn told_of_end<R: Wait + Drop>(
 /// The pass of a publisher that published twice, after it has entered.
 fn pass_at_two<R: Wait>(rt: &R, alloc: Global) -> Option<Pass> {
     let Some(
-        Opened {
+        OpenService {
             turn,
-            seats: (mut seat, _),
+            mut seat,
+            other_seat: _,
             mut refresher,
-            passes: (mut pass, _),
+            mut pass,
+            other_pass: _,
         },
     ) = opened(rt, alloc)
     else {
@@ -86,11 +89,13 @@ fn pass_at_two<R: Wait>(rt: &R, alloc: Global) -> Option<Pass> {
 pub(crate) fn ahead<R: Wait>(rt: &R, alloc: Global) -> Option<String> {
     let pass = pass_at_two(rt, alloc)?;
     let Some(
-        Opened {
+        OpenService {
             turn,
-            seats,
+            seat,
+            other_seat,
             refresher,
-            passes: _,
+            pass: _,
+            other_pass: _,
         },
     ) = opened(rt, alloc)
     else {
@@ -103,34 +108,38 @@ pub(crate) fn ahead<R: Wait>(rt: &R, alloc: Global) -> Option<String> {
     if passes.push(pass).is_err() {
         return None;
     }
-    told_of_end(alloc, refresher.publisher, passes, turn, seats)
+    told_of_end(alloc, refresher.publisher, passes, turn, seat, other_seat)
 }
 
 /// A publisher that published once, with its own passes.
 pub(crate) fn own<R: Wait>(rt: &R, alloc: Global) -> Option<String> {
     let Some(
-        Opened {
+        OpenService {
             turn,
-            seats,
+            seat,
+            other_seat,
             refresher,
-            passes: (pass, other),
+            pass,
+            other_pass,
         },
     ) = opened(rt, alloc)
     else {
         return None;
     };
-    let passes = pair(alloc, pass, other)?;
-    told_of_end(alloc, refresher.publisher, passes, turn, seats)
+    let passes = pair(alloc, pass, other_pass)?;
+    told_of_end(alloc, refresher.publisher, passes, turn, seat, other_seat)
 }
 
 /// A publisher that published twice, with a pass that entered the second publication, and one that didn't.
 pub(crate) fn one_behind<R: Wait>(rt: &R, alloc: Global) -> Option<String> {
     let Some(
-        Opened {
+        OpenService {
             turn,
-            seats: (mut seat, second),
+            mut seat,
+            other_seat,
             mut refresher,
-            passes: (mut pass, other),
+            mut pass,
+            other_pass,
         },
     ) = opened(rt, alloc)
     else {
@@ -140,6 +149,6 @@ pub(crate) fn one_behind<R: Wait>(rt: &R, alloc: Global) -> Option<String> {
         return None;
     }
     let _entered = pass.enter();
-    let passes = pair(alloc, other, pass)?;
-    told_of_end(alloc, refresher.publisher, passes, turn, (seat, second))
+    let passes = pair(alloc, other_pass, pass)?;
+    told_of_end(alloc, refresher.publisher, passes, turn, seat, other_seat)
 }

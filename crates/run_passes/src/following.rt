@@ -4,7 +4,7 @@ ghost use Rattle.rg_machine.specs.Starts.{IsStart};
 ghost use Rattle.rg_session.specs.Right.{AreRightFor};
 
 use crate::closing::{pair, told_of_end};
-use crate::service::{CREATE, Opened, change, opened, request};
+use crate::service::{CREATE, OpenService, change, opened, request};
 use rg_admin::Admin;
 use rg_base::Steps;
 use rg_policy::AccessRequest;
@@ -102,11 +102,13 @@ fn follow<R: Wait, P: Wait + Drop>(
 pub(crate) fn now_and_then<R: Wait>(rt: &R, alloc: Global) -> Option<String> {
     let request = request(alloc)?;
     let Some(
-        Opened {
+        OpenService {
             turn,
-            seats: (mut seat, second),
+            mut seat,
+            other_seat,
             mut refresher,
-            passes: (mut pass, other),
+            mut pass,
+            other_pass,
         },
     ) = opened(rt, alloc)
     else {
@@ -126,8 +128,8 @@ pub(crate) fn now_and_then<R: Wait>(rt: &R, alloc: Global) -> Option<String> {
         return None;
     }
     let entered = pass.entered();
-    let passes = pair(alloc, pass, other)?;
-    let end = told_of_end(alloc, refresher.publisher, passes, turn, (seat, second))?;
+    let passes = pair(alloc, pass, other_pass)?;
+    let end = told_of_end(alloc, refresher.publisher, passes, turn, seat, other_seat)?;
     write!(told, "entered {entered}; {}", end.as_str()).ok()?;
     Some(told)
 }

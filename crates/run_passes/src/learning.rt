@@ -3,7 +3,7 @@ ghost use Rattle.std.specs.Prelude.{◌≡◌, IfSome};
 ghost use Rattle.rg_machine.specs.Starts.{IsStart};
 ghost use Rattle.rg_session.specs.Right.{AreRightFor};
 
-use crate::service::{CREATE, Opened, change, opened, request};
+use crate::service::{CREATE, OpenService, change, opened, request};
 use rg_admin::Admin;
 use rg_base::Steps;
 use rg_facts::{Access, Answer};
@@ -100,17 +100,19 @@ fn is_either(answer: &Answer) -> bool {
 pub(crate) fn learnt<R: Threads + Wait + Sync>(rt: &R, alloc: Global) -> Option<String> {
     let request = request(alloc)?;
     let Some(
-        Opened {
+        OpenService {
             turn,
-            seats: (seat, _),
+            seat,
+            other_seat: _,
             refresher,
-            passes: (pass, other),
+            pass,
+            other_pass,
         },
     ) = opened(rt, alloc)
     else {
         return None;
     };
-    let (told, either) = publish_beside(rt, alloc, &turn, seat, refresher, other, &request);
+    let (told, either) = publish_beside(rt, alloc, &turn, seat, refresher, other_pass, &request);
     let Some(told) = told else {
         return None;
     };
@@ -130,11 +132,13 @@ pub(crate) fn learnt<R: Threads + Wait + Sync>(rt: &R, alloc: Global) -> Option<
 pub(crate) fn entered<R: Wait>(rt: &R, alloc: Global) -> Option<String> {
     let request = request(alloc)?;
     let Some(
-        Opened {
+        OpenService {
             turn,
-            seats: (mut seat, _),
+            mut seat,
+            other_seat: _,
             mut refresher,
-            passes: (mut pass, _),
+            mut pass,
+            other_pass: _,
         },
     ) = opened(rt, alloc)
     else {

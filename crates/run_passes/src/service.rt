@@ -43,11 +43,13 @@ fn started(alloc: Global) -> Option<Admin>
 
 /// A service that is open, with its two seats and its two passes.
 #[derive(Drop)]
-pub(crate) struct Opened<R: Wait + Drop> {
+pub(crate) struct OpenService<R: Wait + Drop> {
     pub(crate) turn: Turn<Admin>,
-    pub(crate) seats: (Seat<Admin>, Seat<Admin>),
+    pub(crate) seat: Seat<Admin>,
+    pub(crate) other_seat: Seat<Admin>,
     pub(crate) refresher: Refresher<R>,
-    pub(crate) passes: (Pass, Pass),
+    pub(crate) pass: Pass,
+    pub(crate) other_pass: Pass,
 }
 
 /// The items of a list of two.
@@ -68,12 +70,12 @@ fn both<T: Drop>(items: Vec<T>) -> Option<(T, T)>
 }
 
 /// A service of the configuration.
-pub(crate) fn opened<R: Wait + Drop>(rt: R, alloc: Global) -> Option<Opened<R>>
+pub(crate) fn opened<R: Wait + Drop>(rt: R, alloc: Global) -> Option<OpenService<R>>
     ensures start { IfSome result (λ s. IsStart s.turn.start) }
-    ensures seats { IfSome result (λ s. (s.turn.seats ≡ 2) × (s.seats.0.turn ≡ s.turn.turn) × (s.seats.1.turn ≡ s.turn.turn)) }
+    ensures seats { IfSome result (λ s. (s.turn.seats ≡ 2) × (s.seat.turn ≡ s.turn.turn) × (s.other_seat.turn ≡ s.turn.turn)) }
     ensures service { IfSome result (λ s. s.refresher.service ≡ s.turn.start.state.plugin) }
-    ensures right { IfSome result (λ s. AreRightFor s.turn.start s.seats.0.history s.refresher.publisher.list) }
-    ensures passes { IfSome result (λ s. (s.passes.0.book ≡ s.refresher.publisher.book) × (s.passes.1.book ≡ s.refresher.publisher.book)) }
+    ensures right { IfSome result (λ s. AreRightFor s.turn.start s.seat.history s.refresher.publisher.list) }
+    ensures passes { IfSome result (λ s. (s.pass.book ≡ s.refresher.publisher.book) × (s.other_pass.book ≡ s.refresher.publisher.book)) }
 {
     let admin = started(alloc)?;
     let Ok(
@@ -87,17 +89,19 @@ pub(crate) fn opened<R: Wait + Drop>(rt: R, alloc: Global) -> Option<Opened<R>>
     else {
         return None;
     };
-    let Some(seats) = both(seats) else {
+    let Some((seat, other_seat)) = both(seats) else {
         return None;
     };
-    let Some(passes) = both(passes) else {
+    let Some((pass, other_pass)) = both(passes) else {
         return None;
     };
-    Some(Opened {
+    Some(OpenService {
         turn,
-        seats,
+        seat,
+        other_seat,
         refresher,
-        passes,
+        pass,
+        other_pass,
     })
 }
 
