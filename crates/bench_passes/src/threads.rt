@@ -36,6 +36,24 @@ pub(crate) struct Done {
 /// What threads share.
 type Shared = (Arc<Vec<AccessRequest>, Global>, Arc<AtomicU64, Global>);
 
+/// Starts a thread on which the pass decides.
+fn start<R: Threads>(
+    rt: &R,
+    pass: Pass,
+    requests: Arc<Vec<AccessRequest>, Global>,
+    finished: Arc<AtomicU64, Global>,
+    rounds: u32,
+) -> Option<JoinHandle<Seen>> {
+    match thread::spawn(rt, move || -> Seen {
+        let seen = decide(pass, requests.as_slice(), rounds);
+        finished.fetch_add(1, Ordering::SeqCst);
+        seen
+    }) {
+        Ok(handle) => Some(handle),
+        Err(_) => None,
+    }
+}
+
 /// Starts a thread for each of the passes.
 fn start_all<R: Threads>(
     rt: &R,
@@ -48,15 +66,10 @@ fn start_all<R: Threads>(
     for pass in passes {
         let requests = Arc::try_clone(&shared.0)?;
         let finished = Arc::try_clone(&shared.1)?;
-        let started = thread::spawn(rt, move || {
-            let seen = decide(pass, requests.as_slice(), rounds);
-            finished.fetch_add(1, Ordering::SeqCst);
-            seen
-        });
-        match started {
-            Ok(handle) => handles.push(handle)?,
-            Err(_) => return Err(anyhow!("no thread was started")),
-        }
+        let Some(handle) = start(rt, pass, requests, finished, rounds) else {
+            return Err(anyhow!("no thread was started"));
+        };
+        handles.push(handle)?;
     }
     Ok(handles)
 }

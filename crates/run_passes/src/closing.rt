@@ -23,8 +23,7 @@ fn told_of(alloc: Global, totals: &Totals) -> Option<String> {
         .ok(),
         None => format!(in alloc;
             "none ahead, entries {entries}, publications {publications}, decisions {decisions}"
-        )
-        .ok(),
+        ).ok(),
     }
 }
 

@@ -1,44 +1,16 @@
 // Decisions after a publication: by a pass that has learnt it, and by passes that haven't.
-ghost use Rattle.std.specs.Prelude.{◌≡◌, IfSome};
-ghost use Rattle.rg_machine.specs.Starts.{IsStart};
-ghost use Rattle.rg_session.specs.Right.{AreRightFor};
+ghost use Rattle.std.specs.Prelude.{◌≡◌};
 
 use crate::service::{CREATE, OpenService, change, opened, request};
-use rg_admin::Admin;
 use rg_base::Steps;
 use rg_facts::{Access, Answer};
 use rg_policy::AccessRequest;
 use rg_publish::{Pass, Told};
-use rg_session::Refresher;
-use rg_turn::{Seat, Turn};
 use rg_wire::access_word;
 use std::alloc::Global;
 use std::sync::Wait;
 use std::thread;
-use std::thread::Threads;
-
-/// Creates the policy, publishes it, and tells. None where memory is refused.
-fn publish_and_tell<R: Wait, P: Wait + Drop>(
-    rt: &R,
-    alloc: Global,
-    turn: &Turn<Admin>,
-    mut seat: Seat<Admin>,
-    mut refresher: Refresher<P>,
-) -> Option<Told>
-    requires turn { seat.turn ≡ turn.now.turn }
-    requires start { IsStart turn.now.start }
-    requires service { refresher.service ≡ turn.now.start.state.plugin }
-    requires right { AreRightFor turn.now.start seat.history refresher.publisher.list }
-    ensures { IfSome result (λ t. t.book ≡ refresher.publisher.book) }
-{
-    if !change(rt, alloc, turn, &mut seat, &mut refresher, CREATE) {
-        return None;
-    }
-    match refresher.publisher.tell() {
-        Ok(told) => Some(told),
-        Err(_) => None,
-    }
-}
+use std::thread::{JoinHandle, Threads};
 
 /// Decides after it has learnt.
 fn decide_told(mut pass: Pass, told: Told, request: &AccessRequest) -> Answer
@@ -53,32 +25,36 @@ fn decide_untold(mut pass: Pass, request: &AccessRequest) -> Answer {
     pass.verdict(request, &mut Steps::silent())
 }
 
-/// What a thread tells that creates the policy and publishes it, and what a pass decides beside it on another thread.
-fn publish_beside<R: Threads + Wait + Sync, P: Wait + Drop + Send>(
+/// Starts a thread on which the pass learns, and decides.
+fn start_told<R: Threads>(
     rt: &R,
-    alloc: Global,
-    turn: &Turn<Admin>,
-    seat: Seat<Admin>,
-    refresher: Refresher<P>,
     pass: Pass,
-    request: &AccessRequest,
-) -> (Option<Told>, Answer)
-    requires turn { seat.turn ≡ turn.now.turn }
-    requires start { IsStart turn.now.start }
-    requires service { refresher.service ≡ turn.now.start.state.plugin }
-    requires right { AreRightFor turn.now.start seat.history refresher.publisher.list }
-    ensures { IfSome result.0 (λ t. t.book ≡ refresher.publisher.book) }
+    told: Told,
+    request: AccessRequest,
+) -> Option<JoinHandle<Answer>>
+    requires { told.book ≡ pass.book }
 {
-    thread::join(
+    match thread::spawn(
         rt,
-        || -> Option<Told>
-            requires turn { seat.turn ≡ turn.now.turn }
-            requires start { IsStart turn.now.start }
-            requires service { refresher.service ≡ turn.now.start.state.plugin }
-            requires right { AreRightFor turn.now.start seat.history refresher.publisher.list }
-        { publish_and_tell(rt, alloc, turn, seat, refresher) },
-        || -> Answer { decide_untold(pass, request) },
-    )
+        move || -> Answer
+            requires { told.book ≡ pass.book }
+        { decide_told(pass, told, &request) },
+    ) {
+        Ok(handle) => Some(handle),
+        Err(_) => None,
+    }
+}
+
+/// Starts a thread on which the pass decides.
+fn start_untold<R: Threads>(
+    rt: &R,
+    pass: Pass,
+    request: AccessRequest,
+) -> Option<JoinHandle<Answer>> {
+    match thread::spawn(rt, move || -> Answer { decide_untold(pass, &request) }) {
+        Ok(handle) => Some(handle),
+        Err(_) => None,
+    }
 }
 
 /// Whether the answer is one of the two that may come without learning.
@@ -95,16 +71,15 @@ fn is_either(answer: &Answer) -> bool {
     }
 }
 
-/// What a pass decides that has learnt the second publication, and whether another one, on a thread of its own beside the one that
-/// publishes, decides by the first or by the second.
-pub(crate) fn learnt<R: Threads + Wait + Sync>(rt: &R, alloc: Global) -> Option<String> {
-    let request = request(alloc)?;
+/// What a pass decides that has learnt the second publication, on another thread than the one that published it, and whether a
+/// pass that decides beside that one, without learning, decides by the first or by the second.
+pub(crate) fn learnt<R: Threads + Wait>(rt: &R, alloc: Global) -> Option<String> {
     let Some(
         OpenService {
             turn,
-            seat,
+            mut seat,
             other_seat: _,
-            refresher,
+            mut refresher,
             pass,
             other_pass,
         },
@@ -112,11 +87,16 @@ pub(crate) fn learnt<R: Threads + Wait + Sync>(rt: &R, alloc: Global) -> Option<
     else {
         return None;
     };
-    let (told, either) = publish_beside(rt, alloc, &turn, seat, refresher, other_pass, &request);
-    let Some(told) = told else {
+    let beside = start_untold(rt, other_pass, request(alloc)?)?;
+    let is_changed = change(rt, alloc, &turn, &mut seat, &mut refresher, CREATE);
+    let either = beside.join(rt);
+    if !is_changed {
+        return None;
+    }
+    let Ok(told) = refresher.publisher.tell() else {
         return None;
     };
-    let answer = decide_told(pass, told, &request);
+    let answer = start_told(rt, pass, told, request(alloc)?)?.join(rt);
     format!(in alloc;
         "serial {}, policyVersion {}, {} {}; without: {}",
         answer.serial.0,

@@ -36,11 +36,7 @@ fn main(rt: HostRuntime) -> Result<()> {
     print_told(&rt, "learnt", learning::learnt(&rt, alloc))?;
     print_told(&rt, "one verdict", learning::entered(&rt, alloc))?;
     print_told(&rt, "now and then", following::now_and_then(&rt, alloc))?;
-    print_told(
-        &rt,
-        "another publisher's pass",
-        closing::ahead(&rt, alloc),
-    )?;
+    print_told(&rt, "another publisher's pass", closing::ahead(&rt, alloc))?;
     print_told(&rt, "own passes", closing::own(&rt, alloc))?;
     print_told(&rt, "passes at 1 and 2", closing::one_behind(&rt, alloc))?;
     Ok(())
