@@ -1,5 +1,8 @@
 // Passes on threads of their own, beside the publisher.
-ghost use Rattle.std.specs.Prelude.{◌≡◌};
+ghost use Rattle.std.specs.Prelude.{◌≡◌, [], ◌∷◌, IfSome, List};
+ghost use Rattle.rg_turn.specs.declared.rule.Entry.{Entry};
+ghost use Rattle.rg_cmd.specs.declared.ask.AdminReply.{AdminReply};
+ghost use Rattle.rg_cmd.specs.declared.ask.Ask.{Ask};
 ghost use Rattle.rg_machine.specs.Starts.{IsStart};
 ghost use Rattle.rg_session.specs.Right.{AreRightFor};
 
@@ -130,30 +133,76 @@ fn done_since<R: Clock>(rt: &R, start: Instant, seen: Seen, publications: u64) -
     })
 }
 
+/// A service that is open, with its seat and its passes.
+#[derive(Drop)]
+struct OpenService<R: Wait + Drop> {
+    turn: Turn<Admin>,
+    seat: Seat<Admin>,
+    refresher: Refresher<R>,
+    passes: Vec<Pass>,
+}
+
+/// The item of a list of one.
+fn only<T: Drop>(items: Vec<T>) -> Option<T>
+    ensures { IfSome result (λ item. items.items ≡ item ∷ []) }
+{
+    let mut items = items;
+    let Some(item) = items.pop() else {
+        return None;
+    };
+    if !items.is_empty() {
+        return None;
+    }
+    Some(item)
+}
+
+/// A service of the configuration, with so many passes, one at least and 64 at most.
+fn opened<R: Wait + Drop>(rt: R, alloc: Global, passes: u32) -> Option<OpenService<R>>
+    ensures start { IfSome result (λ s. IsStart s.turn.start) }
+    ensures seat { IfSome result (λ s. s.seat.turn ≡ s.turn.turn) }
+    ensures service { IfSome result (λ s. s.refresher.service ≡ s.turn.start.state.plugin) }
+    ensures right { IfSome result (λ s. (h : List (Entry Ask AdminReply)) → AreRightFor s.turn.start h s.refresher.publisher.list) }
+{
+    let admin = started(alloc)?;
+    let passes = passes.clamp(1, 64);
+    let Ok(
+        Service {
+            turn,
+            seats,
+            refresher,
+            passes,
+        },
+    ) = open(rt, alloc, admin, 1, passes, &mut Steps::silent())
+    else {
+        return None;
+    };
+    let Some(seat) = only(seats) else {
+        return None;
+    };
+    Some(OpenService {
+        turn,
+        seat,
+        refresher,
+        passes,
+    })
+}
+
 /// Creates the policies, publishes them, and lets the passes decide.
 pub(crate) fn measured<R: Threads + Wait + Clock>(
     rt: &R,
     alloc: Global,
     load: Load,
 ) -> Result<Done> {
-    let Some(admin) = started(alloc) else {
-        return Err(anyhow!("the configuration starts nothing"));
-    };
-    let passes = load.passes.clamp(1, 64);
-    let opened = open(rt, alloc, admin, 1, passes, &mut Steps::silent());
-    let Ok(
-        Service {
+    let Some(
+        OpenService {
             turn,
-            mut seats,
+            mut seat,
             mut refresher,
             passes,
         },
-    ) = opened
+    ) = opened(rt, alloc, load.passes)
     else {
         return Err(anyhow!("memory was refused"));
-    };
-    let Some(mut seat) = seats.pop() else {
-        return Err(anyhow!("there is a seat"));
     };
     create_all(rt, alloc, &turn, &mut seat, load);
     let _published = refresh(rt, alloc, &turn, &mut seat, &mut refresher);

@@ -1,6 +1,10 @@
 // Links served by one administration.
-ghost use Rattle.std.specs.Prelude.{◌≡◌, IfSome};
+ghost use Rattle.std.specs.Prelude.{◌≡◌, [], ◌∷◌, IfSome, List};
+ghost use Rattle.rg_turn.specs.declared.rule.Entry.{Entry};
+ghost use Rattle.rg_cmd.specs.declared.ask.AdminReply.{AdminReply};
+ghost use Rattle.rg_cmd.specs.declared.ask.Ask.{Ask};
 ghost use Rattle.rg_machine.specs.Starts.{IsStart};
+ghost use Rattle.rg_session.specs.Right.{AreRightFor};
 
 use crate::Load;
 use crate::stream::{policies, requests};
@@ -12,7 +16,7 @@ use rg_hook::{AuditFan, Enrichers, WorkerHooks};
 use rg_link::serve_link;
 use rg_ports::{FreeGate, ListClock, MemLink};
 use rg_publish::Pass;
-use rg_session::{Bell, Service, open};
+use rg_session::{Bell, Refresher, Service, open};
 use rg_turn::{Seat, Turn};
 use std::alloc::{AllocError, Global};
 use std::sync::Wait;
@@ -47,6 +51,62 @@ fn started(alloc: Global) -> Option<Admin>
         },
         Err(_) => None,
     }
+}
+
+/// A service that is open, with its seat and its pass.
+#[derive(Drop)]
+struct OpenService<R: Wait + Drop> {
+    turn: Turn<Admin>,
+    seat: Seat<Admin>,
+    refresher: Refresher<R>,
+    pass: Pass,
+}
+
+/// The item of a list of one.
+fn only<T: Drop>(items: Vec<T>) -> Option<T>
+    ensures { IfSome result (λ item. items.items ≡ item ∷ []) }
+{
+    let mut items = items;
+    let Some(item) = items.pop() else {
+        return None;
+    };
+    if !items.is_empty() {
+        return None;
+    }
+    Some(item)
+}
+
+/// A service of the configuration.
+fn opened<R: Wait + Drop>(rt: R, alloc: Global) -> Option<OpenService<R>>
+    ensures start { IfSome result (λ s. IsStart s.turn.start) }
+    ensures seat { IfSome result (λ s. s.seat.turn ≡ s.turn.turn) }
+    ensures service { IfSome result (λ s. s.refresher.service ≡ s.turn.start.state.plugin) }
+    ensures right { IfSome result (λ s. (h : List (Entry Ask AdminReply)) → AreRightFor s.turn.start h s.refresher.publisher.list) }
+{
+    let admin = started(alloc)?;
+    let Ok(
+        Service {
+            turn,
+            seats,
+            refresher,
+            passes,
+        },
+    ) = open(rt, alloc, admin, 1, 1, &mut Steps::silent())
+    else {
+        return None;
+    };
+    let Some(seat) = only(seats) else {
+        return None;
+    };
+    let Some(pass) = only(passes) else {
+        return None;
+    };
+    Some(OpenService {
+        turn,
+        seat,
+        refresher,
+        pass,
+    })
 }
 
 /// Serves a link, and says how many messages it answered.
@@ -98,23 +158,16 @@ fn decided<R: Wait>(
 
 /// Creates the policies, publishes them, and asks for the decisions.
 pub(crate) fn served<R: Wait>(rt: &R, alloc: Global, load: Load) -> Result<Counts> {
-    let Some(admin) = started(alloc) else {
-        return Err(anyhow!("the configuration starts nothing"));
-    };
-    let opened = open(rt, alloc, admin, 1, 1, &mut Steps::silent());
-    let Ok(
-        Service {
+    let Some(
+        OpenService {
             turn,
-            mut seats,
+            mut seat,
             mut refresher,
-            mut passes,
+            mut pass,
         },
-    ) = opened
+    ) = opened(rt, alloc)
     else {
         return Err(anyhow!("memory was refused"));
-    };
-    let (Some(mut seat), Some(mut pass)) = (seats.pop(), passes.pop()) else {
-        return Err(anyhow!("there are a seat and a pass"));
     };
     let link = policies(alloc, load)?;
     let _messages = serve(rt, alloc, &turn, &mut seat, &mut pass, link)?;

@@ -1,6 +1,4 @@
 // A link that notes whether the bell was rung before each of its writes.
-ghost use Rattle.std.specs.Prelude.{◌≡◌};
-
 use rg_base::Failed;
 use rg_ports::Link;
 use rg_session::Bell;
@@ -16,28 +14,20 @@ pub(crate) struct HearingLink<'b, T, R> {
     rt: &'b R,
 }
 
+/// Takes the ring, if there is one. A bell that is shut keeps nobody waiting.
+fn take_ring<R: Wait>(rt: &R, bell: &Bell) -> bool {
+    bell.shut(rt);
+    bell.wait(rt)
+}
+
 impl<'b, T: Link, R: Wait + Sync> HearingLink<'b, T, R> {
-    pub(crate) fn new(
-        alloc: Global,
-        rt: &'b R,
-        bell: &'b Bell,
-        link: T,
-    ) -> HearingLink<'b, T, R> {
+    pub(crate) fn new(alloc: Global, rt: &'b R, bell: &'b Bell, link: T) -> HearingLink<'b, T, R> {
         HearingLink {
             link,
             heard: String::new(alloc),
             bell,
             rt,
         }
-    }
-
-    /// Takes the ring, if there is one. A bell that is shut keeps nobody waiting.
-    fn listen(&mut self)
-        ensures { self.new.link ≡ self.old.link }
-    {
-        self.bell.shut(self.rt);
-        let is_rung = self.bell.wait(self.rt);
-        let _noted = self.heard.push_str(if is_rung { " rung" } else { " silent" });
     }
 }
 
@@ -55,7 +45,12 @@ impl<'b, T: Link, R: Wait + Sync> Link for HearingLink<'b, T, R> {
     }
 
     fn write(&mut self, piece: &[u8]) -> Result<usize, Failed> {
-        self.listen();
+        let word = if take_ring(self.rt, self.bell) {
+            " rung"
+        } else {
+            " silent"
+        };
+        let _noted = self.heard.push_str(word);
         self.link.write(piece)
     }
 }

@@ -1,5 +1,5 @@
 // A link served by an administration of its own.
-ghost use Rattle.std.specs.Prelude.{◌≡◌, ◌<◌, All, IfOk, IfSome, List};
+ghost use Rattle.std.specs.Prelude.{◌≡◌, ◌<◌, [], ◌∷◌, All, IfOk, IfSome, List};
 ghost use Rattle.rg_turn.specs.declared.rule.Entry.{Entry};
 ghost use Rattle.rg_cmd.specs.declared.ask.AdminReply.{AdminReply};
 ghost use Rattle.rg_cmd.specs.declared.ask.Ask.{Ask};
@@ -54,6 +54,62 @@ fn started(alloc: Global, config: &str) -> Option<Admin>
         },
         Err(_) => None,
     }
+}
+
+/// A service that is open, with its seat and its pass.
+#[derive(Drop)]
+struct OpenService<R: Wait + Drop> {
+    turn: Turn<Admin>,
+    seat: Seat<Admin>,
+    refresher: Refresher<R>,
+    pass: Pass,
+}
+
+/// The item of a list of one.
+fn only<T: Drop>(items: Vec<T>) -> Option<T>
+    ensures { IfSome result (λ item. items.items ≡ item ∷ []) }
+{
+    let mut items = items;
+    let Some(item) = items.pop() else {
+        return None;
+    };
+    if !items.is_empty() {
+        return None;
+    }
+    Some(item)
+}
+
+/// A service of the configuration.
+fn opened<R: Wait + Drop>(rt: R, alloc: Global, config: &str) -> Option<OpenService<R>>
+    ensures start { IfSome result (λ s. IsStart s.turn.start) }
+    ensures seat { IfSome result (λ s. s.seat.turn ≡ s.turn.turn) }
+    ensures service { IfSome result (λ s. s.refresher.service ≡ s.turn.start.state.plugin) }
+    ensures right { IfSome result (λ s. (h : List (Entry Ask AdminReply)) → AreRightFor s.turn.start h s.refresher.publisher.list) }
+{
+    let admin = started(alloc, config)?;
+    let Ok(
+        Service {
+            turn,
+            seats,
+            refresher,
+            passes,
+        },
+    ) = open(rt, alloc, admin, 1, 1, &mut Steps::silent())
+    else {
+        return None;
+    };
+    let Some(seat) = only(seats) else {
+        return None;
+    };
+    let Some(pass) = only(passes) else {
+        return None;
+    };
+    Some(OpenService {
+        turn,
+        seat,
+        refresher,
+        pass,
+    })
 }
 
 /// How many bytes each call moves at most: so many, or all where it is 0.
@@ -188,23 +244,16 @@ fn told_of_link<R: Wait + Sync>(
 
 /// Starts an administration, serves the case's link, and tells what that left.
 pub(crate) fn told_of<R: Wait + Sync>(rt: &R, alloc: Global, case: &Case) -> Result<String> {
-    let Some(admin) = started(alloc, case.config) else {
-        return Err(anyhow!("the configuration starts nothing"));
-    };
-    let opened = open(rt, alloc, admin, 1, 1, &mut Steps::silent());
-    let Ok(
-        Service {
+    let Some(
+        OpenService {
             turn,
-            mut seats,
+            mut seat,
             mut refresher,
-            mut passes,
+            mut pass,
         },
-    ) = opened
+    ) = opened(rt, alloc, case.config)
     else {
-        return Err(anyhow!("memory was refused"));
-    };
-    let (Some(mut seat), Some(mut pass)) = (seats.pop(), passes.pop()) else {
-        return Err(anyhow!("there are a seat and a pass"));
+        return Err(anyhow!("the configuration starts nothing"));
     };
     let told = match serve_before(
         rt,

@@ -95,7 +95,12 @@ fn serve_cuts<R: Wait + Sync>(rt: &HostRuntime, waits: &R, name: &str, case: Cas
 }
 
 /// Serves the link with each call in turn that fails, up to the one that is listed.
-fn serve_failures<R: Wait + Sync>(rt: &HostRuntime, waits: &R, name: &str, case: Case) -> Result<()> {
+fn serve_failures<R: Wait + Sync>(
+    rt: &HostRuntime,
+    waits: &R,
+    name: &str,
+    case: Case,
+) -> Result<()> {
     let most = case.fails.first().copied().unwrap_or(0);
     for call in 1..=most {
         let fails = [call];
