@@ -20,4 +20,3 @@ pass_inside_send = declared_send PI.the_type (search (crosses, sendable, reader.
 
 pub pass_send : IsSend P.the_row
 pass_send = search (sendable, pass_inside_send) depth 20
-
