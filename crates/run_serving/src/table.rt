@@ -65,8 +65,8 @@ fn workers_of(text: &str) -> Option<u32>
     }
 }
 
-fn number_of(text: Option<&str>) -> u64 {
-    text.unwrap_or("").parse::<u64>().unwrap_or(0)
+fn number_of(text: Option<&str>) -> u32 {
+    text.unwrap_or("").parse::<u32>().unwrap_or(0)
 }
 
 /// Serves the row's links, and tells how the run ended and what each link took.
@@ -85,8 +85,8 @@ pub(crate) fn told_of<R: Threads + Wait + Sync>(
         config,
         workers,
         most: fields.next().unwrap_or(""),
-        failing: number_of(fields.next()),
-        meeting: number_of(fields.next()) as u32,
+        failing: u64::from(number_of(fields.next())),
+        meeting: number_of(fields.next()),
         line: fields.next().unwrap_or(""),
     };
     let mut links = Vec::new(alloc);
