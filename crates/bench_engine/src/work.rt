@@ -6,7 +6,8 @@ use crate::changes::{moved, one_change};
 use crate::workload::{facts, generator, requests};
 use rg_base::{NoMemory, Steps, TryCopy};
 use rg_engine::Engine;
-use rg_facts::{Facts, Plain};
+use rg_facts::Facts;
+use rg_plain::Plain;
 use rg_policy::AccessRequest;
 use std::alloc::Global;
 

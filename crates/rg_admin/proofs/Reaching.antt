@@ -1,8 +1,9 @@
 -- For proofs alone: every step leads to an administration that is reached.
-use Rattle.std.proofs.Common.{arith, ◌≡◌, ℕ, true, List, [], ◌∷◌, ◌++◌, length, take, Option, Some, None, Result, Ok, Err, IfOk, OnErr, refl, ap, sym, ◌∙◌, subst}
+use Rattle.std.proofs.Common.{arith, ◌≡◌, ◌≤◌, ◌<◌, ◌^◌, ℕ, true, List, [], ◌∷◌, ◌++◌, length, take, Option, Some, None, Result, Ok, Err, IfOk, OnErr, refl, ap, sym, ◌∙◌, subst}
 use Rattle.std.specs.List.{list_any}
 use Rattle.std.proofs.lemmas.List.{take_all}
 use Rattle.rg_base.specs.declared.numbers.NoMemory.{NoMemory}
+use Rattle.rg_facts.specs.Sound.{sound}
 use Rattle.rg_facts.specs.declared.facts.Facts.{Facts}
 use Rattle.rg_turn.specs.History.{state_after, state_at}
 use Rattle.rg_turn.specs.declared.rule.Entry.{Entry}
@@ -21,7 +22,7 @@ use Rattle.rg_machine.specs.Starts.{IsStart}
 use Rattle.rg_machine.specs.Steps.{counted, fault, step, step_by}
 use Rattle.rg_machine.specs.Views.{view}
 use Rattle.rg_machine.proofs.Histories.{always_orderly}
-use Rattle.rg_machine.proofs.Lawful.{service_viewed, start_orderly}
+use Rattle.rg_machine.proofs.Lawful.{count_after, service_viewed, start_orderly}
 use Rattle.rg_machine.proofs.Orderly.{IsOrderly}
 use Rattle.rg_admin.specs.Reached.{IsPacked, IsReached, Origin}
 use Rattle.rg_admin.specs.Stepped.{IsStep}
@@ -103,3 +104,19 @@ reached_kept kept a r =
 pub reached_viewed : (a : Administration) → IsReached a → (service : List ℕ) → list_any (is_service service) a.state.services.items ≡ true → (f : Facts) × (view a service ≡ Some f)
 unfolding IsReached
 reached_viewed a r = service_viewed a (subst IsOrderly r.now (always_orderly r.start r.history (start_orderly r.start r.starts)))
+
+-- the law of sound views
+abbrev pub AreSound : Type 0
+AreSound = (start : Administration) (h : List (Entry Ask AdminReply)) → IsStart start → (k : ℕ) → k ≤ length h → k < 2 ^ 62
+    → (service : List ℕ) (facts : Facts) → view (state_at step start h k) service ≡ Some facts → sound facts ≡ true
+
+-- as many entries came as are counted, while these are fewer than 2^62
+pub reached_sound : AreSound → (a : Administration) → IsReached a → a.state.count < 2 ^ 62 → (service : List ℕ) (facts : Facts) → view a service ≡ Some facts → sound facts ≡ true
+unfolding IsReached
+reached_sound law a r few service facts seen =
+    let none = r.starts.count in
+    let count = count_after r.start r.history (omega (arith, none)) in
+    let here : (state_after step r.start r.history).state.count ≡ a.state.count = ap (λ (b : Administration). b.state.count) r.now in
+    let ends : state_at step r.start r.history (length r.history) ≡ a = ap (state_after step r.start) (take_all (length r.history) r.history (omega arith)) ∙ r.now in
+    law r.start r.history r.starts (length r.history) (omega arith) (omega (arith, none, count, here, few)) service facts
+    (subst (λ (b : Administration). view b service ≡ Some facts) (sym ends) seen)

@@ -77,6 +77,11 @@ start_fault c = option_or (put_fault (bare_state c) (puts c)) (first_failing (la
 unfoldable pub started : Config → Administration
 started c = record { state = started_state c; logs = new_logs (started_state c).services.items }
 
+-- what a configuration starts; None where it breaks a rule
+abbrev pub started_unless : Option Rule → Config → Option Administration
+started_unless None config = Some (started config)
+started_unless (Some rule) config = None
+
 -- a rule that is named is the first that the configuration breaks; memory may be refused whatever it breaks
 abbrev pub IsCause : StartFault → Option Rule → Type 0
 IsCause (Breaks rule) fault = fault ≡ Some rule

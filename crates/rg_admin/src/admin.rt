@@ -2,6 +2,7 @@
 ghost use Rattle.std.specs.Prelude.{◌≡◌, IfOk, OnErr, OnOk, Some, true, vec_capacity, vec_len};
 ghost use Rattle.std.specs.List.{list_any};
 ghost use Rattle.std.specs.Str.{chars};
+ghost use Rattle.rg_facts.specs.Sound.{sound};
 ghost use Rattle.rg_cmd.specs.Lookups.{is_service};
 ghost use Rattle.rg_machine.specs.Changes.{after_command};
 ghost use Rattle.rg_machine.specs.Starts.{IsStart};
@@ -23,7 +24,7 @@ use rg_base::NoMemory;
 use rg_cmd::{AdminCommand, AdminReply, Ask, Rule, State};
 use rg_delegate::authority_fault;
 use rg_facts::Facts;
-use rg_machine::states_are_kept;
+use rg_machine::{states_are_kept, views_are_sound};
 use rg_turn::Machine;
 use rg_validate::first_fault;
 use std::alloc::Global;
@@ -185,6 +186,23 @@ impl Admin {
         match view_of(alloc, &self.held.state, self.held.logs.as_slice(), service)? {
             Some(facts) => Ok(facts),
             None => unreachable!(),
+        }
+    }
+
+    /// The facts that the administration's own plugin sees, which are sound before the last entry that is counted. Want of
+    /// memory is also answered after it.
+    pub fn own_view(&self, alloc: Global) -> Result<Facts, NoMemory>
+        ensures view { IfOk result (λ facts. view self.now self.now.state.plugin ≡ Some facts) }
+        ensures sound { IfOk result (λ facts. sound facts ≡ true) }
+    {
+        views_are_sound();
+        let state = self.state();
+        if state.count >= MOST_ENTRIES {
+            return Err(NoMemory);
+        }
+        match self.view(alloc, state.plugin.as_str()) {
+            Ok(facts) => Ok(facts),
+            Err(NoMemory) => Err(NoMemory),
         }
     }
 

@@ -102,13 +102,13 @@ filter_part_plain : (d : ServiceDef) → Plain 3 (filter_part_data d)
 unfolding filter_part_data
 filter_part_plain d = object_plain name_of 2 3 (filter_part_members d) (omega arith) (names_plain d.filter_access, (names_plain d.filter_levels, tt))
 
-def_plain : (n : ℕ) (d : ServiceDef) → 4 ≤ n → Plain n (def_data d)
+pub def_plain : (n : ℕ) (d : ServiceDef) → 4 ≤ n → Plain n (def_data d)
 unfolding def_data
 def_plain n d h = object_plain name_of 3 n (def_members d) h (text_plain 3 d.name, (list_plain 2 3 level_data d.levels (omega arith) level_plain, (list_plain 2 3 access_type_data d.access_types (omega arith) access_type_plain, (list_plain 2 3 condition_def_data d.conditions (omega arith) condition_def_plain, (mask_part_plain d, (filter_part_plain d, tt))))))
 
 -- ---- roles, zones, tag rows, time zones
 
-role_plain : (r : RoleRow) → Plain 2 (role_data r)
+pub role_plain : (r : RoleRow) → Plain 2 (role_data r)
 unfolding role_data
 role_plain r = object_plain name_of 1 2 (role_members r) (omega arith) (text_plain 1 r.name, (texts_plain 1 r.users (omega arith), (texts_plain 1 r.groups (omega arith), (texts_plain 1 r.roles (omega arith), tt))))
 
@@ -120,7 +120,7 @@ zone_service_plain : (s : ZoneService) → Plain 4 (zone_service_data s)
 unfolding zone_service_data
 zone_service_plain s = object_plain name_of 3 4 (zone_service_members s) (omega arith) (list_plain 2 3 zone_map_data s.resources (omega arith) zone_map_plain, tt)
 
-zone_plain : (z : ZoneRow) → Plain 6 (zone_data z)
+pub zone_plain : (z : ZoneRow) → Plain 6 (zone_data z)
 unfolding zone_data
 zone_plain z = object_plain name_of 5 6 (zone_members z) (omega arith) (text_plain 5 z.name, (map_plain 4 5 (λ (s : ZoneService). s.service) zone_service_data z.services (omega arith) zone_service_plain, (texts_plain 5 z.tag_services (omega arith), (texts_plain 5 z.admins.users (omega arith), (texts_plain 5 z.admins.groups (omega arith), (texts_plain 5 z.admins.roles (omega arith), (texts_plain 5 z.auditors.users (omega arith), (texts_plain 5 z.auditors.groups (omega arith), (texts_plain 5 z.auditors.roles (omega arith), tt)))))))))
 
@@ -128,7 +128,7 @@ tag_plain : (t : Tag) → Plain 2 (tag_data t)
 unfolding tag_data
 tag_plain t = object_plain name_of 1 2 (tag_members t) (omega arith) (text_plain 1 t.kind, (pairs_plain 1 t.attributes (omega arith), tt))
 
-tag_row_plain : (r : TagRow) → Plain 4 (tag_row_data r)
+pub tag_row_plain : (r : TagRow) → Plain 4 (tag_row_data r)
 unfolding tag_row_data
 tag_row_plain r = object_plain name_of 3 4 (tag_row_members r) (omega arith) (integer_plain 3 r.id, (text_plain 3 r.service, (resources_plain 3 r.resources (omega arith), (list_plain 2 3 tag_data r.tags (omega arith) tag_plain, tt))))
 

@@ -1,7 +1,6 @@
 pub mod Cells
 pub mod Idle
 pub mod Least
-pub mod Listing
 pub mod Marks
 pub mod Passes
 pub mod Reordered

@@ -1,6 +1,6 @@
 // The command `grants`: a script of an administration with grants, and of what its plugin decides.
 ghost use Rattle.std.specs.Prelude.{◌≡◌, [], Err, None, Some, IfOk, OnOk, option_and_then, string_bytes};
-ghost use Rattle.rg_granting.specs.Granting.{decision_now};
+ghost use Rattle.rg_current.specs.Current.{decision_now};
 ghost use Rattle.rg_work.specs.Follow.{IsWorked};
 ghost use Rattle.rg_replay.specs.Grants.{ask_work, decide_work, start_work};
 

@@ -4,19 +4,14 @@ use denote.Ref.{NamedLft}
 use denote.Param.Send.{IsSend, IsSync, sendable}
 use denote.Param.SendFields.{declared_send, declared_sync}
 use Rattle.std.proofs.Crossing.{crosses}
-use Rattle.logbook.proofs.tokens.Seen.TheSendSync as seen
 use Rattle.logbook.proofs.word.Word.TheSendSync as word
-use Rattle.left_right.proofs.reader.Reader.TheSendSync as reader
 use Rattle.left_right.proofs.writer.Writer.TheSendSync as writer
 use Rattle.rg_base.proofs.text.Text.TheSendSync as text
 use Rattle.rg_turn.proofs.seats.Seat.TheSendSync as seat
 use Rattle.rg_turn.proofs.turn.Turn.TheSendSync as turn
 use Rattle.rg_admin.proofs.admin.Admin.TheSendSync as admin
 use Rattle.rg_session.proofs.bell.Bell.TheSendSync as bell
-use Rattle.rg_engine.proofs.Sent.{engine_send, engine_sync}
-use Rattle.rg_publish.specs.contracts.shown.Shown as S
-use Rattle.rg_publish.specs.contracts.pass.Pass as P
-use Rattle.rg_publish.specs.contracts.pass.Pass.TheInside as PI
+use Rattle.rg_publish.proofs.Sent.{pass_send, shown_send, shown_sync}
 use Rattle.rg_publish.specs.contracts.publisher.Publisher as U
 use Rattle.rg_publish.specs.contracts.publisher.Publisher.TheInside as UI
 use Rattle.rg_session.specs.contracts.refresher.Refresher as F
@@ -25,18 +20,6 @@ use Rattle.rg_serve.specs.contracts.places.Parts as A
 use Rattle.rg_serve.specs.contracts.following.Following as W
 use Rattle.rg_serve.specs.contracts.following.Following.TheInside as WI
 use Rattle.rg_serve.specs.contracts.following.Follower as L
-
-shown_send : IsSend S.the_row
-shown_send = declared_send S.the_type (search (crosses, sendable, engine_send, engine_sync) depth 40, (search sendable depth 20, (search sendable depth 20, (search (sendable, seen.the_send) depth 40, tt))))
-
-shown_sync : IsSync S.the_row
-shown_sync = declared_sync S.the_type (search (crosses, sendable, engine_send, engine_sync) depth 40, (search sendable depth 20, (search sendable depth 20, (search (sendable, seen.the_sync) depth 40, tt))))
-
-pass_inside_send : IsSend PI.the_row
-pass_inside_send = declared_send PI.the_type (search (crosses, sendable, reader.the_send, shown_sync) depth 60, (search (sendable, shown_send) depth 40, (search sendable depth 20, (search sendable depth 20, tt))))
-
-pass_send : IsSend P.the_row
-pass_send = search (sendable, pass_inside_send) depth 20
 
 module _ (R : RattleType) (s : IsSend R) where
   publisher_inside_send : IsSend (UI.the_row R)

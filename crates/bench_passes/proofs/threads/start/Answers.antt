@@ -1,7 +1,7 @@
 use contract.Lifetimes.{Lfts}
 use denote.Param.Send.{IsSend, param_send, sendable}
 use Rattle.std.proofs.Crossing.{crosses}
-use Rattle.bench_passes.proofs.Sent.{pass_send}
+use Rattle.rg_publish.proofs.Sent.{pass_send}
 use Rattle.bench_passes.proofs.threads.start.Given as given
 use Rattle.bench_passes.proofs.threads.start.Lts as lts
 use Rattle.bench_passes.proofs.threads.start.Goals as goal

@@ -1,7 +1,7 @@
 use contract.Lifetimes.{Lfts}
 use denote.Param.Send.{IsSend, param_send, sendable}
 use Rattle.std.proofs.Crossing.{crosses}
-use Rattle.run_passes.proofs.Sent.{pass_send, told_send}
+use Rattle.rg_publish.proofs.Sent.{pass_send, told_send}
 use Rattle.run_passes.proofs.learning.start_told.Given as given
 use Rattle.run_passes.proofs.learning.start_told.Lts as lts
 use Rattle.run_passes.proofs.learning.start_told.Goals as goal

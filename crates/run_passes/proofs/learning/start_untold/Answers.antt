@@ -1,7 +1,7 @@
 use contract.Lifetimes.{Lfts}
 use denote.Param.Send.{IsSend, param_send, sendable}
 use Rattle.std.proofs.Crossing.{crosses}
-use Rattle.run_passes.proofs.Sent.{pass_send}
+use Rattle.rg_publish.proofs.Sent.{pass_send}
 use Rattle.run_passes.proofs.learning.start_untold.Given as given
 use Rattle.run_passes.proofs.learning.start_untold.Lts as lts
 use Rattle.run_passes.proofs.learning.start_untold.Goals as goal
