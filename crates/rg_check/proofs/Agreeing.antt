@@ -35,7 +35,8 @@ use Rattle.rg_sound.specs.Causes.{first_cause}
 use Rattle.rg_sound.specs.declared.unsound.Unsound.{Unsound as Unsoundness}
 use Rattle.rg_replay.specs.declared.replay.Stage.TheVariants as state
 use Rattle.rg_work.specs.Follow.{Work}
-use Rattle.rg_replay.specs.Replay.{State, admin_work, config_work, decide_work, deciding, facts_work, line_work, published_facts, quiet, refresh_work, refreshed_from, replay_step}
+use Rattle.rg_replay.specs.Replay.{State, admin_work, config_work, decide_work, facts_work, line_work, published_facts, refresh_work, refreshed_from, replay_step}
+use Rattle.rg_work.specs.Printed.{deciding, quiet}
 use Rattle.rg_check.specs.Causes.{cause_text}
 use Rattle.rg_check.specs.Checking.{finding, found, kind_at, place_of}
 use Rattle.rg_check.specs.Kinds.{kind_of, place_after}

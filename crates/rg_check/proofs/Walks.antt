@@ -10,7 +10,7 @@ use Rattle.rg_script.specs.Causes.{cause_of}
 use Rattle.rg_script.specs.Lines.{begins_with_feed, lines_of, onto}
 use Rattle.rg_replay.specs.declared.replay.Stage.TheVariants.{Empty}
 use Rattle.rg_work.specs.declared.status.Status.{Status}
-use Rattle.rg_work.specs.declared.status.Status.TheVariants.{Done, Usage, BadLine, ReadFault, WriteFault, NetFault, TooLong, NoMemory}
+use Rattle.rg_work.specs.declared.status.Status.TheVariants.{Done, Usage, BadLine, ReadFault, WriteFault, NetFault, TooLong, KeepFault, NoMemory, BadRecord}
 use Rattle.rg_work.specs.Follow.{Output, Script, before, worked}
 use Rattle.rg_work.specs.Limits.{is_too_long, limit}
 use Rattle.rg_work.specs.Ports.{Ports}
@@ -221,6 +221,8 @@ module _ (by_place : (lines : List (List ℕ)) (moments : List Moment) → found
         no_memory (inr s) = let v = converted p q s.0 s.1 s.2 in inr (s.0, outcome v.fs, v.follows)
     answered Usage run ends = absurd run.stands
     answered NetFault run ends = absurd run.stands
+    answered KeepFault run ends = absurd run.stands
+    answered BadRecord run ends = absurd run.stands
 
 pub ended_so : (p q : Ports) (n m : ℕ) → m ≡ n → OfStatus n (IsRun (Stands (List Finding) checked) p q) → IsEnd m
 ended_so p q n m same of = (p, q, subst (λ k. OfStatus k (IsRun (Stands (List Finding) checked) p q)) (sym same) of)

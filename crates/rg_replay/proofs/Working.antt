@@ -16,7 +16,8 @@ use Rattle.rg_grant.specs.declared.ask.GrantAsk.{GrantAsk}
 use Rattle.rg_replay.specs.declared.replay.Stage.TheVariants as state
 use Rattle.rg_work.specs.Follow.{IsWorked}
 use Rattle.rg_replay.specs.Grants.{ask_work}
-use Rattle.rg_replay.specs.Replay.{admin_work, published_facts, refresh_line, refresh_work, refreshed_from, reply_line}
+use Rattle.rg_replay.specs.Replay.{admin_work, published_facts, refresh_line, refresh_work, refreshed_from}
+use Rattle.rg_work.specs.Printed.{reply_line}
 
 pub asked_work : (r later : Running) (ask : Ask) (reply : AdminReply) (text text' : List ℕ) → later ≡ asked r ask → reply ≡ (step r.admin ask).1 → text' ≡ text ++ reply_line reply
     → IsWorked (admin_work (state.Config r) ask) (state.Config later) text text'

@@ -13,7 +13,7 @@ use Rattle.rg_granting.specs.Lines.{grant_line_of}
 use Rattle.rg_granting.specs.declared.line.GrantLine.{GrantLine}
 use Rattle.rg_granting.specs.declared.line.GrantLine.TheVariants as line
 use Rattle.rg_work.specs.Follow.{Output, Work, worked}
-use Rattle.rg_replay.specs.Replay.{deciding, quiet, reply_line}
+use Rattle.rg_work.specs.Printed.{deciding, quiet, reply_line}
 
 -- the administration; None before the configuration
 abbrev pub State : Type 0

@@ -6,7 +6,6 @@ use Rattle.rg_policy.specs.declared.request.AccessRequest.{AccessRequest}
 use Rattle.rg_facts.specs.declared.decision.Decision.{Decision}
 use Rattle.rg_facts.specs.declared.facts.Facts.{Facts}
 use Rattle.rg_facts.specs.Sound.{sound}
-use Rattle.rg_cmd.specs.declared.ask.AdminReply.{AdminReply}
 use Rattle.rg_cmd.specs.declared.ask.Ask.{Ask}
 use Rattle.rg_cmd.specs.declared.config.Config.{Config}
 use Rattle.rg_machine.specs.Steps.{step}
@@ -15,37 +14,24 @@ use Rattle.rg_publish.specs.Passes.{decision_of}
 use Rattle.rg_publish.specs.Publications.{publication}
 use Rattle.rg_publish.specs.declared.history.Publication.{Publication}
 use Rattle.rg_running.specs.Running.{Running, asked, newest, opened_unless, refresh_publishes, refreshed, serial_of}
-use Rattle.rg_wire.specs.Printing.{decision_text}
-use Rattle.rg_cmd_wire.specs.PrintedReplies.{reply_text}
 use Rattle.rg_script.specs.declared.line.Line.{Line}
 use Rattle.rg_script.specs.declared.line.Line.TheVariants as line
 use Rattle.rg_script.specs.Line.{line_of}
 use Rattle.rg_replay.specs.declared.replay.Stage.{Stage}
 use Rattle.rg_replay.specs.declared.replay.Stage.TheVariants as state
 use Rattle.rg_work.specs.Follow.{Output, Work, worked}
+use Rattle.rg_work.specs.Printed.{deciding, quiet, reply_line}
 
 -- how far a script has come: only blank lines, facts that are published, or an administration that is running
 abbrev pub State : Type 0
 State = Stage Running
 
--- ---- what is printed, each with an LF
-
-unfoldable pub decision_line : Decision → List ℕ
-decision_line d = decision_text d ++ 10 ∷ []
-
-unfoldable pub reply_line : AdminReply → List ℕ
-reply_line reply = reply_text reply ++ 10 ∷ []
-
--- what a refresh published, None where nothing changed
+-- what is printed of a refresh that published this, None where nothing changed
 unfoldable pub refresh_line : Option Serial → List ℕ
 refresh_line None = codes "{\"unchanged\":true}\n"
 refresh_line (Some serial) = codes "{\"published\":" ++ (decimal serial.0 ++ codes "}\n")
 
 -- ---- the work of a line in a state; None for a bad line
-
--- nothing is printed or decided
-abbrev pub quiet : {S : Type 0} → S → Work S
-quiet s = record { text = []; state = s; decided = [] }
 
 -- this is printed, and nothing is decided
 abbrev pub prints : List ℕ → Running → Work State
@@ -86,9 +72,6 @@ newest_of (state.Config r) = newest r
 -- requests come after either, and are decided by what is published last
 abbrev pub decision_by_newest : State → AccessRequest → Option Decision
 decision_by_newest s q = option_map (λ p. decision_of p q) (newest_of s)
-
-abbrev pub deciding : {S : Type 0} → S → AccessRequest → Decision → Work S
-deciding s q d = record { text = decision_line d; state = s; decided = record { request = q; decision = d } ∷ [] }
 
 unfoldable pub decide_work : State → AccessRequest → Option (Work State)
 decide_work s q = option_map (deciding s q) (decision_by_newest s q)

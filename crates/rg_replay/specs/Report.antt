@@ -17,7 +17,8 @@ use Rattle.rg_script.specs.Words.{behind_space, front_word}
 use Rattle.rg_script.specs.declared.line.Line.{Line}
 use Rattle.rg_script.specs.declared.line.Line.TheVariants as line
 use Rattle.rg_work.specs.Follow.{Output, Work, worked}
-use Rattle.rg_replay.specs.Replay.{published_facts, quiet}
+use Rattle.rg_replay.specs.Replay.{published_facts}
+use Rattle.rg_work.specs.Printed.{quiet}
 
 -- the facts of the script; None before them
 abbrev pub State : Type 0

@@ -4,7 +4,6 @@ ghost use Rattle.rg_current.specs.Current.{decision_now};
 ghost use Rattle.rg_work.specs.Follow.{IsWorked};
 ghost use Rattle.rg_replay.specs.Grants.{ask_work, decide_work, start_work};
 
-use crate::replay::{add_decision, add_reply};
 use rg_base::{Moment, NoMemory};
 use rg_cmd::Config;
 use rg_facts::Decision;
@@ -12,7 +11,7 @@ use rg_grant::GrantAsk;
 use rg_granting::{GrantLine, Granting, read_grant_line};
 use rg_policy::AccessRequest;
 use rg_script::LineFault;
-use rg_work::Worker;
+use rg_work::{Worker, add_decision, add_reply};
 use std::alloc::Global;
 use std::marker::Model;
 use std::mem;

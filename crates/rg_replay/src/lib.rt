@@ -6,5 +6,5 @@ mod replay;
 mod report;
 
 pub use grants::Grants;
-pub use replay::{Replay, Stage, add_reply};
+pub use replay::{Replay, Stage};
 pub use report::Reports;

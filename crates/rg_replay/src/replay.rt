@@ -1,25 +1,21 @@
 // The command `replay`: a script of facts, or of an administration and its plugin.
 ghost use Rattle.std.specs.Prelude.{◌≡◌, ◌++◌, [], Err, None, Some, true, IfOk, OnOk, string_bytes};
-ghost use Rattle.std.specs.Str.{encode_utf8_all};
-ghost use Rattle.rg_cmd_wire.specs.PrintedReplies.{reply_text};
 ghost use Rattle.rg_facts.specs.Sound.{sound};
 ghost use Rattle.rg_admin.specs.Starting.{start_fault};
 ghost use Rattle.rg_running.specs.Running.{opened_unless};
 ghost use Rattle.rg_work.specs.Follow.{IsWorked};
-ghost use Rattle.rg_replay.specs.Replay.{admin_work, config_work, decide_work, decision_by_newest, decision_line, facts_work, published_facts, refresh_line, refresh_work, reply_line};
+ghost use Rattle.rg_replay.specs.Replay.{admin_work, config_work, decide_work, decision_by_newest, facts_work, published_facts, refresh_line, refresh_work};
 ghost use Rattle.rg_replay.specs.Report.{AreSound};
 
-use rg_base::{Moment, NoMemory, Serial, Steps, Text};
-use rg_cmd::{AdminReply, Ask, Config};
-use rg_cmd_wire::print_reply;
+use rg_base::{Moment, NoMemory, Serial, Steps};
+use rg_cmd::{Ask, Config};
 use rg_engine::{Engine, numbered};
 use rg_facts::{Decision, Facts};
 use rg_policy::AccessRequest;
 use rg_running::Running;
 use rg_script::{Line, LineFault, read_line};
 use rg_sound::facts_fault;
-use rg_wire::print_decision;
-use rg_work::Worker;
+use rg_work::{Worker, add_decision, add_reply};
 use std::alloc::Global;
 use std::marker::Model;
 use std::mem;
@@ -88,45 +84,6 @@ impl<'a, R: Wait> Model for Replay<'a, R> {
     ghost Value = { State };
 
     ghost view = { λ r. r.stage };
-}
-
-// ---- printed lines
-
-/// Adds the decision line.
-#[tactic(auto, unfolding(crate::specs::Replay::decision_line))]
-pub(crate) fn add_decision(
-    alloc: Global,
-    text: &mut String,
-    decision: &Decision,
-) -> Result<(), NoMemory>
-    ensures { OnOk result (string_bytes text.new ≡ string_bytes text.old ++ decision_line decision.now) }
-{
-    let printed = print_decision(alloc, decision)?;
-    let line = printed.as_str();
-    match writeln!(text, "{line}") {
-        Ok(()) => Ok(()),
-        Err(_) => Err(NoMemory),
-    }
-}
-
-/// The text of a reply, which is let go.
-fn spelled(alloc: Global, reply: AdminReply) -> Result<Text, NoMemory>
-    ensures { IfOk result (λ t. encode_utf8_all t ≡ reply_text reply) }
-{
-    print_reply(alloc, &reply)
-}
-
-/// Adds the line of a reply.
-#[tactic(auto, unfolding(crate::specs::Replay::reply_line))]
-pub fn add_reply(alloc: Global, text: &mut String, reply: AdminReply) -> Result<(), NoMemory>
-    ensures { OnOk result (string_bytes text.new ≡ string_bytes text.old ++ reply_line reply) }
-{
-    let printed = spelled(alloc, reply)?;
-    let line = printed.as_str();
-    match writeln!(text, "{line}") {
-        Ok(()) => Ok(()),
-        Err(_) => Err(NoMemory),
-    }
 }
 
 /// Adds the line of a refresh.

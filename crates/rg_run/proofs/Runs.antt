@@ -1,7 +1,7 @@
 -- From a run of each command to the whole.
 use Rattle.std.proofs.Common.{◌≡◌, ◌⊎◌, arith, ℕ, List, false, Option, Some, None, inl, inr, refl, sym, subst}
 use Rattle.rg_work.specs.declared.status.Status.{Status}
-use Rattle.rg_work.specs.declared.status.Status.TheVariants.{Done, Usage, BadLine, ReadFault, WriteFault, NetFault, TooLong, NoMemory}
+use Rattle.rg_work.specs.declared.status.Status.TheVariants.{Done, Usage, BadLine, ReadFault, WriteFault, NetFault, TooLong, KeepFault, NoMemory, BadRecord}
 use Rattle.rg_work.specs.Limits.{is_too_long}
 use Rattle.rg_work.specs.Ports.{Ports}
 use Rattle.rg_work.specs.Runs.{IsRun}

@@ -3,7 +3,7 @@ use Rattle.std.proofs.Common.{◌≡◌, ◌∙◌, ◌⊎◌, ◌<◌, ◌+◌,
 use Rattle.rg_base.specs.declared.numbers.Moment.{Moment}
 use Rattle.rg_serve.specs.Opened.{Opened}
 use Rattle.rg_work.specs.declared.status.Status.{Status}
-use Rattle.rg_work.specs.declared.status.Status.TheVariants.{Done, Usage, BadLine, ReadFault, WriteFault, NetFault, TooLong, NoMemory}
+use Rattle.rg_work.specs.declared.status.Status.TheVariants.{Done, Usage, BadLine, ReadFault, WriteFault, NetFault, TooLong, KeepFault, NoMemory, BadRecord}
 use Rattle.rg_work.specs.Follow.{Comes, Output}
 use Rattle.rg_work.specs.Limits.{is_too_long}
 use Rattle.rg_service.specs.Links.{AreServed, HasServed, IsStopped}
@@ -41,6 +41,8 @@ unread_serves most d p q Done r = absurd r.stands
 unread_serves most d p q Usage r = absurd r.stands
 unread_serves most d p q BadLine r = absurd r.stands
 unread_serves most d p q NetFault r = absurd r.stands
+unread_serves most d p q KeepFault r = absurd r.stands
+unread_serves most d p q BadRecord r = absurd r.stands
 
 module _ (most : ℕ) (d : Door) (p q : Ports) where
   pub out_of_memory : q.held ≡ p.held → q.read_faults ≡ p.read_faults → q.write_faults ≡ p.write_faults → IsRun (ServesLinks most d d) p q NoMemory
@@ -105,6 +107,8 @@ module _ (most : ℕ) (d e : Door) (p q : Ports) (now : Option (List Moment)) (m
   stopped ReadFault net held writes = absurd net
   stopped WriteFault net held writes = absurd net
   stopped TooLong net held writes = absurd net
+  stopped KeepFault net held writes = absurd net
+  stopped BadRecord net held writes = absurd net
 
   totals : (t : Numbers) → AreServed most o d e t → AreTotals most a d e t
   totals t served = record {

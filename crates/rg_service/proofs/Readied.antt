@@ -31,7 +31,7 @@ use Rattle.rg_work.specs.declared.status.Status.{Status}
 use Rattle.rg_work.specs.declared.status.Status.TheVariants.{Done, BadLine}
 use Rattle.rg_work.specs.Follow.{Comes, Decided, Output, Work, bad_line_text, before, ends_bad, worked}
 use Rattle.rg_service.specs.Preparing.{AreAsked, IsPrepared, IsReady}
-use Rattle.rg_replay.specs.Replay.{reply_line}
+use Rattle.rg_work.specs.Printed.{reply_line}
 use Rattle.rg_service.specs.Serve.{AreRaised, Asked, Asking, after_asks, ask_taken, begun_unless, config_taken, line_taken, printed_of, replies, serve_step, taken, unless_begun}
 
 -- what an option is mapped from

@@ -17,7 +17,7 @@ use Rattle.rg_script.specs.Line.{line_of}
 use Rattle.rg_work.specs.declared.status.Status.{Status}
 use Rattle.rg_work.specs.declared.status.Status.TheVariants.{Done, BadLine}
 use Rattle.rg_work.specs.Follow.{Output, Work, bad_line_text, worked}
-use Rattle.rg_replay.specs.Replay.{reply_line}
+use Rattle.rg_work.specs.Printed.{reply_line}
 
 -- ---- the script
 

@@ -2,7 +2,7 @@
 use Rattle.std.specs.Prelude.{◌≡◌, ◌⊎◌, ◌<◌, ◌++◌, ℕ, List, [], Option, Some}
 use Rattle.rg_base.specs.declared.numbers.Moment.{Moment}
 use Rattle.rg_work.specs.declared.status.Status.{Status}
-use Rattle.rg_work.specs.declared.status.Status.TheVariants.{Done, Usage, BadLine, ReadFault, WriteFault, NetFault, TooLong, NoMemory}
+use Rattle.rg_work.specs.declared.status.Status.TheVariants.{Done, Usage, BadLine, ReadFault, WriteFault, NetFault, TooLong, KeepFault, NoMemory, BadRecord}
 use Rattle.rg_work.specs.Follow.{Output}
 use Rattle.rg_work.specs.Ports.{Ports}
 use Rattle.rg_work.specs.Runs.{Follows, Overran, too_long_text}
@@ -29,6 +29,8 @@ Serves most d e p q WriteFault =
 Serves most d e p q NoMemory =
     ((q.held ≡ p.held) × (e ≡ d)) ⊎ ((a : Asked) × IsTakenWhole p q a × Wrote p.held q.held (replies_to a))
 Serves most d e p q Usage = ⊥
+Serves most d e p q KeepFault = ⊥
+Serves most d e p q BadRecord = ⊥
 
 -- the listener's count of faults rose where the status says that it failed, and else it stayed
 abbrev pub CountsLinks : Door → Door → Status → Type 0

@@ -2,7 +2,7 @@
 use Rattle.std.proofs.Common.{◌≡◌, ◌⊎◌, ◌∙◌, ◌<◌, ◌++◌, arith, ℕ, List, [], true, false, Option, Some, inl, inr, refl, sym, subst}
 use Rattle.rg_base.specs.declared.numbers.Moment.{Moment}
 use Rattle.rg_work.specs.declared.status.Status.{Status}
-use Rattle.rg_work.specs.declared.status.Status.TheVariants.{Done, Usage, BadLine, ReadFault, WriteFault, NetFault, TooLong, NoMemory}
+use Rattle.rg_work.specs.declared.status.Status.TheVariants.{Done, Usage, BadLine, ReadFault, WriteFault, NetFault, TooLong, KeepFault, NoMemory, BadRecord}
 use Rattle.rg_work.specs.Follow.{Comes, Decided, Output, Script}
 use Rattle.rg_work.specs.Limits.{is_too_long}
 use Rattle.rg_work.specs.Ports.{Ports}
@@ -33,6 +33,8 @@ unread_stands script p q Done r = absurd r.stands
 unread_stands script p q Usage r = absurd r.stands
 unread_stands script p q BadLine r = absurd r.stands
 unread_stands script p q NetFault r = absurd r.stands
+unread_stands script p q KeepFault r = absurd r.stands
+unread_stands script p q BadRecord r = absurd r.stands
 
 pub unread_ends : (p q : Ports) (status : Status) (P : Type 0) → IsRun IsUnread p q status → status ≡ Done → P
 unread_ends p q status P r done = let run = subst (λ s. IsRun IsUnread p q s) done r in absurd run.stands
@@ -50,20 +52,8 @@ failed_from old same new is more = omega (arith, is, more)
 -- the output stands, with its own status
 pub stood : {S : Type 0} (script : Script S) (p q : Ports) (output : Output S) (status : Status) → Follows S script p q [] output → Wrote p.held q.held output.text
     → output.status ≡ status → (status ≡ Done) ⊎ (status ≡ BadLine) → Stands S script p q status
-stood script p q output Done f w e end = (output, f, w, e)
-stood script p q output BadLine f w e end = (output, f, w, e)
-stood script p q output Usage f w e (inl other) = cc
-stood script p q output Usage f w e (inr other) = cc
-stood script p q output ReadFault f w e (inl other) = cc
-stood script p q output ReadFault f w e (inr other) = cc
-stood script p q output WriteFault f w e (inl other) = cc
-stood script p q output WriteFault f w e (inr other) = cc
-stood script p q output NetFault f w e (inl other) = cc
-stood script p q output NetFault f w e (inr other) = cc
-stood script p q output TooLong f w e (inl other) = cc
-stood script p q output TooLong f w e (inr other) = cc
-stood script p q output NoMemory f w e (inl other) = cc
-stood script p q output NoMemory f w e (inr other) = cc
+stood {S = S} script p q output status f w e (inl done) = subst (λ s. Stands S script p q s) (sym done) (output, f, w, e ∙ done)
+stood {S = S} script p q output status f w e (inr bad) = subst (λ s. Stands S script p q s) (sym bad) (output, f, w, e ∙ bad)
 
 steady : (p q : Ports) (status : Status) → (status ≡ Done) ⊎ (status ≡ BadLine) → q.read_faults ≡ p.read_faults → q.write_faults ≡ p.write_faults
     → CountsReads p q status × CountsWrites p q status
@@ -128,3 +118,5 @@ completes script p q n WriteFault bytes e run reads writes told within = absurd 
 completes script p q n TooLong bytes e run reads writes told within = absurd (in_limits p.left q.left bytes told within run.stands.0)
 completes script p q n Usage bytes e run reads writes told within = absurd run.stands
 completes script p q n NetFault bytes e run reads writes told within = absurd run.stands
+completes script p q n KeepFault bytes e run reads writes told within = absurd run.stands
+completes script p q n BadRecord bytes e run reads writes told within = absurd run.stands

@@ -2,7 +2,7 @@
 use Rattle.std.specs.Prelude.{◌≡◌, ◌⊎◌, ◌<◌, ◌≤◌, ℕ, List, [], ◌++◌, codes, length, true, false, Option}
 use Rattle.rg_base.specs.declared.numbers.Moment.{Moment}
 use Rattle.rg_work.specs.declared.status.Status.{Status}
-use Rattle.rg_work.specs.declared.status.Status.TheVariants.{Done, Usage, BadLine, ReadFault, WriteFault, NetFault, TooLong, NoMemory}
+use Rattle.rg_work.specs.declared.status.Status.TheVariants.{Done, Usage, BadLine, ReadFault, WriteFault, NetFault, TooLong, KeepFault, NoMemory, BadRecord}
 use Rattle.rg_work.specs.Follow.{Comes, Output, Script}
 use Rattle.rg_work.specs.Limits.{is_too_long, room}
 use Rattle.rg_work.specs.Ports.{Ports}
@@ -50,6 +50,8 @@ Stands S script p q NoMemory =
     (q.held ≡ p.held) × ((q.given ≡ p.given) ⊎ ((later : List Moment) × (output : Output S) × Follows S script p q later output))
 Stands S script p q Usage = ⊥
 Stands S script p q NetFault = ⊥
+Stands S script p q KeepFault = ⊥
+Stands S script p q BadRecord = ⊥
 
 -- all was read, worked without a bad line and written, and the work came to this state
 abbrev pub EndsIn : {S : Type 0} → Script S → Ports → Ports → S → Type 0

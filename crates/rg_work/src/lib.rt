@@ -2,6 +2,7 @@
 #![tactic(auto)]
 
 mod lines;
+mod printing;
 mod reading;
 mod script;
 mod status;
@@ -9,6 +10,7 @@ mod work;
 mod writing;
 
 pub use lines::{Worked, Worker, follow, name_bad_line};
+pub use printing::{add_decision, add_reply};
 pub use script::read_script;
 pub use status::Status;
 pub use work::work_script;

@@ -19,7 +19,11 @@ pub enum Status {
     NetFault,
     /// The source gave more bytes than a script may have.
     TooLong,
+    /// The keeper failed.
+    KeepFault,
     NoMemory,
+    /// One of the records that were kept can't be taken again.
+    BadRecord,
 }
 
 impl Status {
@@ -35,7 +39,9 @@ impl Status {
             Status::WriteFault => 4,
             Status::NetFault => 5,
             Status::TooLong => 6,
+            Status::KeepFault => 8,
             Status::NoMemory => 9,
+            Status::BadRecord => 10,
         }
     }
 }
