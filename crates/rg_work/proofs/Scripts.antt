@@ -10,7 +10,7 @@ use Rattle.rg_work.specs.Follow.{Comes, Decided, IsWorked, Output, Step, Work, b
 use Rattle.rg_work.specs.Moments.{Gave}
 
 -- a clock that gave some moments gives one more
-gave_one : (old now new : Option (List Moment)) (moments : List Moment) (m : Moment) → Gave old now moments → Told now new m → Gave old new (moments ++ m ∷ [])
+pub gave_one : (old now new : Option (List Moment)) (moments : List Moment) (m : Moment) → Gave old now moments → Told now new m → Gave old new (moments ++ m ∷ [])
 gave_one None now new moments m g t = let t' = rw g at t in t'
 gave_one (Some old) now new moments m g t = let t' = rw g at t in t' ∙ ap Some (append_assoc old moments (m ∷ []))
 
@@ -31,7 +31,7 @@ module _ {S : Type 0} where
   nothing_before (Some o) = refl
 
   -- a line that was worked: its text, and then the rest
-  goes_on : (step : Step S) (s : S) (n : ℕ) (line : List ℕ) (lines : List (List ℕ)) (m : Moment) (later : List Moment) (text : List ℕ) (ds : List Decided) (w : Work S)
+  pub goes_on : (step : Step S) (s : S) (n : ℕ) (line : List ℕ) (lines : List (List ℕ)) (m : Moment) (later : List Moment) (text : List ℕ) (ds : List Decided) (w : Work S)
       → step s line m ≡ Some w
       → option_map (before text ds) (worked step s n (line ∷ lines) (m ∷ later)) ≡ option_map (before (text ++ w.text) (ds ++ w.decided)) (worked step w.state (n + 1) lines later)
   goes_on step s n line lines m later text ds w e =
@@ -46,10 +46,10 @@ module _ {S : Type 0} where
       ap (λ o. option_map (before text ds) (option_map_or (λ (v : Work S). option_map (before v.text v.decided) (worked step v.state (n + 1) lines [])) o (ends_bad s n []))) e
 
   -- what comes to an end at some moments
-  abbrev Ends : Step S → S → ℕ → List (List ℕ) → (List Moment → List Moment) → Type 0
+  abbrev pub Ends : Step S → S → ℕ → List (List ℕ) → (List Moment → List Moment) → Type 0
   Ends step s n lines moments = (later : List Moment) × (o : Output S) × (worked step s n lines (moments later) ≡ Some o)
 
-  ends_after : (step : Step S) (s : S) (n : ℕ) (line : List ℕ) (lines : List (List ℕ)) (m : Moment)
+  pub ends_after : (step : Step S) (s : S) (n : ℕ) (line : List ℕ) (lines : List (List ℕ)) (m : Moment)
       → ((t : S) → Ends step t (n + 1) lines (λ later. later)) → Ends step s n (line ∷ lines) (λ later. m ∷ later)
   ends_after step s n line lines m rest =
       elim (step s line m) as (λ o. (later : List Moment) × (out : Output S)
@@ -59,7 +59,7 @@ module _ {S : Type 0} where
       ]
 
   -- every script ends at some moments
-  ends_somehow : (step : Step S) (s : S) (n : ℕ) (lines : List (List ℕ)) → Ends step s n lines (λ later. later)
+  pub ends_somehow : (step : Step S) (s : S) (n : ℕ) (lines : List (List ℕ)) → Ends step s n lines (λ later. later)
   ends_somehow step s n [] = ([], record { text = []; status = Done; state = s; decided = [] }, refl)
   ends_somehow step s n (line ∷ lines) =
       let m : Moment = record { 0 = pos 0 } in
@@ -85,7 +85,7 @@ module _ {S : Type 0} where
   -- the script is followed up to a line, which is read at the moment m
   module _ (step : Step S) (start : S) (old now new : Option (List Moment)) (bytes text : List ℕ) (s : S) (n : ℕ) (rest line more : List ℕ) (m : Moment)
       (f : IsFollowed S step start old now bytes text s n rest) (first : lines_of rest ≡ line ∷ lines_of more) (told : Told now new m) where
-    at_line : (later : List Moment) → worked step start 1 (lines_of bytes) ((f.moments ++ m ∷ []) ++ later)
+    pub at_line : (later : List Moment) → worked step start 1 (lines_of bytes) ((f.moments ++ m ∷ []) ++ later)
         ≡ option_map (before text f.decided) (worked step s n (line ∷ lines_of more) (m ∷ later))
     at_line later =
         ap (worked step start 1 (lines_of bytes)) (append_assoc f.moments (m ∷ []) later)
