@@ -1,0 +1,38 @@
+// A whole script of a kept administration.
+ghost use Rattle.std.specs.Prelude.{◌≡◌, ◌⊎◌};
+ghost use Rattle.rg_custody.specs.Custody.{Keeps, shelf};
+ghost use Rattle.rg_work.specs.Ports.{ports};
+ghost use Rattle.rg_work.specs.Runs.{IsRun};
+
+use crate::lines::follow_kept;
+use rg_keeper::Keeper;
+use rg_ports::{Clock, Sink, Source};
+use rg_work::{Status, read_script, write_all};
+use std::alloc::Global;
+
+/// Reads a script to its end, and then works it over the keeper's records. The keeper comes back.
+pub fn keep_script<P: Keeper + Drop, S: Source, K: Sink, C: Clock>(
+    alloc: Global,
+    keeper: P,
+    source: &mut S,
+    sink: &mut K,
+    clock: &mut C,
+) -> (P, Status)
+    ensures run { IsRun (Keeps (shelf (P.kept keeper) (P.faults keeper)) (shelf (P.kept result.0) (P.faults result.0)))
+        (ports (S.left source.old) (S.ended source.old) (S.faults source.old) (C.given clock.old) (K.held sink.old) (K.faults sink.old))
+        (ports (S.left source.new) (S.ended source.new) (S.faults source.new) (C.given clock.new) (K.held sink.new) (K.faults sink.new)) result.1 }
+    ensures clock_stays { (result.1 ≡ Status.ReadFault) ⊎ (result.1 ≡ Status.TooLong) → clock.new ≡ clock.old }
+{
+    let bytes = match read_script(alloc, source, sink) {
+        Ok(bytes) => bytes,
+        Err(status) => return (keeper, status),
+    };
+    let (keeper, followed) = follow_kept(alloc, keeper, bytes.as_slice(), clock);
+    match followed {
+        Ok(worked) => match write_all(sink, worked.text.as_bytes()) {
+            Ok(()) => (keeper, worked.status),
+            Err(_) => (keeper, Status::WriteFault),
+        },
+        Err(_) => (keeper, Status::NoMemory),
+    }
+}
