@@ -1,6 +1,6 @@
 #!/usr/bin/env bash
-# Works each script of examples/, grants.script by `grants`, report.script by `report` and the others by `replay`, and compares what is
-# printed with the file beside it, byte for byte. Each script is the one that tools/script.py makes of the source beside it; where there
+# Works each script of examples/, grants.script by `grants`, report.script by `report`, keep.script by `keep` and the others by `replay`, and
+# compares what is printed with the file beside it, byte for byte. Each script is the one that tools/script.py makes of the source beside it; where there
 # is no Python this isn't looked at.
 # usage: checks/examples.sh [PROGRAM]      (the built rangerd where not given)
 # What is wanted was worked out from the rules by checks/admin_model.py, checks/grants_model.py and checks/report_model.py, and not taken from
@@ -18,6 +18,7 @@ for script in examples/*.script; do
   case $script in
     */grants.script) command=grants ;;
     */report.script) command=report ;;
+    */keep.script) command=keep ;;
     *) command=replay ;;
   esac
   if command -v python3 > /dev/null && ! tools/script.py pack < "$source" | cmp - "$script"; then
