@@ -1,5 +1,5 @@
 -- What a reopened administration and one that isn't say of the keeper's list.
-use Rattle.std.proofs.Common.{◌≡◌, ℕ, List, Option, Some, None, sym, subst}
+use Rattle.std.proofs.Common.{◌≡◌, ℕ, List, Option, Some, None, subst}
 use Rattle.rg_cmd.specs.declared.config.Config.{Config}
 use Rattle.rg_machine.specs.Logs.{Administration}
 use Rattle.rg_admin.specs.Starting.{start_fault}
