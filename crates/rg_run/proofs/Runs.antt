@@ -37,6 +37,8 @@ drilled d d' seed policies requests p q n ReadFault e run writes = absurd run.st
 drilled d d' seed policies requests p q n TooLong e run writes = absurd run.stands
 drilled d d' seed policies requests p q n Usage e run writes = absurd run.stands
 drilled d d' seed policies requests p q n NetFault e run writes = absurd run.stands
+drilled d d' seed policies requests p q n KeepFault e run writes = absurd run.stands
+drilled d d' seed policies requests p q n BadRecord e run writes = absurd run.stands
 
 -- links that were asked for were served, or memory was refused, or a line is bad
 served : (most : ℕ) (d d' : Door) (p q : Ports) (n : ℕ) (status : Status) (bytes : List ℕ) → n ≡ number_of status → IsRun (ServesLinks most d d') p q status
@@ -49,6 +51,8 @@ served most d d' p q n WriteFault bytes e run reads writes links told within = a
 served most d d' p q n NetFault bytes e run reads writes links told within = absurd (omega (arith, run.stands.1))
 served most d d' p q n TooLong bytes e run reads writes links told within = absurd (in_limits p.left q.left bytes told within run.stands.0.0)
 served most d d' p q n Usage bytes e run reads writes links told within = absurd run.stands.0
+served most d d' p q n KeepFault bytes e run reads writes links told within = absurd run.stands.0
+served most d d' p q n BadRecord bytes e run reads writes links told within = absurd run.stands.0
 
 -- for each command that is built
 pub completed : (d d' : Door) (asked : Option Command) (command : Command) (p q : Ports) (n : ℕ) (status : Status) (bytes : List ℕ) → only_built asked ≡ Some command
