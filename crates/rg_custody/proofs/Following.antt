@@ -110,7 +110,7 @@ module _ (found records : List (List ℕ)) (clock now new : Option (List Moment)
       ⊎_elim
       (λ (same : told' ≡ Some records). (let c : CutTo told' = (records, same, cut_before r.0 r.1 r.2) in c))
       (λ (added : (w : Work State) × (keep_step (at o records) line m ≡ Some w) × (told' ≡ Some w.state.records)).
-          (let c : CutTo told' = (added.0.state.records, added.2, cut_behind r.0 r.1 r.2 added.0 added.1) in c))
+      (let c : CutTo told' = (added.0.state.records, added.2, cut_behind r.0 r.1 r.2 added.0 added.1) in c))
       may
 
   -- it finds a bad record

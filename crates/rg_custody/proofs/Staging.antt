@@ -169,13 +169,13 @@ module _ (o : Opened) (n : ℕ) (ask : Ask) where
   tells_added records told' long may = ⊎_elim
       (λ (same : told' ≡ Some records). (let m : MayAdd records (asked o records ask (is_past (length records) ask)) told' = inl same in m))
       (λ (added : IsFit o.admin ask n × (told' ≡ Some (records ++ ask_text ask ∷ []))).
-          (let m : MayAdd records (asked o records ask (is_past (length records) ask)) told' =
-              inr (
-                replied o records ask,
-                ap (asked o records ask) (ap (λ k. is_past k ask) (sym long) ∙ sym (room_within n ask added.0.room)),
-                added.1 ∙ ap (λ b. Some (added_if b (ask_text ask) records)) (sym added.0.kept),
-              )
-          in m))
+      (let m : MayAdd records (asked o records ask (is_past (length records) ask)) told' =
+      inr (
+        replied o records ask,
+        ap (asked o records ask) (ap (λ k. is_past k ask) (sym long) ∙ sym (room_within n ask added.0.room)),
+        added.1 ∙ ap (λ b. Some (added_if b (ask_text ask) records)) (sym added.0.kept),
+      )
+      in m))
       may
 
   pub ask_stops : (told told' : Option (List (List ℕ))) (why : KeeperFault) → HasLength told n → MayTell told o.admin ask n told'

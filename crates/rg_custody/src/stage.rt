@@ -147,7 +147,10 @@ impl<P: Keeper + Drop> Stage<P> {
                     Err(_) => (stage, Err(KeepStop::NoMemory)),
                 }
             }
-            Err(stopped) => (Stage::Closed(stopped.keeper), Err(stop_of_fault(stopped.cause))),
+            Err(stopped) => (
+                Stage::Closed(stopped.keeper),
+                Err(stop_of_fault(stopped.cause)),
+            ),
         }
     }
 
