@@ -1,6 +1,5 @@
 -- From the parts of a run of `keep` to the whole.
-use Rattle.std.proofs.Common.{◌≡◌, ◌⊎◌, ◌∙◌, ◌+◌, ◌++◌, ◌≤◌, ◌<◌, ℕ, zero, suc, true, false, List, [], ◌∷◌, length, take, Option, Some, None, arith, inl, inr, refl, ap, sym, subst}
-use Rattle.std.proofs.Math.Seq.{take-length}
+use Rattle.std.proofs.Common.{◌≡◌, ◌⊎◌, ◌∙◌, ◌≤◌, ◌<◌, ℕ, zero, suc, true, false, List, [], ◌∷◌, take, Option, Some, None, arith, inl, inr, refl, ap, sym, subst}
 use Rattle.rg_base.specs.declared.numbers.Moment.{Moment}
 use Rattle.rg_work.specs.declared.status.Status.{Status}
 use Rattle.rg_work.specs.declared.status.Status.TheVariants.{Done, Usage, BadLine, ReadFault, WriteFault, NetFault, TooLong, KeepFault, NoMemory, BadRecord}
@@ -10,10 +9,10 @@ use Rattle.rg_work.specs.Ports.{Ports}
 use Rattle.rg_work.specs.Runs.{CountsReads, CountsWrites, Follows, IsRun, IsUnread}
 use Rattle.rg_work.specs.Streams.{IsAll, Wrote, WrotePrefix}
 use Rattle.rg_work.proofs.Runs.{follows}
-use Rattle.rg_custody.specs.Custody.{ByRecords, CountsKeeps, IsBegun, IsKeptInPart, Keeps, Shelf, Told, Untold, bad_record_text, shelf}
+use Rattle.rg_custody.specs.Custody.{ByRecords, CountsKeeps, IsBegun, Keeps, Told, Untold, shelf}
 use Rattle.rg_custody.specs.Keeps.{State, at, keeps}
 use Rattle.rg_custody.specs.Stages.{CanEnd, CutOff, Ended, EndsSo}
-use Rattle.rg_custody.proofs.Growing.{Grows, begun_by, grows_none, worked_grows}
+use Rattle.rg_custody.proofs.Growing.{begun_by, grows_none, worked_grows}
 
 -- ---- nothing was worked
 

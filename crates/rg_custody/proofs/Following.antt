@@ -1,18 +1,17 @@
 -- A script of a kept administration, followed line by line.
-use Rattle.std.proofs.Common.{◌≡◌, ◌≢◌, ◌⊎◌, ⊎_elim, ◌∙◌, ◌+◌, ◌++◌, ◌<◌, ℕ, List, [], ◌∷◌, length, Option, Some, None, option_map, Result, Ok, Err, append-nil, inl, inr, refl, ap, sym, subst}
+use Rattle.std.proofs.Common.{◌≡◌, ◌≢◌, ◌⊎◌, ⊎_elim, ◌∙◌, ◌+◌, ◌++◌, ℕ, List, [], ◌∷◌, length, Option, Some, None, option_map, inl, refl, ap, sym, subst}
 use Rattle.std.proofs.Math.Seq.{take-append_seam}
-use Rattle.std.proofs.lemmas.Option.{same_Some}
 use Rattle.rg_base.specs.declared.numbers.Moment.{Moment}
 use Rattle.rg_ports.specs.Moments.{Told}
 use Rattle.rg_script.specs.Lines.{lines_of}
 use Rattle.rg_work.specs.declared.status.Status.{Status}
-use Rattle.rg_work.specs.declared.status.Status.TheVariants.{Done, Usage, BadLine, ReadFault, WriteFault, NetFault, TooLong, KeepFault, NoMemory, BadRecord}
-use Rattle.rg_work.specs.Follow.{Comes, IsWorked, Output, Work, bad_line_text, before, worked}
+use Rattle.rg_work.specs.declared.status.Status.TheVariants.{Done, KeepFault, BadRecord}
+use Rattle.rg_work.specs.Follow.{Comes, IsWorked, Output, Work, before, worked}
 use Rattle.rg_work.specs.Printed.{quiet}
 use Rattle.rg_work.proofs.Scripts.{IsFollowed, at_line, begun, ends_after, ends_somehow, finished, gave_one, goes_on, stepped, stopped}
-use Rattle.rg_custody.specs.Custody.{IsBegun, bad_record_text}
+use Rattle.rg_custody.specs.Custody.{bad_record_text}
 use Rattle.rg_custody.specs.Keeps.{Opened, State, at, keep_step, keeps}
-use Rattle.rg_custody.specs.Stages.{CanEnd, CutOff, Ended, EndsSo, Goes, IsNamed, MayAdd, Stops, line_step, spoiled}
+use Rattle.rg_custody.specs.Stages.{CutOff, Ended, EndsSo, Goes, IsNamed, MayAdd, Stops, line_step, spoiled}
 use Rattle.rg_custody.specs.declared.stage.KeepStop.{KeepStop}
 use Rattle.rg_custody.specs.declared.stage.KeepStop.TheVariants as stop
 use Rattle.rg_custody.proofs.Growing.{Grows, begun_by, grows_none, grows_on, grows_to, line_grows, stays_spoiled, step_adds, worked_grows}
@@ -204,15 +203,3 @@ ends_done (Some found) told clock now bytes text o n rest (records, tells, is) n
     let f = finished keep_step (at None found) clock now bytes text (at o records) n rest is.followed none in
     let output : Output State = record { text = text; status = Done; state = at o records; decided = f.0 } in
     (records, tells, (output, f.1, refl, refl, refl, refl))
-
-pub can_end : (why : KeepStop) (n : ℕ) (text text' : List ℕ) (status : Status) → IsNamed why n text text' status → CanEnd status
-can_end stop.Bad n text text' status (named, _) = subst CanEnd (sym named) tt
-can_end (stop.BadRecord place) n text text' status (named, _) = subst CanEnd (sym named) tt
-can_end stop.Failed n text text' status (named, _) = subst CanEnd (sym named) tt
-can_end stop.NoMemory n text text' status never = absurd never
-
-pub keeper_failed : (why : KeepStop) (n : ℕ) (text text' : List ℕ) (status : Status) → IsNamed why n text text' status → status ≡ KeepFault → why ≡ stop.Failed
-keeper_failed stop.Bad n text text' status (named, _) is = absurd (cc (sym named ∙ is))
-keeper_failed (stop.BadRecord place) n text text' status (named, _) is = absurd (cc (sym named ∙ is))
-keeper_failed stop.Failed n text text' status (named, _) is = refl
-keeper_failed stop.NoMemory n text text' status never is = absurd never

@@ -1,6 +1,5 @@
 -- What a stage does with a line, by its kind.
-use Rattle.std.proofs.Common.{◌≡◌, ◌≢◌, ◌⊎◌, ⊎_elim, ◌∙◌, ◌==◌, ◌&&◌, ◌++◌, ◌<◌, ℕ, Bool, true, false, not, true≢false, if◌then◌else◌, List, [], ◌∷◌, length, Option, Some, None, option_map, Err, append-nil, inl, inr, refl, ap, ap₂, sym, subst}
-use Rattle.std.proofs.lemmas.Option.{same_Some}
+use Rattle.std.proofs.Common.{◌≡◌, ◌≢◌, ◌⊎◌, ⊎_elim, ◌∙◌, ◌==◌, ◌&&◌, ◌++◌, ◌<◌, ℕ, Bool, true, false, not, true≢false, if◌then◌else◌, List, [], ◌∷◌, length, Option, Some, None, option_map, append-nil, inl, inr, refl, ap, ap₂, sym, subst}
 use Rattle.rg_base.specs.declared.numbers.Moment.{Moment}
 use Rattle.rg_policy.specs.declared.request.AccessRequest.{AccessRequest}
 use Rattle.rg_facts.specs.declared.decision.Decision.{Decision}
@@ -9,7 +8,6 @@ use Rattle.rg_cmd.specs.declared.ask.Ask.{Ask}
 use Rattle.rg_cmd.specs.declared.config.Config.{Config}
 use Rattle.rg_machine.specs.Laws.{is_refused}
 use Rattle.rg_machine.specs.Logs.{Administration}
-use Rattle.rg_admin.specs.Starting.{start_fault}
 use Rattle.rg_current.specs.Current.{decision_now}
 use Rattle.rg_ask_wire.specs.Asks.{ask_text}
 use Rattle.rg_ask_wire.specs.Keeping.{is_keeping}
@@ -17,7 +15,7 @@ use Rattle.rg_keeper.specs.declared.keeper.KeeperFault.{KeeperFault}
 use Rattle.rg_keeper.specs.declared.keeper.KeeperFault.TheVariants as fault
 use Rattle.rg_keep.specs.Crashes.{IsFit, MayTell}
 use Rattle.rg_keep.specs.Keeping.{Adds, HasLength, IsAnswer, IsCause, IsReplayed, Reopens, added_if, adds, is_full, is_past}
-use Rattle.rg_keep.specs.Replay.{first_bad, is_kept, most_kept, replayed, stepped}
+use Rattle.rg_keep.specs.Replay.{is_kept, most_kept, replayed, stepped}
 use Rattle.rg_keep.specs.declared.kept_admin.KeptReply.{KeptReply}
 use Rattle.rg_keep.specs.declared.kept_admin.KeptReply.TheVariants as reply
 use Rattle.rg_keep.specs.declared.reopen.ReopenCause.{ReopenCause}
@@ -30,7 +28,7 @@ use Rattle.rg_keeping.specs.declared.line.KeepLine.TheVariants as line
 use Rattle.rg_work.specs.Follow.{IsWorked, Work}
 use Rattle.rg_work.specs.Printed.{deciding, decision_line, quiet, reply_line}
 use Rattle.rg_custody.specs.Keeps.{Opened, State, ask_work, at, config_work, decide_work, full_line, kept_line, line_work, opened_by, opened_unless, prints, reopen_work, replied}
-use Rattle.rg_custody.specs.Stages.{Goes, Makes, MayAdd, Stops, kept_reply_line, line_step, spoiled, stop_of_cause, stop_of_fault}
+use Rattle.rg_custody.specs.Stages.{Goes, Makes, MayAdd, Stops, kept_reply_line, line_step, stop_of_cause, stop_of_fault}
 use Rattle.rg_custody.specs.declared.stage.KeepStop.{KeepStop}
 use Rattle.rg_custody.specs.declared.stage.KeepStop.TheVariants as stop
 

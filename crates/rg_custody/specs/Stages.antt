@@ -1,5 +1,5 @@
 -- For proofs: a script of a kept administration on its way.
-use Rattle.std.specs.Prelude.{◌≡◌, ◌⊎◌, ◌++◌, ◌≢◌, ℕ, List, [], take, Option, Some, None}
+use Rattle.std.specs.Prelude.{◌≡◌, ◌⊎◌, ◌++◌, ℕ, List, [], take, Option, Some, None}
 use Rattle.rg_base.specs.declared.numbers.Moment.{Moment}
 use Rattle.rg_keep.specs.declared.kept_admin.KeptReply.{KeptReply}
 use Rattle.rg_keep.specs.declared.kept_admin.KeptReply.TheVariants as reply

@@ -2,7 +2,7 @@ use Rattle.std.proofs.Common.{Result, Ok, Err, OnErr, arith, string_bytes}
 use Rattle.std.proofs.lemmas.Bool.Decides.{nat_tests}
 use Rattle.std.proofs.lemmas.List.{nil_from_length}
 use Rattle.std.proofs.lemmas.Result.{IfOk-weaker}
-use Rattle.rg_custody.proofs.Following.{can_end, cut_at, ends_at, ends_done, goes_on_so, keeper_failed, set_out}
+use Rattle.rg_custody.proofs.Following.{cut_at, ends_at, ends_done, goes_on_so, set_out}
 use Rattle.rg_custody.proofs.lines.follow_kept.Goals as goal
 
 pub lines-init : goal.lines-init
