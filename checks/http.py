@@ -26,7 +26,7 @@ BODIES = {
     "def.json": DEF,
     "policy.json": {"service": "hive1", "name": "sales", "resources": {"database": {"values": ["sales"]}}, "policyItems": [ITEM]},
     "zone.json": ZONE,
-    "row.json": {"service": "hive1", "resourceElements": {"database": {"values": ["sales"]}}, "tags": [{"type": "PII"}]},
+    "row.json": {"serviceName": "hive1", "resourceElements": {"database": {"values": ["sales"]}}, "tags": [{"type": "PII"}]},
 }
 CONFIG = {"admins": ["root"], "plugin": "hive1", "serviceDefs": [DEF], "services": [{"name": "hive1", "type": "hive"}]}
 # What is typed between the two rounds, so that other answers of the rows come.
