@@ -33,12 +33,7 @@ fn bad_keeper(alloc: Global) -> Result<MemKeeper, AllocError> {
 }
 
 /// The first lines of the script, and then these.
-fn with_first(
-    alloc: Global,
-    script: &str,
-    count: usize,
-    more: &str,
-) -> Result<String, AllocError> {
+fn with_first(alloc: Global, script: &str, count: usize, more: &str) -> Result<String, AllocError> {
     let mut text = String::new(alloc);
     for line in script.lines().take(count) {
         text.push_str(line)?;

@@ -4,7 +4,9 @@ ghost use Rattle.std.specs.Prelude.{◌≡◌, ◌≤◌, length, IfOk, IsSome};
 use rg_base::{Moment, Seq};
 use rg_hook::{AuditFan, Enrichers, WorkerHooks};
 use rg_keeper::MemKeeper;
-use rg_ports::{Clock, FreeGate, ListClock, Listener, MemListener, MemSink, MemSource, Sink, Source};
+use rg_ports::{
+    Clock, FreeGate, ListClock, Listener, MemListener, MemSink, MemSource, Sink, Source,
+};
 use rg_run::run;
 use std::alloc::{AllocError, Global};
 use std::str;
