@@ -196,10 +196,10 @@ impl Admin {
         ensures sound { IfOk result (λ facts. sound facts ≡ true) }
     {
         views_are_sound();
-        let state = self.state();
-        if state.count >= MOST_ENTRIES {
+        if self.held.state.count >= MOST_ENTRIES {
             return Err(NoMemory);
         }
+        let state = self.state();
         match self.view(alloc, state.plugin.as_str()) {
             Ok(facts) => Ok(facts),
             Err(NoMemory) => Err(NoMemory),

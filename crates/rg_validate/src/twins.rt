@@ -101,6 +101,9 @@ fn some_same_resource(
     Ok(false)
 }
 
+/// Whether each of the resources is among the others. They stand in byte order of their levels, in which `column` and `catalog` come
+/// before what tells policies apart, so the last ones are compared first.
+#[tactic(auto, using(crate::proofs::Ends::ends))]
 fn each_resource_in(
     alloc: Global,
     resources: &[PolicyResource],
@@ -108,10 +111,12 @@ fn each_resource_in(
 ) -> Result<bool, NoMemory>
     ensures { IfOk result (λ all. all ≡ each_resource_in resources.now others.now) }
 {
-    for resource in resources {
+    let mut rest = resources;
+    'resources: while let Some((resource, earlier)) = rest.split_last() {
         if !some_same_resource(alloc, resource, others)? {
             return Ok(false);
         }
+        rest = earlier;
     }
     Ok(true)
 }
