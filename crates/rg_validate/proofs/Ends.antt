@@ -11,7 +11,7 @@ swap false true = refl
 swap false false = refl
 
 -- the last one is asked first
-each_last : (resources : List PolicyResource) (r : PolicyResource) (others : List PolicyResource)
+pub each_last : (resources : List PolicyResource) (r : PolicyResource) (others : List PolicyResource)
     → each_resource_in (resources ++ r ∷ []) others ≡ (each_resource_in (r ∷ []) others && each_resource_in resources others)
 each_last resources r others = list_all-append _ resources (r ∷ []) ∙ swap (each_resource_in resources others) (each_resource_in (r ∷ []) others)
 
