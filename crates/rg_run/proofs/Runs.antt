@@ -23,7 +23,7 @@ use Rattle.rg_run.specs.Runs.{Answers, Around, IsEndOf}
 -- memory was refused before anything was done
 unkept : (told : Option (List (List ℕ))) (p : Ports) → ByRecords told told p p NoMemory
 unkept None p = (refl, refl)
-unkept (Some found) p = (found, refl, refl, inl (refl, refl))
+unkept (Some found) p = (found, refl, (refl, inl (refl, refl)))
 
 overran : (told now : Option (List (List ℕ))) (p q : Ports) → ByRecords told now p q TooLong → Overran p.left q.left
 overran None now p q by = by.1.0

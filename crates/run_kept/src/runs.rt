@@ -1,5 +1,5 @@
 // A run of `keep` in memory.
-ghost use Rattle.std.specs.Prelude.{◌≡◌, ◌≤◌, length, IfOk, IsSome};
+ghost use Rattle.std.specs.Prelude.{◌≡◌, ◌≤◌, ◌<◌, length, IfOk, IsSome};
 
 use rg_base::{Moment, Seq};
 use rg_hook::{AuditFan, Enrichers, WorkerHooks};
@@ -46,7 +46,7 @@ fn tell_printed(told: &mut String, printed: &[u8]) -> Result<(), AllocError> {
     Ok(())
 }
 
-/// Runs with these workers. In `tell_run` it isn't found that they may cross threads.
+/// Runs with these workers. In `ended` it isn't found that they may cross threads.
 fn run_with<S: Source, K: Sink, C: Clock, N: Listener, R: Threads + Wait + Sync>(
     rt: &R,
     alloc: Global,
@@ -67,7 +67,59 @@ fn run_with<S: Source, K: Sink, C: Clock, N: Listener, R: Threads + Wait + Sync>
     )
 }
 
-/// Runs `keep` over the keeper, and tells the status, how many records stand then, and what was printed. The keeper comes back.
+/// How a run ended.
+#[derive(Drop)]
+struct Ended {
+    status: u8,
+    sink: MemSink,
+    keeper: MemKeeper,
+}
+
+/// Runs over the keeper.
+fn ended<R: Threads + Wait + Sync>(
+    rt: &R,
+    alloc: Global,
+    words: &[String],
+    script: Vec<u8>,
+    moments: Vec<Moment>,
+    mut workers: Vec<WorkerHooks>,
+    keeper: MemKeeper,
+) -> Ended
+    requires moments { 0 < length moments.items }
+    requires workers { length workers.items ≡ 1 }
+{
+    let mut source = MemSource::new(Seq::from_vec(script), Seq::new(alloc), Seq::new(alloc));
+    let mut sink = MemSink::new(Seq::new(alloc), Seq::new(alloc), Seq::new(alloc));
+    let mut clock = ListClock::new(Seq::from_vec(moments));
+    let mut net = MemListener::new(Vec::new(alloc), Seq::new(alloc));
+    let mut place = Some(keeper);
+    let status = run_with(
+        rt,
+        alloc,
+        words,
+        &mut source,
+        &mut sink,
+        &mut clock,
+        &mut net,
+        &mut workers,
+        &mut place,
+    );
+    Ended {
+        status,
+        sink,
+        keeper: place.unwrap(),
+    }
+}
+
+/// Tells the status, how many records stand, and what was printed.
+fn tell_ended(told: &mut String, ended: &Ended) -> Result<(), AllocError> {
+    let status = ended.status;
+    let held = ended.keeper.records().len();
+    write!(told, "status {status}, {held} records: ")?;
+    tell_printed(told, ended.sink.held())
+}
+
+/// Runs `keep` over the keeper, and tells how it ended. The keeper comes back.
 pub(crate) fn tell_run<R: Threads + Wait + Sync>(
     told: &mut String,
     rt: &R,
@@ -78,26 +130,23 @@ pub(crate) fn tell_run<R: Threads + Wait + Sync>(
     let words = words_of(alloc)?;
     let script = Vec::from_slice(alloc, script.as_bytes())?;
     let moments = Vec::from_slice(alloc, &[Moment(0)])?;
-    let mut workers = one_worker(alloc)?;
-    let mut source = MemSource::new(Seq::from_vec(script), Seq::new(alloc), Seq::new(alloc));
-    let mut sink = MemSink::new(Seq::new(alloc), Seq::new(alloc), Seq::new(alloc));
-    let mut clock = ListClock::new(Seq::from_vec(moments));
-    let mut net = MemListener::new(Vec::new(alloc), Seq::new(alloc));
-    let mut place = Some(keeper);
-    let status = run_with(
+    let workers = one_worker(alloc)?;
+    let ended = ended(
         rt,
         alloc,
         words.as_slice(),
-        &mut source,
-        &mut sink,
-        &mut clock,
-        &mut net,
-        &mut workers,
-        &mut place,
+        script,
+        moments,
+        workers,
+        keeper,
     );
-    let keeper = place.unwrap();
-    let held = keeper.records().len();
-    write!(told, "status {status}, {held} records: ")?;
-    tell_printed(told, sink.held())?;
+    drop(words);
+    tell_ended(told, &ended)?;
+    let Ended {
+        status: _,
+        sink,
+        keeper,
+    } = ended;
+    drop(sink);
     Ok(keeper)
 }

@@ -1,4 +1,4 @@
-use Rattle.std.proofs.Common.{◌∙◌, ap, rules, subst}
+use Rattle.std.proofs.Common.{◌∙◌, rules, subst}
 use Rattle.rg_work.specs.declared.status.Status.TheVariants.{NoMemory}
 use Rattle.rg_run.specs.Commands.{takes_keeper}
 use Rattle.rg_run.proofs.Runs.{Ends, completed, undone}
