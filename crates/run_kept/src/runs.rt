@@ -46,7 +46,7 @@ fn tell_printed(told: &mut String, printed: &[u8]) -> Result<(), AllocError> {
     Ok(())
 }
 
-/// Runs with these workers. In `ended` it isn't found that they may cross threads.
+/// Runs with these workers. In `run_over` it isn't found that they may cross threads.
 fn run_with<S: Source, K: Sink, C: Clock, N: Listener, R: Threads + Wait + Sync>(
     rt: &R,
     alloc: Global,
@@ -69,14 +69,14 @@ fn run_with<S: Source, K: Sink, C: Clock, N: Listener, R: Threads + Wait + Sync>
 
 /// How a run ended.
 #[derive(Drop)]
-struct Ended {
+struct Outcome {
     status: u8,
     sink: MemSink,
     keeper: MemKeeper,
 }
 
 /// Runs over the keeper.
-fn ended<R: Threads + Wait + Sync>(
+fn run_over<R: Threads + Wait + Sync>(
     rt: &R,
     alloc: Global,
     words: &[String],
@@ -84,7 +84,7 @@ fn ended<R: Threads + Wait + Sync>(
     moments: Vec<Moment>,
     mut workers: Vec<WorkerHooks>,
     keeper: MemKeeper,
-) -> Ended
+) -> Outcome
     requires moments { 0 < length moments.items }
     requires workers { length workers.items ≡ 1 }
 {
@@ -104,7 +104,7 @@ fn ended<R: Threads + Wait + Sync>(
         &mut workers,
         &mut place,
     );
-    Ended {
+    Outcome {
         status,
         sink,
         keeper: place.unwrap(),
@@ -112,11 +112,11 @@ fn ended<R: Threads + Wait + Sync>(
 }
 
 /// Tells the status, how many records stand, and what was printed.
-fn tell_ended(told: &mut String, ended: &Ended) -> Result<(), AllocError> {
-    let status = ended.status;
-    let held = ended.keeper.records().len();
+fn tell_outcome(told: &mut String, outcome: &Outcome) -> Result<(), AllocError> {
+    let status = outcome.status;
+    let held = outcome.keeper.records().len();
     write!(told, "status {status}, {held} records: ")?;
-    tell_printed(told, ended.sink.held())
+    tell_printed(told, outcome.sink.held())
 }
 
 /// Runs `keep` over the keeper, and tells how it ended. The keeper comes back.
@@ -131,7 +131,7 @@ pub(crate) fn tell_run<R: Threads + Wait + Sync>(
     let script = Vec::from_slice(alloc, script.as_bytes())?;
     let moments = Vec::from_slice(alloc, &[Moment(0)])?;
     let workers = one_worker(alloc)?;
-    let ended = ended(
+    let outcome = run_over(
         rt,
         alloc,
         words.as_slice(),
@@ -141,12 +141,12 @@ pub(crate) fn tell_run<R: Threads + Wait + Sync>(
         keeper,
     );
     drop(words);
-    tell_ended(told, &ended)?;
-    let Ended {
+    tell_outcome(told, &outcome)?;
+    let Outcome {
         status: _,
         sink,
         keeper,
-    } = ended;
+    } = outcome;
     drop(sink);
     Ok(keeper)
 }
