@@ -1,5 +1,5 @@
 -- What contracts see of a kept administration that a script works.
-use Rattle.std.specs.Prelude.{◌≡◌, ◌<◌, ℕ, List, Option, Some, None}
+use Rattle.std.specs.Prelude.{◌<◌, ℕ, List, Option, Some, None}
 use Rattle.rg_cmd.specs.declared.config.Config.{Config}
 use Rattle.rg_keep.specs.Keeping.{Desk}
 use Rattle.rg_keep.specs.declared.reopen.ReopenCause.{ReopenCause}

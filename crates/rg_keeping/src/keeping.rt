@@ -6,7 +6,6 @@ ghost use Rattle.rg_admin.specs.Starting.{start_fault};
 ghost use Rattle.rg_current.specs.Current.{decision_now};
 ghost use Rattle.rg_keep.specs.Crashes.{MayTell};
 ghost use Rattle.rg_keep.specs.Keeping.{Adds, HasLength, IsAnswer, IsCause, IsReplayed, Reopens, adds, is_full, is_past};
-ghost use Rattle.rg_keep.specs.Replay.{most_kept};
 ghost use Rattle.rg_keeping.specs.Opened.{IsLaterCause};
 
 use rg_base::{NoMemory, TryCopy};
@@ -43,6 +42,7 @@ impl<P: Keeper + Drop> Model for Keeping<P> {
 impl<P: Keeper + Drop> Keeping<P> {
     /// Starts from the configuration and takes the keeper's records in order. The keeper comes back where that is refused. The
     /// list stays.
+    #[tactic(auto, using(crate::proofs::Opening::opening))]
     pub fn open(alloc: Global, config: Config, keeper: P) -> Result<Keeping<P>, ReopenFault<P>>
         ensures config { IfOk result (λ k. k.config ≡ config) }
         ensures replayed { IfOk result (λ k. IsReplayed (P.kept keeper) config k.desk.admin) }
@@ -54,10 +54,25 @@ impl<P: Keeper + Drop> Keeping<P> {
         ensures counted { IfOk result (λ k. P.faults keeper ≤ P.faults k.desk.keeper) }
         ensures counted_err { IfErr result (λ fault. P.faults keeper ≤ P.faults fault.keeper) }
     {
-        todo!()
+        let copy = match config.try_copy(alloc) {
+            Ok(copy) => copy,
+            Err(_) => {
+                drop(config);
+                let cause = ReopenCause::NoMemory;
+                return Err(ReopenFault { keeper, cause });
+            }
+        };
+        match KeptAdmin::reopen(alloc, copy, keeper) {
+            Ok(desk) => Ok(Keeping { config, desk }),
+            Err(fault) => {
+                drop(config);
+                Err(fault)
+            }
+        }
     }
 
     /// Gives the keeper back, and opens again under the same configuration.
+    #[tactic(auto, using(crate::proofs::Opening::later))]
     pub fn reopen(self, alloc: Global) -> Result<Keeping<P>, ReopenFault<P>>
         ensures config { IfOk result (λ k. k.config ≡ self.config) }
         ensures replayed { IfOk result (λ k. IsReplayed (P.kept self.desk.keeper) self.config k.desk.admin) }
@@ -67,7 +82,8 @@ impl<P: Keeper + Drop> Keeping<P> {
         ensures counted { IfOk result (λ k. P.faults self.desk.keeper ≤ P.faults k.desk.keeper) }
         ensures counted_err { IfErr result (λ fault. P.faults self.desk.keeper ≤ P.faults fault.keeper) }
     {
-        todo!()
+        let Keeping { config, desk } = self;
+        Keeping::open(alloc, config, desk.into_keeper())
     }
 
     /// Answers an ask in key order. The record of an accepted command that changes the state is with the keeper before the reply
@@ -83,7 +99,14 @@ impl<P: Keeper + Drop> Keeping<P> {
         ensures counted_err { IfErr result (λ s. P.faults self.desk.keeper ≤ P.faults s.keeper) }
         ensures failed { IfErr result (λ s. s.cause ≡ KeeperFault.Failed → P.faults self.desk.keeper < P.faults s.keeper) }
     {
-        todo!()
+        let Keeping { config, desk } = self;
+        match desk.step(alloc, ask) {
+            Ok((desk, reply)) => Ok((Keeping { config, desk }, reply)),
+            Err(stopped) => {
+                drop(config);
+                Err(stopped)
+            }
+        }
     }
 
     /// Decides the request over what the plugin sees now. Nothing is published, so the serial is 0. Want of memory is also
