@@ -1,13 +1,18 @@
 // A script of a kept administration on its way, line by line.
-ghost use Rattle.std.specs.Prelude.{◌≡◌, ◌≤◌, ◌<◌, Err, OnOk, OnErr, IfErr, string_bytes};
-ghost use Rattle.rg_custody.specs.Stages.{Goes, Stops};
+ghost use Rattle.std.specs.Prelude.{◌≡◌, ◌≢◌, ◌≤◌, ◌<◌, ◌++◌, [], Err, OnOk, IfErr, string_bytes};
+ghost use Rattle.rg_ask_wire.specs.KeyOrder.{IsInKeyOrder};
+ghost use Rattle.rg_custody.specs.Keeps.{ask_work, config_work, decide_work, full_line, kept_line, reopen_work};
+ghost use Rattle.rg_custody.specs.Stages.{Goes, Stops, keeper_of, kept_reply_line, line_step, opened_of, stop_of_cause, stop_of_fault};
 
 use rg_base::{Moment, NoMemory};
-use rg_keeper::Keeper;
-use rg_keeping::Keeping;
+use rg_cmd::{Ask, Config};
+use rg_keep::{KeptReply, ReopenCause};
+use rg_keeper::{Keeper, KeeperFault};
+use rg_keeping::{KeepLine, Keeping, read_keep_line};
+use rg_policy::AccessRequest;
 use rg_script::LineFault;
+use rg_work::{add_decision, add_reply};
 use std::alloc::Global;
-use std::marker::Model;
 
 /// Why a script goes no further.
 #[derive(Clone, Copy, Debug, PartialEq, Eq)]
@@ -29,12 +34,181 @@ pub(crate) enum Stage<P: Keeper + Drop> {
     Opened(Keeping<P>),
 }
 
-impl<P: Keeper + Drop> Model for Stage<P> {
-    // Value = the Stage of specs/Stages over P: the keeper, and the configuration and administration where it is Opened.
+/// Why a script stops where its administration isn't opened.
+fn stop_of_cause(cause: ReopenCause) -> KeepStop
+    ensures { result ≡ stop_of_cause cause }
+{
+    match cause {
+        ReopenCause::Rule(_) => KeepStop::Bad,
+        ReopenCause::BadRecord(place) => KeepStop::BadRecord(place),
+        ReopenCause::Failed => KeepStop::Failed,
+        ReopenCause::NoMemory => KeepStop::NoMemory,
+    }
+}
+
+/// Why a script stops where its keeper doesn't keep a record.
+fn stop_of_fault(fault: KeeperFault) -> KeepStop
+    ensures { result ≡ stop_of_fault fault }
+{
+    match fault {
+        KeeperFault::Failed => KeepStop::Failed,
+        KeeperFault::NoMemory => KeepStop::NoMemory,
+    }
+}
+
+/// Adds the line of an administration that was opened again.
+#[tactic(auto, unfolding(crate::specs::Keeps::kept_line))]
+fn add_kept(text: &mut String, kept: u64) -> Result<(), NoMemory>
+    ensures { OnOk result (string_bytes text.new ≡ string_bytes text.old ++ kept_line kept) }
+{
+    match writeln!(text, "{{\"kept\":{kept}}}") {
+        Ok(()) => Ok(()),
+        Err(_) => Err(NoMemory),
+    }
+}
+
+/// Adds the line that says that no more commands are kept.
+#[tactic(auto, unfolding(crate::specs::Keeps::full_line))]
+fn add_full(text: &mut String) -> Result<(), NoMemory>
+    ensures { OnOk result (string_bytes text.new ≡ string_bytes text.old ++ full_line) }
+{
+    match writeln!(text, "{{\"full\":true}}") {
+        Ok(()) => Ok(()),
+        Err(_) => Err(NoMemory),
+    }
+}
+
+/// Adds the line of what an ask is answered.
+fn add_answer(alloc: Global, text: &mut String, reply: KeptReply) -> Result<(), NoMemory>
+    ensures { OnOk result (string_bytes text.new ≡ string_bytes text.old ++ kept_reply_line reply) }
+{
+    match reply {
+        KeptReply::Reply(reply) => add_reply(alloc, text, reply),
+        KeptReply::Full => add_full(text),
+    }
 }
 
 impl<P: Keeper + Drop> Stage<P> {
-    /// Works a line, and puts what it prints behind the text. Where it stops nothing is printed.
+    /// The keeper, with the administration gone.
+    pub(crate) fn into_keeper(self) -> P
+        ensures { result ≡ keeper_of self }
+    {
+        match self {
+            Stage::Closed(keeper) => keeper,
+            Stage::Opened(keeping) => keeping.into_keeper(),
+        }
+    }
+
+    /// Opens the administration that the keeper's records make of the configuration, where the script begins with it.
+    #[tactic(auto, using(crate::proofs::Staging::starting))]
+    fn start(self, alloc: Global, config: Config) -> (Stage<P>, Result<(), KeepStop>)
+        ensures worked { OnOk result.1 (Goes (P.kept (keeper_of self)) (λ records. config_work (opened_of self) records config) (P.kept (keeper_of result.0)) (opened_of result.0) [] []) }
+        ensures stopped { IfErr result.1 (λ stop. Stops stop (P.kept (keeper_of self)) (λ records. config_work (opened_of self) records config) (opened_of self) (P.kept (keeper_of result.0))) }
+        ensures counted { P.faults (keeper_of self) ≤ P.faults (keeper_of result.0) }
+        ensures failed { result.1 ≡ Err KeepStop.Failed → P.faults (keeper_of self) < P.faults (keeper_of result.0) }
+    {
+        let keeper = match self {
+            Stage::Closed(keeper) => keeper,
+            Stage::Opened(keeping) => {
+                drop(config);
+                return (Stage::Opened(keeping), Err(KeepStop::Bad));
+            }
+        };
+        match Keeping::open(alloc, config, keeper) {
+            Ok(keeping) => (Stage::Opened(keeping), Ok(())),
+            Err(fault) => (Stage::Closed(fault.keeper), Err(stop_of_cause(fault.cause))),
+        }
+    }
+
+    /// Asks the administration, and prints the reply once what is to be kept is with the keeper.
+    #[tactic(auto, using(crate::proofs::Staging::asking))]
+    fn ask(self, alloc: Global, ask: Ask, text: &mut String) -> (Stage<P>, Result<(), KeepStop>)
+        requires { IsInKeyOrder ask }
+        ensures worked { OnOk result.1 (Goes (P.kept (keeper_of self)) (λ records. ask_work (opened_of self) records ask) (P.kept (keeper_of result.0)) (opened_of result.0) (string_bytes text.old) (string_bytes text.new)) }
+        ensures stopped { IfErr result.1 (λ stop. Stops stop (P.kept (keeper_of self)) (λ records. ask_work (opened_of self) records ask) (opened_of self) (P.kept (keeper_of result.0))) }
+        ensures unprinted { IfErr result.1 (λ stop. stop ≢ KeepStop.NoMemory → string_bytes text.new ≡ string_bytes text.old) }
+        ensures counted { P.faults (keeper_of self) ≤ P.faults (keeper_of result.0) }
+        ensures failed { result.1 ≡ Err KeepStop.Failed → P.faults (keeper_of self) < P.faults (keeper_of result.0) }
+    {
+        let keeping = match self {
+            Stage::Opened(keeping) => keeping,
+            Stage::Closed(keeper) => {
+                drop(ask);
+                return (Stage::Closed(keeper), Err(KeepStop::Bad));
+            }
+        };
+        // It is the length of the keeper's list.
+        let _kept = keeping.kept();
+        match keeping.ask(alloc, ask) {
+            Ok((keeping, reply)) => {
+                let stage = Stage::Opened(keeping);
+                match add_answer(alloc, text, reply) {
+                    Ok(()) => (stage, Ok(())),
+                    Err(_) => (stage, Err(KeepStop::NoMemory)),
+                }
+            }
+            Err(stopped) => (
+                Stage::Closed(stopped.keeper),
+                Err(stop_of_fault(stopped.cause)),
+            ),
+        }
+    }
+
+    /// Opens the administration again over the keeper's records, and prints how many they are.
+    #[tactic(auto, using(crate::proofs::Staging::reopening))]
+    fn reopen(self, alloc: Global, text: &mut String) -> (Stage<P>, Result<(), KeepStop>)
+        ensures worked { OnOk result.1 (Goes (P.kept (keeper_of self)) (reopen_work (opened_of self)) (P.kept (keeper_of result.0)) (opened_of result.0) (string_bytes text.old) (string_bytes text.new)) }
+        ensures stopped { IfErr result.1 (λ stop. Stops stop (P.kept (keeper_of self)) (reopen_work (opened_of self)) (opened_of self) (P.kept (keeper_of result.0))) }
+        ensures unprinted { IfErr result.1 (λ stop. stop ≢ KeepStop.NoMemory → string_bytes text.new ≡ string_bytes text.old) }
+        ensures counted { P.faults (keeper_of self) ≤ P.faults (keeper_of result.0) }
+        ensures failed { result.1 ≡ Err KeepStop.Failed → P.faults (keeper_of self) < P.faults (keeper_of result.0) }
+    {
+        let keeping = match self {
+            Stage::Opened(keeping) => keeping,
+            Stage::Closed(keeper) => return (Stage::Closed(keeper), Err(KeepStop::Bad)),
+        };
+        match keeping.reopen(alloc) {
+            Ok(keeping) => {
+                let kept = keeping.kept();
+                let stage = Stage::Opened(keeping);
+                match add_kept(text, kept) {
+                    Ok(()) => (stage, Ok(())),
+                    Err(_) => (stage, Err(KeepStop::NoMemory)),
+                }
+            }
+            Err(fault) => (Stage::Closed(fault.keeper), Err(stop_of_cause(fault.cause))),
+        }
+    }
+
+    /// Prints the decision over what the plugin sees now.
+    #[tactic(auto, using(crate::proofs::Staging::deciding_now))]
+    fn decide(
+        &self,
+        alloc: Global,
+        request: &AccessRequest,
+        text: &mut String,
+    ) -> Result<(), KeepStop>
+        ensures worked { OnOk result (Goes (P.kept (keeper_of self.now)) (λ records. decide_work (opened_of self.now) records request.now) (P.kept (keeper_of self.now)) (opened_of self.now) (string_bytes text.old) (string_bytes text.new)) }
+        ensures stopped { IfErr result (λ stop. Stops stop (P.kept (keeper_of self.now)) (λ records. decide_work (opened_of self.now) records request.now) (opened_of self.now) (P.kept (keeper_of self.now))) }
+        ensures unprinted { IfErr result (λ stop. stop ≢ KeepStop.NoMemory → string_bytes text.new ≡ string_bytes text.old) }
+        ensures unfailed { IfErr result (λ stop. stop ≢ KeepStop.Failed) }
+    {
+        let keeping = match self {
+            Stage::Opened(keeping) => keeping,
+            Stage::Closed(_) => return Err(KeepStop::Bad),
+        };
+        let decision = match keeping.decide(alloc, request) {
+            Ok(decision) => decision,
+            Err(_) => return Err(KeepStop::NoMemory),
+        };
+        match add_decision(alloc, text, &decision) {
+            Ok(()) => Ok(()),
+            Err(_) => Err(KeepStop::NoMemory),
+        }
+    }
+
+    /// Works a line, and puts what it prints behind the text. Where it stops nothing is printed, unless memory was refused.
+    #[tactic(auto, using(crate::proofs::Staging::lines))]
     pub(crate) fn work(
         self,
         alloc: Global,
@@ -42,9 +216,23 @@ impl<P: Keeper + Drop> Stage<P> {
         now: Moment,
         text: &mut String,
     ) -> (Stage<P>, Result<(), KeepStop>)
-        ensures worked { OnOk result.1 (Goes (P.kept self.keeper) self.opened line.now now (P.kept result.0.keeper) result.0.opened (string_bytes text.old) (string_bytes text.new)) }
-        ensures stopped { IfErr result.1 (λ stop. Stops stop (P.kept self.keeper) self.opened line.now now (P.kept result.0.keeper)) }
+        ensures worked { OnOk result.1 (Goes (P.kept (keeper_of self)) (line_step (opened_of self) line.now now) (P.kept (keeper_of result.0)) (opened_of result.0) (string_bytes text.old) (string_bytes text.new)) }
+        ensures stopped { IfErr result.1 (λ stop. Stops stop (P.kept (keeper_of self)) (line_step (opened_of self) line.now now) (opened_of self) (P.kept (keeper_of result.0))) }
         ensures unprinted { IfErr result.1 (λ stop. stop ≢ KeepStop.NoMemory → string_bytes text.new ≡ string_bytes text.old) }
-        ensures counted { P.faults self.keeper ≤ P.faults result.0.keeper }
-        ensures failed { result.1 ≡ Err KeepStop.Failed → P.faults self.keeper < P.faults result.0.keeper }
+        ensures counted { P.faults (keeper_of self) ≤ P.faults (keeper_of result.0) }
+        ensures failed { result.1 ≡ Err KeepStop.Failed → P.faults (keeper_of self) < P.faults (keeper_of result.0) }
+    {
+        match read_keep_line(alloc, line, now) {
+            Ok(KeepLine::Blank) => (self, Ok(())),
+            Ok(KeepLine::Config(config)) => self.start(alloc, config),
+            Ok(KeepLine::Ask(ask)) => self.ask(alloc, ask, text),
+            Ok(KeepLine::Reopen) => self.reopen(alloc, text),
+            Ok(KeepLine::Decide(request)) => {
+                let decided = self.decide(alloc, &request, text);
+                (self, decided)
+            }
+            Err(LineFault::Bad) => (self, Err(KeepStop::Bad)),
+            Err(LineFault::NoMemory) => (self, Err(KeepStop::NoMemory)),
+        }
+    }
 }

@@ -1,0 +1,4 @@
+pub mod Finishing
+pub mod Following
+pub mod Growing
+pub mod Staging
