@@ -1,6 +1,7 @@
 -- From the parts of a run of `keep` to the whole.
-use Rattle.std.proofs.Common.{◌≡◌, ◌⊎◌, ◌∙◌, ◌≤◌, ◌<◌, ℕ, zero, suc, true, false, List, [], ◌∷◌, take, Option, Some, None, arith, inl, inr, refl, ap, sym, subst}
+use Rattle.std.proofs.Common.{◌≡◌, ◌⊎◌, ◌∙◌, ◌++◌, ◌≤◌, ◌<◌, ℕ, zero, suc, true, false, List, [], ◌∷◌, take, Option, Some, None, arith, inl, inr, refl, ap, sym, subst}
 use Rattle.rg_base.specs.declared.numbers.Moment.{Moment}
+use Rattle.rg_script.specs.Lines.{lines_of}
 use Rattle.rg_work.specs.declared.status.Status.{Status}
 use Rattle.rg_work.specs.declared.status.Status.TheVariants.{Done, Usage, BadLine, ReadFault, WriteFault, NetFault, TooLong, KeepFault, NoMemory, BadRecord}
 use Rattle.rg_work.specs.Follow.{Comes, Output}
@@ -114,7 +115,7 @@ module _ (p q : Ports) (got seen text printed : List ℕ) (all : IsAll p.left go
   whole_begun : (found now : List (List ℕ)) (later : List Moment) (output : Output State) → Comes State (keeps found) seen p.given q.given later output → now ≡ output.state.records
       → IsBegun found output.state.records now
   whole_begun found now later output comes is =
-      let grown = worked_grows (at None found) 1 _ _ output comes.defined in
+      let grown = worked_grows (at None found) 1 (lines_of seen) (comes.moments ++ later) output comes.defined in
       subst (IsBegun found output.state.records) (sym is) (begun_by found output.state.records output.state.records grown (grows_none output.state.records))
 
   -- and all was written

@@ -1,5 +1,5 @@
 -- A script of a kept administration, followed line by line.
-use Rattle.std.proofs.Common.{◌≡◌, ◌≢◌, ◌⊎◌, ⊎_elim, ◌∙◌, ◌+◌, ◌++◌, ℕ, List, [], ◌∷◌, length, Option, Some, None, option_map, inl, refl, ap, sym, subst}
+use Rattle.std.proofs.Common.{◌≡◌, ◌≢◌, ⊎_elim, ◌∙◌, ◌+◌, ◌++◌, ℕ, List, [], ◌∷◌, length, Option, Some, None, option_map, inl, refl, ap, sym, subst}
 use Rattle.std.proofs.Math.Seq.{take-append_seam}
 use Rattle.rg_base.specs.declared.numbers.Moment.{Moment}
 use Rattle.rg_ports.specs.Moments.{Told}
