@@ -1,10 +1,10 @@
 -- From a run of each command to the whole.
-use Rattle.std.proofs.Common.{◌≡◌, ◌⊎◌, arith, ℕ, List, false, Option, Some, None, inl, inr, refl, sym, subst}
+use Rattle.std.proofs.Common.{◌≡◌, ◌⊎◌, arith, ℕ, List, Bool, true, false, Option, Some, None, inl, inr, refl, sym, subst}
 use Rattle.rg_work.specs.declared.status.Status.{Status}
 use Rattle.rg_work.specs.declared.status.Status.TheVariants.{Done, Usage, BadLine, ReadFault, WriteFault, NetFault, TooLong, KeepFault, NoMemory, BadRecord}
 use Rattle.rg_work.specs.Limits.{is_too_long}
 use Rattle.rg_work.specs.Ports.{Ports}
-use Rattle.rg_work.specs.Runs.{IsRun}
+use Rattle.rg_work.specs.Runs.{IsRun, Overran}
 use Rattle.rg_work.specs.Statuses.{number_of}
 use Rattle.rg_work.proofs.Runs.{completes, in_limits}
 use Rattle.rg_replay.specs.Grants.{grants}
@@ -12,58 +12,104 @@ use Rattle.rg_replay.specs.Replay.{replayed}
 use Rattle.rg_replay.specs.Report.{reported}
 use Rattle.rg_service.specs.Serve.{Door}
 use Rattle.rg_service.specs.Serves.{ServesLinks}
+use Rattle.rg_custody.specs.Custody.{ByRecords, Keeps, Shelf}
 use Rattle.rg_run.specs.declared.command.Command.{Command}
-use Rattle.rg_run.specs.declared.command.Command.TheVariants.{Replay, Serve, Drill, Grants, Report}
-use Rattle.rg_run.specs.Commands.{only_built}
-use Rattle.rg_run.specs.Runs.{Answers, IsEndOf}
+use Rattle.rg_run.specs.declared.command.Command.TheVariants.{Replay, Serve, Drill, Grants, Report, Keep}
+use Rattle.rg_run.specs.Commands.{takes_keeper}
+use Rattle.rg_run.specs.Runs.{Answers, Around, IsEndOf}
+
+-- ---- the keeper's records
 
 -- memory was refused before anything was done
-pub undone : (d : Door) (command : Option Command) (p : Ports) → IsRun (Answers d d command) p p NoMemory
-undone d None p = record { stands = refl; reads = refl; writes = refl }
-undone d (Some Replay) p = record { stands = (refl, inl refl); reads = refl; writes = refl }
-undone d (Some (Serve address links)) p = record { stands = (inl (refl, refl), refl); reads = refl; writes = refl }
-undone d (Some (Drill seed policies requests)) p = record { stands = refl; reads = refl; writes = refl }
-undone d (Some Grants) p = record { stands = (refl, inl refl); reads = refl; writes = refl }
-undone d (Some Report) p = record { stands = (refl, inl refl); reads = refl; writes = refl }
+unkept : (told : Option (List (List ℕ))) (p : Ports) → ByRecords told told p p NoMemory
+unkept None p = (refl, refl)
+unkept (Some found) p = (found, refl, (refl, inl (refl, refl)))
+
+overran : (told now : Option (List (List ℕ))) (p q : Ports) → ByRecords told now p q TooLong → Overran p.left q.left
+overran None now p q by = by.1.0
+overran (Some found) now p q by = by.2.0
+
+no_usage : (told now : Option (List (List ℕ))) (p q : Ports) → ByRecords told now p q Usage → ⊥
+no_usage None now p q by = by.1
+no_usage (Some found) now p q by = by.2
+
+no_links : (told now : Option (List (List ℕ))) (p q : Ports) → ByRecords told now p q NetFault → ⊥
+no_links None now p q by = by.1
+no_links (Some found) now p q by = by.2
+
+-- ---- a run of each command
+
+-- memory was refused before anything was done
+pub undone : (a : Around) (command : Option Command) (p : Ports) → IsRun (Answers a a command) p p NoMemory
+undone a None p = record { stands = refl; reads = refl; writes = refl }
+undone a (Some Replay) p = record { stands = (refl, inl refl); reads = refl; writes = refl }
+undone a (Some (Serve address links)) p = record { stands = (inl (refl, refl), refl); reads = refl; writes = refl }
+undone a (Some (Drill seed policies requests)) p = record { stands = refl; reads = refl; writes = refl }
+undone a (Some Grants) p = record { stands = (refl, inl refl); reads = refl; writes = refl }
+undone a (Some Report) p = record { stands = (refl, inl refl); reads = refl; writes = refl }
+undone a (Some Keep) p = record { stands = (unkept a.shelf.records p, omega arith); reads = refl; writes = refl }
+
+-- how a command ends that nothing failed: with a bad record where it takes the keeper alone
+abbrev pub Ends : Bool → ℕ → Type 0
+Ends takes n = (n ≡ 0) ⊎ ((n ≡ 2) ⊎ ((n ≡ 9) ⊎ ((takes ≡ true) × (n ≡ 10))))
+
+any_ends : (takes : Bool) (n : ℕ) → (n ≡ 0) ⊎ ((n ≡ 2) ⊎ (n ≡ 9)) → Ends takes n
+any_ends takes n (inl e) = inl e
+any_ends takes n (inr (inl e)) = inr (inl e)
+any_ends takes n (inr (inr e)) = inr (inr (inl e))
 
 -- a drill whose sink doesn't fail is carried out, or lacks memory
-drilled : (d d' : Door) (seed policies requests : ℕ) (p q : Ports) (n : ℕ) (status : Status) → n ≡ number_of status → IsRun (Answers d d' (Some (Drill seed policies requests))) p q status
-    → q.write_faults ≡ p.write_faults → (n ≡ 0) ⊎ ((n ≡ 2) ⊎ (n ≡ 9))
-drilled d d' seed policies requests p q n Done e run writes = inl e
-drilled d d' seed policies requests p q n NoMemory e run writes = inr (inr e)
-drilled d d' seed policies requests p q n WriteFault e run writes = absurd (omega (arith, run.writes))
-drilled d d' seed policies requests p q n BadLine e run writes = absurd run.stands
-drilled d d' seed policies requests p q n ReadFault e run writes = absurd run.stands
-drilled d d' seed policies requests p q n TooLong e run writes = absurd run.stands
-drilled d d' seed policies requests p q n Usage e run writes = absurd run.stands
-drilled d d' seed policies requests p q n NetFault e run writes = absurd run.stands
-drilled d d' seed policies requests p q n KeepFault e run writes = absurd run.stands
-drilled d d' seed policies requests p q n BadRecord e run writes = absurd run.stands
+drilled : (takes : Bool) (a b : Around) (seed policies requests : ℕ) (p q : Ports) (n : ℕ) (status : Status) → n ≡ number_of status
+    → IsRun (Answers a b (Some (Drill seed policies requests))) p q status → q.write_faults ≡ p.write_faults → Ends takes n
+drilled takes a b seed policies requests p q n Done e run writes = inl e
+drilled takes a b seed policies requests p q n NoMemory e run writes = inr (inr (inl e))
+drilled takes a b seed policies requests p q n WriteFault e run writes = absurd (omega (arith, run.writes))
+drilled takes a b seed policies requests p q n BadLine e run writes = absurd run.stands
+drilled takes a b seed policies requests p q n ReadFault e run writes = absurd run.stands
+drilled takes a b seed policies requests p q n TooLong e run writes = absurd run.stands
+drilled takes a b seed policies requests p q n Usage e run writes = absurd run.stands
+drilled takes a b seed policies requests p q n NetFault e run writes = absurd run.stands
+drilled takes a b seed policies requests p q n KeepFault e run writes = absurd run.stands
+drilled takes a b seed policies requests p q n BadRecord e run writes = absurd run.stands
 
--- links that were asked for were served, or memory was refused, or a line is bad
-served : (most : ℕ) (d d' : Door) (p q : Ports) (n : ℕ) (status : Status) (bytes : List ℕ) → n ≡ number_of status → IsRun (ServesLinks most d d') p q status
-    → q.read_faults ≡ p.read_faults → q.write_faults ≡ p.write_faults → d'.faults ≡ d.faults → p.left ≡ Some bytes → is_too_long bytes ≡ false → (n ≡ 0) ⊎ ((n ≡ 2) ⊎ (n ≡ 9))
-served most d d' p q n Done bytes e run reads writes links told within = inl e
-served most d d' p q n BadLine bytes e run reads writes links told within = inr (inl e)
-served most d d' p q n NoMemory bytes e run reads writes links told within = inr (inr e)
-served most d d' p q n ReadFault bytes e run reads writes links told within = absurd (omega (arith, run.reads))
-served most d d' p q n WriteFault bytes e run reads writes links told within = absurd (omega (arith, run.writes))
-served most d d' p q n NetFault bytes e run reads writes links told within = absurd (omega (arith, run.stands.1))
-served most d d' p q n TooLong bytes e run reads writes links told within = absurd (in_limits p.left q.left bytes told within run.stands.0.0)
-served most d d' p q n Usage bytes e run reads writes links told within = absurd run.stands.0
-served most d d' p q n KeepFault bytes e run reads writes links told within = absurd run.stands.0
-served most d d' p q n BadRecord bytes e run reads writes links told within = absurd run.stands.0
+module _ (p q : Ports) (n : ℕ) (bytes : List ℕ) (reads : q.read_faults ≡ p.read_faults) (writes : q.write_faults ≡ p.write_faults)
+    (told : p.left ≡ Some bytes) (within : is_too_long bytes ≡ false) where
+  -- links that were asked for were served, or memory was refused, or a line is bad
+  served : (takes : Bool) (most : ℕ) (d e : Door) (status : Status) → n ≡ number_of status → IsRun (ServesLinks most d e) p q status → e.faults ≡ d.faults → Ends takes n
+  served takes most d e Done is run links = inl is
+  served takes most d e BadLine is run links = inr (inl is)
+  served takes most d e NoMemory is run links = inr (inr (inl is))
+  served takes most d e ReadFault is run links = absurd (omega (arith, run.reads))
+  served takes most d e WriteFault is run links = absurd (omega (arith, run.writes))
+  served takes most d e NetFault is run links = absurd (omega (arith, run.stands.1))
+  served takes most d e TooLong is run links = absurd (in_limits p.left q.left bytes told within run.stands.0.0)
+  served takes most d e Usage is run links = absurd run.stands.0
+  served takes most d e KeepFault is run links = absurd run.stands.0
+  served takes most d e BadRecord is run links = absurd run.stands.0
 
--- for each command that is built
-pub completed : (d d' : Door) (asked : Option Command) (command : Command) (p q : Ports) (n : ℕ) (status : Status) (bytes : List ℕ) → only_built asked ≡ Some command
-    → n ≡ number_of status → IsRun (Answers d d' (only_built asked)) p q status
-    → q.read_faults ≡ p.read_faults → q.write_faults ≡ p.write_faults → d'.faults ≡ d.faults → p.left ≡ Some bytes → is_too_long bytes ≡ false → (n ≡ 0) ⊎ ((n ≡ 2) ⊎ (n ≡ 9))
-completed d d' (Some Replay) command p q n status bytes named e run reads writes links told within = completes replayed p q n status bytes e run reads writes told within
-completed d d' (Some Grants) command p q n status bytes named e run reads writes links told within = completes grants p q n status bytes e run reads writes told within
-completed d d' (Some Report) command p q n status bytes named e run reads writes links told within = completes reported p q n status bytes e run reads writes told within
-completed d d' (Some (Serve address most)) command p q n status bytes named e run reads writes links told within = served most d d' p q n status bytes e run reads writes links told within
-completed d d' (Some (Drill seed policies requests)) command p q n status bytes named e run reads writes links told within = drilled d d' seed policies requests p q n status e run writes
-completed d d' None command p q n status bytes named e run reads writes links told within = cc
+  -- a script of a kept administration was worked, or memory was refused, or a record is bad
+  kept : (s t : Shelf) (status : Status) → n ≡ number_of status → IsRun (Keeps s t) p q status → t.faults ≡ s.faults → Ends true n
+  kept s t Done is run keeper = inl is
+  kept s t BadLine is run keeper = inr (inl is)
+  kept s t NoMemory is run keeper = inr (inr (inl is))
+  kept s t BadRecord is run keeper = inr (inr (inr (refl, is)))
+  kept s t ReadFault is run keeper = absurd (omega (arith, run.reads))
+  kept s t WriteFault is run keeper = absurd (omega (arith, run.writes))
+  kept s t KeepFault is run keeper = absurd (omega (arith, run.stands.1))
+  kept s t TooLong is run keeper = absurd (in_limits p.left q.left bytes told within (overran s.records t.records p q run.stands.0))
+  kept s t Usage is run keeper = absurd (no_usage s.records t.records p q run.stands.0)
+  kept s t NetFault is run keeper = absurd (no_links s.records t.records p q run.stands.0)
+
+  -- for each command
+  pub completed : (a b : Around) (asked : Option Command) (command : Command) (status : Status) → asked ≡ Some command → n ≡ number_of status
+      → IsRun (Answers a b asked) p q status → b.door.faults ≡ a.door.faults → b.shelf.faults ≡ a.shelf.faults → Ends (takes_keeper asked) n
+  completed a b (Some Replay) command status named is run links keeper = any_ends false n (completes replayed p q n status bytes is run reads writes told within)
+  completed a b (Some Grants) command status named is run links keeper = any_ends false n (completes grants p q n status bytes is run reads writes told within)
+  completed a b (Some Report) command status named is run links keeper = any_ends false n (completes reported p q n status bytes is run reads writes told within)
+  completed a b (Some (Serve address most)) command status named is run links keeper = served false most a.door b.door status is run links
+  completed a b (Some (Drill seed policies requests)) command status named is run links keeper = drilled false a b seed policies requests p q n status is run writes
+  completed a b (Some Keep) command status named is run links keeper = kept a.shelf b.shelf status is run keeper
+  completed a b None command status named is run links keeper = cc
 
 pub ended_so : (command : Option Command) (n m : ℕ) → m ≡ n → IsEndOf command n → IsEndOf command m
 ended_so command n m same is = subst (IsEndOf command) (sym same) is

@@ -5,7 +5,7 @@ use Rattle.std.specs.Char.{is_ascii_digit}
 use Rattle.std.specs.Str.{bytes_eq, chars}
 use Rattle.std.specs.Str.Parse.{digits_value}
 use Rattle.rg_run.specs.declared.command.Command.{Command}
-use Rattle.rg_run.specs.declared.command.Command.TheVariants.{Replay, Serve, Drill, Grants, Report}
+use Rattle.rg_run.specs.declared.command.Command.TheVariants.{Replay, Serve, Drill, Grants, Report, Keep}
 
 abbrev pub has_dash : List ℕ → Bool
 has_dash [] = false
@@ -55,13 +55,18 @@ abbrev pub grants_of : List (List ℕ) → Option Command
 grants_of [] = Some Grants
 grants_of _ = None
 
+abbrev pub keep_of : List (List ℕ) → Option Command
+keep_of [] = Some Keep
+keep_of _ = None
+
 -- the first word names the command
 unfoldable pub named : List ℕ → List (List ℕ) → Option Command
 named word parts = if bytes_eq word (codes "replay") then replay_of parts else (
     if bytes_eq word (codes "serve") then serve_of parts else (
     if bytes_eq word (codes "drill") then drill_of parts else (
     if bytes_eq word (codes "grants") then grants_of parts else (
-    if bytes_eq word (codes "report") then report_of parts else None))))
+    if bytes_eq word (codes "report") then report_of parts else (
+    if bytes_eq word (codes "keep") then keep_of parts else None)))))
 
 abbrev pub command_from : List (List ℕ) → Option Command
 command_from [] = None
@@ -71,24 +76,21 @@ command_from (word ∷ parts) = named word parts
 unfoldable pub command_of : List (List ℕ) → Option Command
 command_of words = if list_all is_plain words then command_from words else None
 
--- the commands that aren't built yet are answered as words that ask for none
-abbrev pub only_built : Option Command → Option Command
-only_built (Some Replay) = Some Replay
-only_built (Some (Serve address links)) = Some (Serve address links)
-only_built (Some (Drill seed policies requests)) = Some (Drill seed policies requests)
-only_built (Some Grants) = Some Grants
-only_built (Some Report) = Some Report
-only_built _ = None
-
 -- the commands that read a script
 abbrev pub reads : Option Command → Bool
 reads (Some Replay) = true
 reads (Some Grants) = true
 reads (Some (Serve address links)) = true
 reads (Some Report) = true
+reads (Some Keep) = true
 reads _ = false
 
 -- the command that serves links
 abbrev pub serves : Option Command → Bool
 serves (Some (Serve address links)) = true
 serves _ = false
+
+-- the command that takes the keeper
+abbrev pub takes_keeper : Option Command → Bool
+takes_keeper (Some Keep) = true
+takes_keeper _ = false

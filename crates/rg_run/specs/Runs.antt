@@ -1,5 +1,5 @@
 -- What stands after a command, by the status. To be read after Runs of rg_work.
-use Rattle.std.specs.Prelude.{◌≡◌, ℕ, List, codes, Option, Some}
+use Rattle.std.specs.Prelude.{◌≡◌, ℕ, List, codes, Option, Some, None}
 use Rattle.rg_workload.specs.Drill.{IsCarriedOut}
 use Rattle.rg_workload.specs.Report.{report_text}
 use Rattle.rg_workload.specs.declared.totals.Totals.{Totals}
@@ -13,11 +13,12 @@ use Rattle.rg_replay.specs.Replay.{replayed}
 use Rattle.rg_replay.specs.Report.{reported}
 use Rattle.rg_service.specs.Serve.{Door}
 use Rattle.rg_service.specs.Serves.{ServesLinks}
+use Rattle.rg_custody.specs.Custody.{Keeps, Shelf, shelf}
 use Rattle.rg_run.specs.declared.command.Command.{Command}
-use Rattle.rg_run.specs.declared.command.Command.TheVariants.{Replay, Serve, Drill, Grants, Report}
+use Rattle.rg_run.specs.declared.command.Command.TheVariants.{Replay, Serve, Drill, Grants, Report, Keep}
 
 abbrev pub usage_text : List ℕ
-usage_text = codes "usage: rangerd replay | serve ADDRESS LINKS | drill SEED POLICIES REQUESTS | grants | report\n"
+usage_text = codes "usage: rangerd replay | serve ADDRESS LINKS | drill SEED POLICIES REQUESTS | grants | report | keep\n"
 
 -- what stands after words that ask for no command
 abbrev pub IsTold : Ports → Ports → Status → Type 0
@@ -33,15 +34,29 @@ Drilled seed policies requests old new WriteFault = (t : Totals) × IsCarriedOut
 Drilled seed policies requests old new NoMemory = new ≡ old
 Drilled seed policies requests old new _ = ⊥
 
+-- what a run sees of the keeper that is in its place
+abbrev pub shelf_of : {K : Type 0} → (K → Option (List (List ℕ))) → (K → ℕ) → Option K → Shelf
+shelf_of kept faults None = shelf None 0
+shelf_of kept faults (Some keeper) = shelf (kept keeper) (faults keeper)
+
+-- what a run sees beside its ports: the listener and the keeper
+pub record Around : Type 0 where
+  pub door : Door
+  pub shelf : Shelf
+
+abbrev pub around : Door → Shelf → Around
+around d s = record { door = d; shelf = s }
+
 -- what stands after the command, None for words that ask for none
-abbrev pub Answers : Door → Door → Option Command → Ports → Ports → Status → Type 0
-Answers d e (Some Replay) p q status = Stands _ replayed p q status
-Answers d e (Some (Serve address links)) p q status = ServesLinks links d e p q status
-Answers d e (Some (Drill seed policies requests)) p q status = Drilled seed policies requests p.held q.held status
-Answers d e (Some Grants) p q status = Stands _ grants p q status
-Answers d e (Some Report) p q status = Stands _ reported p q status
-Answers d e _ p q status = IsTold p q status
+abbrev pub Answers : Around → Around → Option Command → Ports → Ports → Status → Type 0
+Answers a b (Some Replay) p q status = Stands _ replayed p q status
+Answers a b (Some (Serve address links)) p q status = ServesLinks links a.door b.door p q status
+Answers a b (Some (Drill seed policies requests)) p q status = Drilled seed policies requests p.held q.held status
+Answers a b (Some Grants) p q status = Stands _ grants p q status
+Answers a b (Some Report) p q status = Stands _ reported p q status
+Answers a b (Some Keep) p q status = Keeps a.shelf b.shelf p q status
+Answers a b None p q status = IsTold p q status
 
 -- the number is that of some run of the command
 abbrev pub IsEndOf : Option Command → ℕ → Type 0
-IsEndOf command n = (d : Door) × (e : Door) × (p : Ports) × (q : Ports) × OfStatus n (IsRun (Answers d e command) p q)
+IsEndOf command n = (a : Around) × (b : Around) × (p : Ports) × (q : Ports) × OfStatus n (IsRun (Answers a b command) p q)

@@ -4,7 +4,7 @@ ghost use Rattle.std.specs.Char.{is_ascii_digit};
 ghost use Rattle.std.specs.List.{list_all};
 ghost use Rattle.clap.specs.Words.{app_of, found_of, matches_of, rows_of};
 ghost use Rattle.rg_run.specs.CommandLine.{words_app};
-ghost use Rattle.rg_run.specs.Commands.{command_of, drill_of, grants_of, is_numeral, is_plain, named, number_in, number_of, replay_of, report_of, serve_of};
+ghost use Rattle.rg_run.specs.Commands.{command_of, drill_of, grants_of, is_numeral, is_plain, keep_of, named, number_in, number_of, replay_of, report_of, serve_of};
 
 use clap::{Arg, ArgAction, ArgMatches};
 use rg_base::{NoMemory, Text};
@@ -30,6 +30,8 @@ pub enum Command {
     Grants,
     /// Reads a script of facts to its end, and then prints who may do what with the resources that it asks about.
     Report,
+    /// Reads a script of an administration to its end, and then works it line by line over the records of a keeper.
+    Keep,
 }
 
 /// Whether the word is neither an option nor `help`.
@@ -131,6 +133,15 @@ fn grants_of(parts: &[&str]) -> Option<Command>
     }
 }
 
+fn keep_of(parts: &[&str]) -> Option<Command>
+    ensures { result ≡ keep_of (map (λ part. part.now) parts.now) }
+{
+    match parts {
+        [] => Some(Command::Keep),
+        _ => None,
+    }
+}
+
 /// The command of this name with these parts.
 #[tactic(auto, unfolding(crate::specs::Commands::named))]
 fn named(alloc: Global, word: &str, parts: &[&str]) -> Result<Option<Command>, NoMemory>
@@ -142,6 +153,7 @@ fn named(alloc: Global, word: &str, parts: &[&str]) -> Result<Option<Command>, N
         "drill" => Ok(drill_of(parts)),
         "grants" => Ok(grants_of(parts)),
         "report" => Ok(report_of(parts)),
+        "keep" => Ok(keep_of(parts)),
         _ => Ok(None),
     }
 }

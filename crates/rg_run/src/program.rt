@@ -1,15 +1,18 @@
 // From words and bytes to bytes and a status.
-ghost use Rattle.std.specs.Prelude.{◌≡◌, ◌⊎◌, ◌≤◌, ℕ, List, Some, None, false, length, map, string_bytes};
+ghost use Rattle.std.specs.Prelude.{◌≡◌, ◌⊎◌, ◌≤◌, ℕ, List, Some, None, IsSome, true, false, length, map, string_bytes};
 ghost use Rattle.rg_run.specs.declared.command.Command.{Command};
-ghost use Rattle.rg_run.specs.Commands.{command_of, only_built, reads, serves};
+ghost use Rattle.rg_run.specs.Commands.{command_of, reads, serves, takes_keeper};
 ghost use Rattle.rg_work.specs.Limits.{is_too_long};
 ghost use Rattle.rg_work.specs.Ports.{ports};
-ghost use Rattle.rg_run.specs.Runs.{Answers, Drilled};
+ghost use Rattle.rg_run.specs.Runs.{Answers, Drilled, around, shelf_of};
 ghost use Rattle.rg_work.specs.Runs.{IsRun, OfStatus, WriteFaults};
 ghost use Rattle.rg_service.specs.Serve.{door};
+ghost use Rattle.rg_custody.specs.Custody.{Keeps};
 
 use crate::command::{Command, command_of};
+use rg_custody::keep_script;
 use rg_hook::RequestHooks;
+use rg_keeper::Keeper;
 use rg_ports::{Clock, Gate, Listener, Sink, Source};
 use rg_replay::{Grants, Replay, Reports};
 use rg_service::serve_script;
@@ -46,6 +49,27 @@ fn drill<R: Wait, K: Sink>(
     }
 }
 
+/// Works a script over the keeper, and puts the keeper back into its place.
+fn keep<P: Keeper + Drop, S: Source, K: Sink, C: Clock>(
+    alloc: Global,
+    keeper: &mut Option<P>,
+    source: &mut S,
+    sink: &mut K,
+    clock: &mut C,
+) -> Status
+    requires { IsSome keeper.old }
+    ensures run { IsRun (Keeps (shelf_of P.kept P.faults keeper.old) (shelf_of P.kept P.faults keeper.new))
+        (ports (S.left source.old) (S.ended source.old) (S.faults source.old) (C.given clock.old) (K.held sink.old) (K.faults sink.old))
+        (ports (S.left source.new) (S.ended source.new) (S.faults source.new) (C.given clock.new) (K.held sink.new) (K.faults sink.new)) result }
+    ensures clock_stays { (result ≡ Status.ReadFault) ⊎ (result ≡ Status.TooLong) → clock.new ≡ clock.old }
+    ensures put_back { IsSome keeper.new }
+{
+    let held = keeper.take().unwrap();
+    let (held, status) = keep_script(alloc, held, source, sink, clock);
+    *keeper = Some(held);
+    status
+}
+
 /// Answers a command; None is that of words that ask for none.
 fn answer<
     S: Source,
@@ -54,6 +78,7 @@ fn answer<
     N: Listener,
     G: Gate,
     H: RequestHooks + Send,
+    P: Keeper + Drop,
     R: Threads + Wait + Sync,
 >(
     rt: &R,
@@ -65,14 +90,20 @@ fn answer<
     net: &mut N,
     gate: &G,
     hooks: &mut Vec<H>,
+    keeper: &mut Option<P>,
 ) -> Status
-    requires { (1 ≤ length hooks.old.items) × (length hooks.old.items ≤ 64) }
-    ensures run { IsRun (Answers (door (N.given net.old) (N.ended net.old) (N.faults net.old)) (door (N.given net.new) (N.ended net.new) (N.faults net.new)) (only_built command))
+    requires workers { (1 ≤ length hooks.old.items) × (length hooks.old.items ≤ 64) }
+    requires keeper { IsSome keeper.old }
+    ensures run { IsRun (Answers
+        (around (door (N.given net.old) (N.ended net.old) (N.faults net.old)) (shelf_of P.kept P.faults keeper.old))
+        (around (door (N.given net.new) (N.ended net.new) (N.faults net.new)) (shelf_of P.kept P.faults keeper.new)) command)
         (ports (S.left source.old) (S.ended source.old) (S.faults source.old) (C.given clock.old) (K.held sink.old) (K.faults sink.old))
         (ports (S.left source.new) (S.ended source.new) (S.faults source.new) (C.given clock.new) (K.held sink.new) (K.faults sink.new)) result }
     ensures clock_stays { (result ≡ Status.ReadFault) ⊎ (result ≡ Status.TooLong) → clock.new ≡ clock.old }
-    ensures untouched { reads (only_built command) ≡ false → (source.new ≡ source.old) × (clock.new ≡ clock.old) }
-    ensures unserved { serves (only_built command) ≡ false → (net.new ≡ net.old) × (hooks.new ≡ hooks.old) }
+    ensures untouched { reads command ≡ false → (source.new ≡ source.old) × (clock.new ≡ clock.old) }
+    ensures unserved { serves command ≡ false → (net.new ≡ net.old) × (hooks.new ≡ hooks.old) }
+    ensures unkept { takes_keeper command ≡ false → keeper.new ≡ keeper.old }
+    ensures put_back { IsSome keeper.new }
 {
     match &command {
         Some(Command::Replay) => {
@@ -106,9 +137,10 @@ fn answer<
             drop(reports);
             status
         }
+        Some(Command::Keep) => keep(alloc, keeper, source, sink, clock),
         None => match write_all(
             sink,
-            b"usage: rangerd replay | serve ADDRESS LINKS | drill SEED POLICIES REQUESTS | grants | report\n",
+            b"usage: rangerd replay | serve ADDRESS LINKS | drill SEED POLICIES REQUESTS | grants | report | keep\n",
         ) {
             Ok(()) => Status::Usage,
             Err(_) => Status::WriteFault,
@@ -117,8 +149,16 @@ fn answer<
 }
 
 /// Runs the command that the words ask for, and answers the number of its status. There are as many workers as hooks, 1 to 64.
-/// `serve` takes the hooks and leaves none.
-pub fn run<S: Source, K: Sink, C: Clock, N: Listener, G: Gate, H: RequestHooks + Send>(
+/// `serve` takes the hooks and leaves none. A keeper is handed in, and is there again afterwards; `keep` alone calls it.
+pub fn run<
+    S: Source,
+    K: Sink,
+    C: Clock,
+    N: Listener,
+    G: Gate,
+    H: RequestHooks + Send,
+    P: Keeper + Drop,
+>(
     rt: &(impl Threads + Wait + Sync),
     alloc: Global,
     words: &[String],
@@ -128,28 +168,41 @@ pub fn run<S: Source, K: Sink, C: Clock, N: Listener, G: Gate, H: RequestHooks +
     net: &mut N,
     gate: &G,
     hooks: &mut Vec<H>,
+    keeper: &mut Option<P>,
 ) -> u8
-    requires { (1 ≤ length hooks.old.items) × (length hooks.old.items ≤ 64) }
+    requires workers { (1 ≤ length hooks.old.items) × (length hooks.old.items ≤ 64) }
+    requires keeper { IsSome keeper.old }
     // Each status comes as `Answers` says: with Done and BadLine the sink got exactly the text of the command's definition over the source's
     // lines and the clock's moments, after a failed write a prefix of the one text that belongs to the words, the bytes and these moments,
-    // and a count of faults rose exactly where the status says so. After links were served the totals are those of `AreTotals`.
-    ensures answers { OfStatus result (IsRun (Answers (door (N.given net.old) (N.ended net.old) (N.faults net.old)) (door (N.given net.new) (N.ended net.new) (N.faults net.new)) (only_built (command_of (map string_bytes words.now))))
+    // and a count of faults rose exactly where the status says so. After links were served the totals are those of `AreTotals`. After `keep`
+    // the keeper's records are those that were found, and then those of the script, or the first of these where the run broke off.
+    ensures answers { OfStatus result (IsRun (Answers
+        (around (door (N.given net.old) (N.ended net.old) (N.faults net.old)) (shelf_of P.kept P.faults keeper.old))
+        (around (door (N.given net.new) (N.ended net.new) (N.faults net.new)) (shelf_of P.kept P.faults keeper.new)) (command_of (map string_bytes words.now)))
         (ports (S.left source.old) (S.ended source.old) (S.faults source.old) (C.given clock.old) (K.held sink.old) (K.faults sink.old))
         (ports (S.left source.new) (S.ended source.new) (S.faults source.new) (C.given clock.new) (K.held sink.new) (K.faults sink.new))) }
 
     // Words that ask for no command, and a drill, leave source and clock alone, and limits are decided before the clock is asked. Other
-    // commands than `serve` leave the listener and the hooks alone.
-    ensures untouched { reads (only_built (command_of (map string_bytes words.now))) ≡ false → (source.new ≡ source.old) × (clock.new ≡ clock.old) }
+    // commands than `serve` leave the listener and the hooks alone, and other commands than `keep` the keeper.
+    ensures untouched { reads (command_of (map string_bytes words.now)) ≡ false → (source.new ≡ source.old) × (clock.new ≡ clock.old) }
     ensures clock_stays { (result ≡ 1) ⊎ ((result ≡ 3) ⊎ (result ≡ 6)) → clock.new ≡ clock.old }
-    ensures unserved { serves (only_built (command_of (map string_bytes words.now))) ≡ false → (net.new ≡ net.old) × (hooks.new ≡ hooks.old) }
+    ensures unserved { serves (command_of (map string_bytes words.now)) ≡ false → (net.new ≡ net.old) × (hooks.new ≡ hooks.old) }
+    ensures unkept { takes_keeper (command_of (map string_bytes words.now)) ≡ false → keeper.new ≡ keeper.old }
+    ensures put_back { IsSome keeper.new }
 
-    // Completeness: a command, bytes within the limits and no fault give the script's status, or want of memory.
-    ensures complete { (command : Command) → only_built (command_of (map string_bytes words.now)) ≡ Some command →
+    // Completeness: a command, bytes within the limits and no fault give the script's status, or want of memory, or with `keep` a bad
+    // record.
+    ensures complete { (command : Command) → command_of (map string_bytes words.now) ≡ Some command →
         S.faults source.new ≡ S.faults source.old → K.faults sink.new ≡ K.faults sink.old → N.faults net.new ≡ N.faults net.old →
-        (bytes : List ℕ) → S.left source.old ≡ Some bytes → is_too_long bytes ≡ false → (result ≡ 0) ⊎ ((result ≡ 2) ⊎ (result ≡ 9)) }
+        (shelf_of P.kept P.faults keeper.new).faults ≡ (shelf_of P.kept P.faults keeper.old).faults →
+        (bytes : List ℕ) → S.left source.old ≡ Some bytes → is_too_long bytes ≡ false →
+        (result ≡ 0) ⊎ ((result ≡ 2) ⊎ ((result ≡ 9) ⊎ ((takes_keeper (command_of (map string_bytes words.now)) ≡ true) × (result ≡ 10)))) }
 {
     match command_of(alloc, words) {
-        Ok(command) => answer(rt, alloc, command, source, sink, clock, net, gate, hooks).number(),
+        Ok(command) => answer(
+            rt, alloc, command, source, sink, clock, net, gate, hooks, keeper,
+        )
+        .number(),
         Err(_) => Status::NoMemory.number(),
     }
 }

@@ -1,10 +1,11 @@
 // A run of `serve` with links in memory.
-ghost use Rattle.std.specs.Prelude.{◌≡◌, ◌≤◌, length, IfOk};
+ghost use Rattle.std.specs.Prelude.{◌≡◌, ◌≤◌, length, IfOk, IsSome};
 
 use crate::links::{Links, SharedLink};
 use anyhow::Result;
 use rg_base::{Moment, Seq};
 use rg_hook::{AuditFan, Enrichers, WorkerHooks};
+use rg_keeper::MemKeeper;
 use rg_ports::{Clock, Gate, ListClock, Listener, MeetingGate, MemSink, MemSource, Sink, Source};
 use rg_run::run;
 use std::alloc::{AllocError, Global};
@@ -87,10 +88,14 @@ fn run_with<S: Source, K: Sink, C: Clock, N: Listener, G: Gate, R: Threads + Wai
     net: &mut N,
     gate: &G,
     workers: &mut Vec<WorkerHooks>,
+    keeper: &mut Option<MemKeeper>,
 ) -> u8
-    requires { (1 ≤ length workers.old.items) × (length workers.old.items ≤ 64) }
+    requires workers { (1 ≤ length workers.old.items) × (length workers.old.items ≤ 64) }
+    requires keeper { IsSome keeper.old }
 {
-    run(rt, alloc, words, source, sink, clock, net, gate, workers)
+    run(
+        rt, alloc, words, source, sink, clock, net, gate, workers, keeper,
+    )
 }
 
 /// Runs, and tells how it ended.
@@ -110,6 +115,7 @@ pub(crate) fn served<R: Threads + Wait + Sync>(
     let mut net = Links::new(links, case.failing);
     let gate = MeetingGate::new(case.meeting);
     let mut hooks = hooks_of(alloc, case.workers)?;
+    let mut keeper = Some(MemKeeper::new(Seq::new(alloc), Seq::new(alloc)));
     let status = run_with(
         rt,
         alloc,
@@ -120,6 +126,7 @@ pub(crate) fn served<R: Threads + Wait + Sync>(
         &mut net,
         &gate,
         &mut hooks,
+        &mut keeper,
     );
     let mut told = String::new(alloc);
     tell(&mut told, status, sink.held())?;

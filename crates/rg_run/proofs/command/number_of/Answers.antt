@@ -1,4 +1,4 @@
-use Rattle.std.proofs.Common.{◌≡◌, ◌∙◌, None, refl, sym}
+use Rattle.std.proofs.Common.{◌∙◌, refl, sym}
 use Rattle.rg_run.specs.Commands.{number_of}
 use Rattle.rg_run.proofs.Numbers.{read_number}
 use Rattle.rg_run.proofs.command.number_of.Goals as goal

@@ -1,0 +1,64 @@
+#!/usr/bin/env python3
+"""Prints what the program run_kept is to print, from the rules: what `keep` prints over a keeper of whose calls one fails or that holds a
+record which is none, with which status it ends, and how many records stand then. Of each run it is looked at besides whether a failed one
+printed a beginning of the whole text, and kept the first of all records.
+
+usage: checks/kept.py
+"""
+import pathlib
+
+import keeping
+import kept_model
+
+CRATE = pathlib.Path(__file__).resolve().parent.parent / "crates" / "run_kept"
+CALLS = range(1, 38)
+WAYS = ("without", "with")
+SECOND_APPEND = 3
+AGAIN = b'reopen\nadmin root {"command":"listPolicies","service":"hive1"}\n'
+
+
+def row(name, script, keeper):
+    text, status = kept_model.worked(script, keeper)
+    return "%s: status %d, %d records: %s" % (name, status, len(keeper.records), text.replace("\n", "~"))
+
+
+def failures(script):
+    whole = keeping.Keeper()
+    whole_text, status = kept_model.worked(script, whole)
+    assert status == 0
+    for number in CALLS:
+        for way in WAYS:
+            keeper = keeping.Keeper(number=number, keeps=way == "with")
+            yield row("call %d fails %s its record" % (number, way), script, keeper)
+            text, status = kept_model.worked(script, keeping.Keeper(number=number, keeps=way == "with"))
+            assert status == (8 if number <= whole.made else 0) and whole_text.startswith(text)
+            assert keeper.records == whole.records[:len(keeper.records)] and (status == 8 or keeper.records == whole.records)
+
+
+def second_append(lines):
+    for way in WAYS:
+        keeper = keeping.Keeper(number=SECOND_APPEND, keeps=way == "with")
+        yield row("the second append fails %s its record" % way, b"".join(lines[:3]), keeper)
+        yield row("then another run", lines[0] + AGAIN, keeper)
+
+
+def bad_records(config):
+    for what, script in (("the configuration is worked", config),
+                         ("a bad line follows", config + b"hello\n"),
+                         ("the configuration breaks a rule", b'config {"plugin":"nowhere"}\n'),
+                         ("the first line is out of place", b"reopen\n" + config),
+                         ("there are blank lines alone", b"# kept\n\n")):
+        yield row("{} is kept, and %s" % what, script, keeping.Keeper(["{}"]))
+
+
+def main():
+    script = (CRATE / "stdin").read_bytes()
+    lines = script.splitlines(keepends=True)
+    print(row("no call fails", script, keeping.Keeper()))
+    for rows in (failures(script), second_append(lines), bad_records(lines[0])):
+        for one in rows:
+            print(one)
+
+
+if __name__ == "__main__":
+    main()

@@ -1,0 +1,152 @@
+// A run of `keep` in memory.
+ghost use Rattle.std.specs.Prelude.{◌≡◌, ◌≤◌, ◌<◌, length, IfOk, IsSome};
+
+use rg_base::{Moment, Seq};
+use rg_hook::{AuditFan, Enrichers, WorkerHooks};
+use rg_keeper::MemKeeper;
+use rg_ports::{
+    Clock, FreeGate, ListClock, Listener, MemListener, MemSink, MemSource, Sink, Source,
+};
+use rg_run::run;
+use std::alloc::{AllocError, Global};
+use std::str;
+use std::sync::Wait;
+use std::thread::Threads;
+
+fn words_of(alloc: Global) -> Result<Vec<String>, AllocError> {
+    let mut words = Vec::new(alloc);
+    words.push(String::from_str(alloc, "keep")?)?;
+    Ok(words)
+}
+
+/// One worker, without sinks and enrichers. `keep` has no use for it.
+fn one_worker(alloc: Global) -> Result<Vec<WorkerHooks>, AllocError>
+    ensures { IfOk result (λ hooks. length hooks.items ≡ 1) }
+{
+    let mut workers = Vec::new(alloc);
+    workers.push(WorkerHooks {
+        sinks: AuditFan::new(Vec::new(alloc)),
+        enrichers: Enrichers::new(Vec::new(alloc)),
+    })?;
+    Ok(workers)
+}
+
+/// What was printed, with `~` for each LF.
+fn tell_printed(told: &mut String, printed: &[u8]) -> Result<(), AllocError> {
+    for (place, line) in str::from_utf8(printed)
+        .unwrap_or("no text")
+        .split('\n')
+        .enumerate()
+    {
+        if 0 < place {
+            told.push('~')?;
+        }
+        told.push_str(line)?;
+    }
+    Ok(())
+}
+
+/// Runs with these workers. In `run_over` it isn't found that they may cross threads.
+fn run_with<S: Source, K: Sink, C: Clock, N: Listener, R: Threads + Wait + Sync>(
+    rt: &R,
+    alloc: Global,
+    words: &[String],
+    source: &mut S,
+    sink: &mut K,
+    clock: &mut C,
+    net: &mut N,
+    workers: &mut Vec<WorkerHooks>,
+    keeper: &mut Option<MemKeeper>,
+) -> u8
+    requires workers { (1 ≤ length workers.old.items) × (length workers.old.items ≤ 64) }
+    requires keeper { IsSome keeper.old }
+    ensures { IsSome keeper.new }
+{
+    run(
+        rt, alloc, words, source, sink, clock, net, &FreeGate, workers, keeper,
+    )
+}
+
+/// How a run ended.
+#[derive(Drop)]
+struct Outcome {
+    status: u8,
+    sink: MemSink,
+    keeper: MemKeeper,
+}
+
+/// Runs over the keeper.
+fn run_over<R: Threads + Wait + Sync>(
+    rt: &R,
+    alloc: Global,
+    words: &[String],
+    script: Vec<u8>,
+    moments: Vec<Moment>,
+    mut workers: Vec<WorkerHooks>,
+    keeper: MemKeeper,
+) -> Outcome
+    requires moments { 0 < length moments.items }
+    requires workers { length workers.items ≡ 1 }
+{
+    let mut source = MemSource::new(Seq::from_vec(script), Seq::new(alloc), Seq::new(alloc));
+    let mut sink = MemSink::new(Seq::new(alloc), Seq::new(alloc), Seq::new(alloc));
+    let mut clock = ListClock::new(Seq::from_vec(moments));
+    let mut net = MemListener::new(Vec::new(alloc), Seq::new(alloc));
+    let mut place = Some(keeper);
+    let status = run_with(
+        rt,
+        alloc,
+        words,
+        &mut source,
+        &mut sink,
+        &mut clock,
+        &mut net,
+        &mut workers,
+        &mut place,
+    );
+    Outcome {
+        status,
+        sink,
+        keeper: place.unwrap(),
+    }
+}
+
+/// Tells the status, how many records stand, and what was printed.
+fn tell_outcome(told: &mut String, outcome: &Outcome) -> Result<(), AllocError> {
+    let status = outcome.status;
+    let held = outcome.keeper.records().len();
+    write!(told, "status {status}, {held} records: ")?;
+    tell_printed(told, outcome.sink.held())
+}
+
+/// Runs `keep` over the keeper, and tells how it ended. The keeper comes back.
+pub(crate) fn tell_run<R: Threads + Wait + Sync>(
+    told: &mut String,
+    rt: &R,
+    alloc: Global,
+    script: &str,
+    keeper: MemKeeper,
+) -> Result<MemKeeper, AllocError> {
+    let words = words_of(alloc)?;
+    let script = Vec::from_slice(alloc, script.as_bytes())?;
+    let moments = Vec::from_slice(alloc, &[Moment(0)])?;
+    let workers = one_worker(alloc)?;
+    let outcome = run_over(
+        rt,
+        alloc,
+        words.as_slice(),
+        script,
+        moments,
+        workers,
+        keeper,
+    );
+    drop(words);
+    tell_outcome(told, &outcome)?;
+    let Outcome {
+        status: _,
+        sink,
+        keeper,
+    } = outcome;
+    drop(sink);
+    Ok(keeper)
+}
