@@ -5,7 +5,8 @@ ghost use Rattle.rg_run.specs.Commands.{command_of, reads, serves, takes_keeper}
 ghost use Rattle.rg_work.specs.Limits.{is_too_long};
 ghost use Rattle.rg_work.specs.Ports.{ports};
 ghost use Rattle.rg_run.specs.Runs.{Answers, Drilled, around, shelf_of};
-ghost use Rattle.rg_work.specs.Runs.{IsRun, OfStatus, WriteFaults};
+ghost use Rattle.rg_work.specs.Follow.{worked};
+ghost use Rattle.rg_work.specs.Runs.{IsRun, OfStatus, Stands, WriteFaults};
 ghost use Rattle.rg_service.specs.Serve.{door};
 ghost use Rattle.rg_custody.specs.Custody.{Keeps};
 
@@ -16,7 +17,7 @@ use rg_keeper::Keeper;
 use rg_ports::{Clock, Gate, Listener, Sink, Source};
 use rg_replay::{Grants, Replay, Reports};
 use rg_service::serve_script;
-use rg_work::{Status, work_script, write_all};
+use rg_work::{Status, Worker, work_script, write_all};
 use rg_workload::{add_report, carry_out};
 use std::alloc::Global;
 use std::mem;
@@ -47,6 +48,24 @@ fn drill<R: Wait, K: Sink>(
         Ok(()) => Status::Done,
         Err(_) => Status::WriteFault,
     }
+}
+
+/// Works a script by this worker, which is let go.
+fn work_by<W: Worker + Drop, S: Source, K: Sink, C: Clock>(
+    alloc: Global,
+    mut worker: W,
+    source: &mut S,
+    sink: &mut K,
+    clock: &mut C,
+) -> Status
+    ensures run { IsRun (Stands _ (worked W.step worker 1))
+        (ports (S.left source.old) (S.ended source.old) (S.faults source.old) (C.given clock.old) (K.held sink.old) (K.faults sink.old))
+        (ports (S.left source.new) (S.ended source.new) (S.faults source.new) (C.given clock.new) (K.held sink.new) (K.faults sink.new)) result }
+    ensures clock_stays { (result ≡ Status.ReadFault) ⊎ (result ≡ Status.TooLong) → clock.new ≡ clock.old }
+{
+    let status = work_script(alloc, &mut worker, source, sink, clock);
+    drop(worker);
+    status
 }
 
 /// Works a script over the keeper, and puts the keeper back into its place.
@@ -106,12 +125,7 @@ fn answer<
     ensures put_back { IsSome keeper.new }
 {
     match &command {
-        Some(Command::Replay) => {
-            let mut replay = Replay::new(rt);
-            let status = work_script(alloc, &mut replay, source, sink, clock);
-            drop(replay);
-            status
-        }
+        Some(Command::Replay) => work_by(alloc, Replay::new(rt), source, sink, clock),
         Some(Command::Serve { address, links }) => {
             let hooks = mem::replace(hooks, Vec::new(alloc));
             serve_script(
@@ -125,18 +139,8 @@ fn answer<
                 requests,
             },
         ) => drill(rt, alloc, *seed, *policies, *requests, sink),
-        Some(Command::Grants) => {
-            let mut grants = Grants::new();
-            let status = work_script(alloc, &mut grants, source, sink, clock);
-            drop(grants);
-            status
-        }
-        Some(Command::Report) => {
-            let mut reports = Reports::new();
-            let status = work_script(alloc, &mut reports, source, sink, clock);
-            drop(reports);
-            status
-        }
+        Some(Command::Grants) => work_by(alloc, Grants::new(), source, sink, clock),
+        Some(Command::Report) => work_by(alloc, Reports::new(), source, sink, clock),
         Some(Command::Keep) => keep(alloc, keeper, source, sink, clock),
         None => match write_all(
             sink,
