@@ -1,5 +1,5 @@
 // A run of `serve` with links in memory.
-ghost use Rattle.std.specs.Prelude.{◌≡◌, ◌≤◌, length, IfOk, IsSome};
+ghost use Rattle.std.specs.Prelude.{◌≡◌, ◌≤◌, length, IfOk};
 
 use crate::links::{Links, SharedLink};
 use anyhow::Result;
@@ -88,14 +88,24 @@ fn run_with<S: Source, K: Sink, C: Clock, N: Listener, G: Gate, R: Threads + Wai
     net: &mut N,
     gate: &G,
     workers: &mut Vec<WorkerHooks>,
-    keeper: &mut Option<MemKeeper>,
 ) -> u8
-    requires workers { (1 ≤ length workers.old.items) × (length workers.old.items ≤ 64) }
-    requires keeper { IsSome keeper.old }
+    requires { (1 ≤ length workers.old.items) × (length workers.old.items ≤ 64) }
 {
-    run(
-        rt, alloc, words, source, sink, clock, net, gate, workers, keeper,
-    )
+    let mut keeper = Some(MemKeeper::new(Seq::new(alloc), Seq::new(alloc)));
+    let status = run(
+        rt,
+        alloc,
+        words,
+        source,
+        sink,
+        clock,
+        net,
+        gate,
+        workers,
+        &mut keeper,
+    );
+    drop(keeper);
+    status
 }
 
 /// Runs, and tells how it ended.
@@ -115,7 +125,6 @@ pub(crate) fn served<R: Threads + Wait + Sync>(
     let mut net = Links::new(links, case.failing);
     let gate = MeetingGate::new(case.meeting);
     let mut hooks = hooks_of(alloc, case.workers)?;
-    let mut keeper = Some(MemKeeper::new(Seq::new(alloc), Seq::new(alloc)));
     let status = run_with(
         rt,
         alloc,
@@ -126,7 +135,6 @@ pub(crate) fn served<R: Threads + Wait + Sync>(
         &mut net,
         &gate,
         &mut hooks,
-        &mut keeper,
     );
     let mut told = String::new(alloc);
     tell(&mut told, status, sink.held())?;
