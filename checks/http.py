@@ -59,7 +59,7 @@ def main(program=TOP / "crates/rangerd/out/rangerd"):
     with tempfile.TemporaryDirectory() as folder:
         for name, body in BODIES.items():
             pathlib.Path(folder, name).write_text(json.dumps(body))
-        serve = subprocess.Popen([program, "serve", "127.0.0.1:0", "1000000"], stdin=subprocess.PIPE, stdout=subprocess.DEVNULL, cwd=folder)
+        serve = subprocess.Popen([pathlib.Path(program).resolve(), "serve", "127.0.0.1:0", "1000000"], stdin=subprocess.PIPE, stdout=subprocess.DEVNULL, cwd=folder)
         try:
             serve.stdin.write(("config %s\n" % json.dumps(CONFIG)).encode())
             serve.stdin.close()
