@@ -25,7 +25,7 @@ use Rattle.rg_cmd.specs.declared.ask.AdminReply.{AdminReply}
 use Rattle.rg_cmd.specs.declared.ask.Ask.{Ask}
 use Rattle.rg_cmd.specs.declared.rule.Rule.{Rule}
 use Rattle.rg_cmd.specs.declared.state.State.{State}
-use Rattle.rg_validate.specs.Twins.{each_among, each_resource_in, same_flag, same_levels, same_maps, same_resource, same_texts}
+use Rattle.rg_twins.specs.Twins.{each_among, each_resource_in, same_flag, same_levels, same_maps, same_resource, same_texts}
 use Rattle.rg_machine.specs.Changes.{created_form, updated_form}
 use Rattle.rg_machine.specs.Laws.{is_refused}
 use Rattle.rg_machine.specs.Logs.{Administration}

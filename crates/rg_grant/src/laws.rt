@@ -7,7 +7,7 @@ ghost use Rattle.rg_facts.specs.Candidates.{Candidate};
 ghost use Rattle.rg_facts.specs.declared.facts.Facts.{Facts};
 ghost use Rattle.rg_cmd.specs.declared.ask.AdminReply.TheVariants.{Refused};
 ghost use Rattle.rg_cmd.specs.declared.state.State.{State};
-ghost use Rattle.rg_validate.specs.Twins.{is_twin};
+ghost use Rattle.rg_twins.specs.Twins.{is_twin};
 ghost use Rattle.rg_validate.specs.Valid.{IsKept};
 ghost use Rattle.rg_machine.specs.Laws.{is_refused};
 ghost use Rattle.rg_machine.specs.Logs.{Administration};

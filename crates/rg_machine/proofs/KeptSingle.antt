@@ -22,7 +22,7 @@ use Rattle.rg_validate.specs.Failing.{first_failing}
 use Rattle.rg_validate.specs.Policies.{has_no_twin, is_other, policy_rules}
 use Rattle.rg_validate.specs.Rules.{command_rules, policy_exists, rules_under, service_exists}
 use Rattle.rg_validate.specs.Tags.{row_id_fits, row_stays_in}
-use Rattle.rg_validate.specs.Twins.{each_map_in, is_twin, same_flag, same_kind, same_maps, same_schedule, same_schedules}
+use Rattle.rg_twins.specs.Twins.{each_map_in, is_twin, same_flag, same_kind, same_maps, same_schedule, same_schedules}
 use Rattle.rg_validate.specs.Valid.{policy_is_single}
 use Rattle.rg_machine.specs.Changes.{after_command, created_form, stored_row, updated_form}
 use Rattle.rg_machine.specs.Steps.{counted}

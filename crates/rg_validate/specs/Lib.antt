@@ -5,7 +5,6 @@ pub mod Roles
 pub mod Rules
 pub mod Steps
 pub mod Tags
-pub mod Twins
 pub mod Users
 pub mod Valid
 pub mod Zones

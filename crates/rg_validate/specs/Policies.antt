@@ -15,7 +15,7 @@ use Rattle.rg_cmd.specs.Lookups.{has_id, is_tag_service, policy_at}
 use Rattle.rg_cmd.specs.declared.rule.Rule.TheVariants.{V1, V2, V3, V4, V5, V6, V7, V8, V9, V10, V11, V12, V13, V14}
 use Rattle.rg_cmd.specs.declared.state.State.{State}
 use Rattle.rg_validate.specs.Failing.{Tested}
-use Rattle.rg_validate.specs.Twins.{is_twin, same_place}
+use Rattle.rg_twins.specs.Twins.{is_twin, same_place}
 
 -- the policy is another one than that which is updated, if one is
 abbrev pub is_other : Option PolicyId → Policy → Bool

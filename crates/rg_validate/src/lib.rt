@@ -10,7 +10,6 @@ mod roles;
 mod rules;
 mod services;
 mod tags;
-mod twins;
 mod users;
 mod valid;
 mod zones;
@@ -31,7 +30,6 @@ pub use services::{
     keeps_definition, plugin_fits, service_is_unused, service_name_is_new, tag_service_fits,
 };
 pub use tags::{row_id_fits, tagged_resources_fit, tagged_service_fits};
-pub use twins::same_levels;
 pub use users::{time_zones_read, user_fits};
 pub use valid::is_valid;
 pub use zones::{

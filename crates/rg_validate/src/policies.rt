@@ -8,13 +8,13 @@ ghost use Rattle.rg_cmd.specs.Lookups.{has_id, policy_at};
 ghost use Rattle.rg_validate.specs.Failing.{first_failing};
 ghost use Rattle.rg_validate.specs.Policies.{has_no_twin, is_namesake, is_other, old_form, policy_name_is_new, policy_place_fits, policy_rules, policy_subjects_fit, stays_in, zone_fits};
 ghost use Rattle.rg_validate.specs.Steps.{form_rules, name_rules, setting_rules};
-ghost use Rattle.rg_validate.specs.Twins.{is_twin};
+ghost use Rattle.rg_twins.specs.Twins.{is_twin};
 ghost use Rattle.rg_validate.specs.Users.{time_zones_read};
 ghost use Rattle.rg_validate.specs.Valid.{IsValid};
 
 use crate::existence::has_id;
 use crate::lookups::is_tag_service;
-use crate::twins::{is_twin, same_place};
+use rg_twins::{is_twin, same_place};
 use rg_base::{NameIndex, NoMemory, PolicyId, is_name, same_text};
 use rg_cmd::{Rule, State};
 use rg_cond::{TimeZoneFault, TimeZones, conditions_compile, schedules_read};

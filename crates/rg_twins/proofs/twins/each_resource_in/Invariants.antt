@@ -1,6 +1,6 @@
 use Rattle.std.proofs.Common.{◌≡◌, length}
-use Rattle.rg_validate.specs.Twins.{each_resource_in}
-use Rattle.rg_validate.proofs.twins.each_resource_in.Given as goal
+use Rattle.rg_twins.specs.Twins.{each_resource_in}
+use Rattle.rg_twins.proofs.twins.each_resource_in.Given as goal
 
 -- the rest decides
 abbrev pub invariant-resources : goal.invariant-resources

@@ -1,7 +1,7 @@
 use Rattle.std.proofs.Common.{◌≡◌, drop}
 use Rattle.std.specs.List.{list_any}
-use Rattle.rg_validate.specs.Twins.{same_resource}
-use Rattle.rg_validate.proofs.twins.some_same_resource.Given as goal
+use Rattle.rg_twins.specs.Twins.{same_resource}
+use Rattle.rg_twins.proofs.twins.some_same_resource.Given as goal
 
 -- the rest decides
 abbrev pub invariant-loop-other : goal.invariant-loop-other

@@ -2,7 +2,7 @@
 use Rattle.std.proofs.Common.{◌≡◌, ◌&&◌, ◌++◌, Bool, true, false, List, [], ◌∷◌, refl, ◌∙◌}
 use Rattle.std.proofs.lemmas.List.Folds.{list_all-append}
 use Rattle.rg_policy.specs.declared.policy.PolicyResource.{PolicyResource}
-use Rattle.rg_validate.specs.Twins.{each_resource_in}
+use Rattle.rg_twins.specs.Twins.{each_resource_in}
 
 swap : (a b : Bool) → (a && b) ≡ (b && a)
 swap true true = refl

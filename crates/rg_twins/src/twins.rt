@@ -3,7 +3,7 @@ ghost use Rattle.std.specs.Prelude.{◌≡◌, ◌&&◌, IfOk, take};
 ghost use Rattle.std.specs.List.{list_any};
 ghost use Rattle.std.specs.Str.{bytes_eq};
 ghost use Rattle.rg_policy.specs.Maps.{maps_of};
-ghost use Rattle.rg_validate.specs.Twins.{each_among, each_map_in, each_resource_in, has_map, is_twin, same_flag, same_kind, same_levels, same_maps, same_place, same_resource, same_schedule, same_schedules, same_texts};
+ghost use Rattle.rg_twins.specs.Twins.{each_among, each_map_in, each_resource_in, has_map, is_twin, same_flag, same_kind, same_levels, same_maps, same_place, same_resource, same_schedule, same_schedules, same_texts};
 
 use rg_base::{NameIndex, NoMemory, Text, is_among, same_text};
 use rg_effect::all_among;
@@ -14,7 +14,7 @@ use std::alloc::Global;
 const FEW: usize = 16;
 
 /// Whether the policies are of one service and one zone, or of none.
-pub(crate) fn same_place(policy: &Policy, other: &Policy) -> bool
+pub fn same_place(policy: &Policy, other: &Policy) -> bool
     ensures { result ≡ same_place policy.now other.now }
 {
     same_text(other.service.as_str(), policy.service.as_str())
@@ -227,7 +227,7 @@ fn same_kind(policy: &Policy, other: &Policy) -> bool
 
 /// Whether the other policy is enabled, has the same service, zone, type, priority and schedules, and the same maps.
 /// Maps that differ in a level, a flag or a first value take no memory.
-pub(crate) fn is_twin(alloc: Global, policy: &Policy, other: &Policy) -> Result<bool, NoMemory>
+pub fn is_twin(alloc: Global, policy: &Policy, other: &Policy) -> Result<bool, NoMemory>
     ensures { IfOk result (λ twin. twin ≡ is_twin policy.now other.now) }
 {
     if !other.enabled || !same_kind(policy, other) {

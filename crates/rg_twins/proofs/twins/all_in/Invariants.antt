@@ -1,7 +1,7 @@
 use Rattle.std.proofs.Common.{◌≡◌, drop}
 use Rattle.rg_policy.specs.Maps.{maps_of}
-use Rattle.rg_validate.specs.Twins.{each_map_in}
-use Rattle.rg_validate.proofs.twins.all_in.Given as goal
+use Rattle.rg_twins.specs.Twins.{each_map_in}
+use Rattle.rg_twins.proofs.twins.all_in.Given as goal
 
 -- the rest decides
 abbrev pub invariant-loop-map : goal.invariant-loop-map

@@ -1,6 +1,6 @@
 use Rattle.std.proofs.Common.{◌≡◌, drop}
-use Rattle.rg_validate.specs.Twins.{same_schedules}
-use Rattle.rg_validate.proofs.twins.same_schedules.Given as goal
+use Rattle.rg_twins.specs.Twins.{same_schedules}
+use Rattle.rg_twins.proofs.twins.same_schedules.Given as goal
 
 -- the rest decides
 abbrev pub invariant-loop-schedule : goal.invariant-loop-schedule

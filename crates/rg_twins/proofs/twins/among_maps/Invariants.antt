@@ -1,6 +1,6 @@
 use Rattle.std.proofs.Common.{◌≡◌, drop}
-use Rattle.rg_validate.specs.Twins.{has_map}
-use Rattle.rg_validate.proofs.twins.among_maps.Given as goal
+use Rattle.rg_twins.specs.Twins.{has_map}
+use Rattle.rg_twins.proofs.twins.among_maps.Given as goal
 
 -- the rest decides
 abbrev pub invariant-loop-map : goal.invariant-loop-map

@@ -1,0 +1,91 @@
+-- What the counts tell, and how they follow a list of policies.
+use Rattle.std.proofs.Common.{◌≡◌, ◌≤◌, ◌<◌, ◌+◌, ◌-◌, ◌==◌, ◌⊎◌, ℕ, ⊥, Bool, true, false, cond, min, List, [], ◌∷◌, Contains, arith, refl, ap, sym, ◌∙◌, inl, inr}
+use Rattle.std.specs.List.{sum_by}
+use Rattle.std.proofs.lemmas.Bool.{false≢true}
+use Rattle.std.proofs.lemmas.Bool.Decides.{nat_tests}
+use Rattle.rg_base.proofs.Lists.{Contains-cases, Contains-none}
+use Rattle.rg_policy.specs.Maps.{maps_of}
+use Rattle.rg_policy.specs.declared.policy.Policy.{Policy}
+use Rattle.rg_twins.specs.Counts.{IsCounted, IsLowered, IsRaised, count_of, has_print, lowered, raised}
+use Rattle.rg_twins.specs.Prints.{print_of}
+use Rattle.rg_twins.specs.Twins.{same_maps}
+use Rattle.rg_twins.proofs.Prints.{one_print}
+
+-- ---- what they tell
+
+sum_one : {X : Type 0} (f : X → ℕ) (xs : List X) (a : X) → Contains xs a → f a ≤ sum_by f xs
+sum_one f [] a here = absurd (Contains-none a here)
+sum_one f (y ∷ ys) a here = at (Contains-cases y ys a here)
+  where
+    at : (y ≡ a) ⊎ Contains ys a → f a ≤ f y + sum_by f ys
+    at (inl is) = let same : f y ≡ f a = ap f is in omega (arith, same)
+    at (inr later) = let rest = sum_one f ys a later in omega (arith, rest)
+
+-- two that a test tells apart are two
+sum_two : {X : Type 0} (f : X → ℕ) (test : X → Bool) (xs : List X) (a b : X) → Contains xs a → Contains xs b → test a ≡ true → test b ≡ false → f a + f b ≤ sum_by f xs
+sum_two f test [] a b here there h k = absurd (Contains-none a here)
+sum_two f test (y ∷ ys) a b here there h k = at (Contains-cases y ys a here) (Contains-cases y ys b there)
+  where
+    at : (y ≡ a) ⊎ Contains ys a → (y ≡ b) ⊎ Contains ys b → f a + f b ≤ f y + sum_by f ys
+    at (inl is) (inl same) = absurd (false≢true (sym k ∙ ap test (sym same ∙ is) ∙ h))
+    at (inl is) (inr later) = let first : f y ≡ f a = ap f is in let rest = sum_one f ys b later in omega (arith, first, rest)
+    at (inr later) (inl is) = let first : f y ≡ f b = ap f is in let rest = sum_one f ys a later in omega (arith, first, rest)
+    at (inr later) (inr last) = let rest = sum_two f test ys a b later last h k in omega (arith, rest)
+
+counts_itself : (k : ℕ) (p : Policy) → k ≡ print_of (maps_of p) → has_print k p ≡ 1
+counts_itself k p is = grind (arith, nat_tests, is)
+
+-- none has the same maps where none has the print
+pub none_same : (counts : List ℕ) (ps : List Policy) (k : ℕ) (q : Policy) → IsCounted counts ps → count_of counts k ≡ 0 → Contains ps q → k ≡ print_of (maps_of q) → ⊥
+unfolding IsCounted
+none_same counts ps k q counted none here same =
+    let most = counted k (omega (arith, none)) in
+    let one = sum_one (has_print k) ps q here in
+    let its = counts_itself k q same in
+    omega (arith, most, one, its, none)
+
+-- no other has the same maps where no more have the print than this one does
+pub none_other : (counts : List ℕ) (ps : List Policy) (k : ℕ) (test : Policy → Bool) (o q : Policy) → IsCounted counts ps → count_of counts k ≤ has_print k o
+    → Contains ps o → Contains ps q → test o ≡ true → test q ≡ false → k ≡ print_of (maps_of q) → ⊥
+unfolding IsCounted
+none_other counts ps k test o q counted few here there h n same =
+    let own : has_print k o ≤ 1 = grind (arith, nat_tests) in
+    let most = counted k (omega (arith, few, own)) in
+    let two = sum_two (has_print k) test ps o q here there h n in
+    let its = counts_itself k q same in
+    omega (arith, most, two, its, few)
+
+-- ---- how they follow
+
+pub counted_none : (counts : List ℕ) → IsCounted counts []
+unfolding IsCounted
+counted_none counts k few = omega arith
+
+raising : (b : Bool) (n m c d : ℕ) → m ≡ n + cond b 1 0 → d ≡ cond b (raised c) c → (c < 255 → n ≤ c) → d < 255 → m ≤ d
+raising true n m c d sum is most few = let low : c < 255 = omega (arith, is, few) in let held = most low in omega (arith, sum, is, held, few)
+raising false n m c d sum is most few = let held = most (omega (arith, is, few)) in omega (arith, sum, is, held)
+
+lowering : (b : Bool) (n m c d : ℕ) → m + cond b 1 0 ≡ n → d ≡ cond b (lowered c) c → (c < 255 → n ≤ c) → d < 255 → m ≤ d
+lowering true n m c d sum is most few = at (c == 255) refl
+  where
+    at : (lost : Bool) → (c == 255) ≡ lost → m ≤ d
+    at true e = let all : d ≡ 255 = is ∙ ap (λ b. cond b 255 (c - 1)) e in absurd (omega (arith, all, few))
+    at false e =
+        let less : d ≡ c - 1 = is ∙ ap (λ b. cond b 255 (c - 1)) e in
+        let held = most (grind (arith, nat_tests, e, less, few)) in
+        omega (arith, less, held, sum)
+lowering false n m c d sum is most few = let held = most (omega (arith, is, few)) in omega (arith, sum, is, held)
+
+-- one more policy
+pub counted_more : (p : Policy) (ps qs : List Policy) (before after : List ℕ) → ((k : ℕ) → sum_by (has_print k) qs ≡ sum_by (has_print k) ps + has_print k p)
+    → IsRaised (print_of (maps_of p)) before after → IsCounted before ps → IsCounted after qs
+unfolding IsCounted IsRaised
+counted_more p ps qs before after sum rises counted k few =
+    raising (k == print_of (maps_of p)) (sum_by (has_print k) ps) (sum_by (has_print k) qs) (count_of before k) (count_of after k) (sum k) (rises k) (counted k) few
+
+-- one policy less
+pub counted_less : (p : Policy) (ps qs : List Policy) (before after : List ℕ) → ((k : ℕ) → sum_by (has_print k) qs + has_print k p ≡ sum_by (has_print k) ps)
+    → IsLowered (print_of (maps_of p)) before after → IsCounted before ps → IsCounted after qs
+unfolding IsCounted IsLowered
+counted_less p ps qs before after sum falls counted k few =
+    lowering (k == print_of (maps_of p)) (sum_by (has_print k) ps) (sum_by (has_print k) qs) (count_of before k) (count_of after k) (sum k) (falls k) (counted k) few

@@ -1,0 +1,32 @@
+-- How many policies have each print, where that isn't lost.
+use Rattle.std.specs.Prelude.{ℕ, ◌≡◌, ◌≤◌, ◌<◌, ◌+◌, ◌-◌, ◌==◌, List, min, get_or, if◌then◌else◌}
+use Rattle.std.specs.List.{sum_by}
+use Rattle.rg_policy.specs.Maps.{maps_of}
+use Rattle.rg_policy.specs.declared.policy.Policy.{Policy}
+use Rattle.rg_twins.specs.Prints.{print_of}
+
+-- the count of the print; 255 where their number is lost
+abbrev pub count_of : List ℕ → ℕ → ℕ
+count_of counts print = get_or counts print 255
+
+abbrev pub raised : ℕ → ℕ
+raised n = min (n + 1) 255
+
+abbrev pub lowered : ℕ → ℕ
+lowered n = if n == 255 then 255 else n - 1
+
+-- one more has the print
+unfoldable pub IsRaised : ℕ → List ℕ → List ℕ → Type 0
+IsRaised print before after = (k : ℕ) → count_of after k ≡ (if k == print then raised (count_of before k) else count_of before k)
+
+-- one less has the print
+unfoldable pub IsLowered : ℕ → List ℕ → List ℕ → Type 0
+IsLowered print before after = (k : ℕ) → count_of after k ≡ (if k == print then lowered (count_of before k) else count_of before k)
+
+-- 1 where the policy's maps have the print
+abbrev pub has_print : ℕ → Policy → ℕ
+has_print k p = if k == print_of (maps_of p) then 1 else 0
+
+-- no print has more policies than are counted, but where their number is lost
+unfoldable pub IsCounted : List ℕ → List Policy → Type 0
+IsCounted counts ps = (k : ℕ) → count_of counts k < 255 → sum_by (has_print k) ps ≤ count_of counts k
