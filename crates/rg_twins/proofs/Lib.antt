@@ -1,3 +1,3 @@
 pub mod Counting
 pub mod Ends
-pub mod Prints
+pub mod OnePrint

@@ -1,5 +1,5 @@
 -- How many policies have each print, where that isn't lost.
-use Rattle.std.specs.Prelude.{ℕ, ◌≡◌, ◌≤◌, ◌<◌, ◌+◌, ◌-◌, ◌==◌, List, min, get_or, if◌then◌else◌}
+use Rattle.std.specs.Prelude.{ℕ, ◌≡◌, ◌≤◌, ◌<◌, ◌+◌, ◌-◌, ◌==◌, List, min, get_or, slice_set, if◌then◌else◌}
 use Rattle.std.specs.List.{sum_by}
 use Rattle.rg_policy.specs.Maps.{maps_of}
 use Rattle.rg_policy.specs.declared.policy.Policy.{Policy}
@@ -16,12 +16,12 @@ abbrev pub lowered : ℕ → ℕ
 lowered n = if n == 255 then 255 else n - 1
 
 -- one more has the print
-unfoldable pub IsRaised : ℕ → List ℕ → List ℕ → Type 0
-IsRaised print before after = (k : ℕ) → count_of after k ≡ (if k == print then raised (count_of before k) else count_of before k)
+abbrev pub raised_at : ℕ → List ℕ → List ℕ
+raised_at print counts = slice_set counts print (raised (count_of counts print))
 
 -- one less has the print
-unfoldable pub IsLowered : ℕ → List ℕ → List ℕ → Type 0
-IsLowered print before after = (k : ℕ) → count_of after k ≡ (if k == print then lowered (count_of before k) else count_of before k)
+abbrev pub lowered_at : ℕ → List ℕ → List ℕ
+lowered_at print counts = slice_set counts print (lowered (count_of counts print))
 
 -- 1 where the policy's maps have the print
 abbrev pub has_print : ℕ → Policy → ℕ

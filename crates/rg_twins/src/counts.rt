@@ -1,7 +1,6 @@
 // How many policies have each print.
-ghost use Rattle.std.specs.Prelude.{◌≡◌, IfOk};
-ghost use Rattle.rg_policy.specs.declared.policy.Policy.{Policy};
-ghost use Rattle.rg_twins.specs.Counts.{IsCounted, IsLowered, IsRaised, count_of, lowered, raised};
+ghost use Rattle.std.specs.Prelude.{◌≡◌, [], IfOk};
+ghost use Rattle.rg_twins.specs.Counts.{IsCounted, count_of, lowered, lowered_at, raised, raised_at};
 
 use rg_base::NoMemory;
 use std::alloc::Global;
@@ -43,6 +42,7 @@ fn lowered(count: u8) -> u8
 
 impl MapCounts {
     /// The counts of no policies.
+    #[tactic(auto, using(crate::proofs::Counting::counted_none))]
     pub fn new(alloc: Global) -> Result<MapCounts, NoMemory>
         ensures { IfOk result (λ counts. IsCounted counts []) }
     {
@@ -63,7 +63,7 @@ impl MapCounts {
 
     /// One more has the print.
     pub fn raise(&mut self, print: usize)
-        ensures { IsRaised print self.old self.new }
+        ensures { self.new ≡ raised_at print self.old }
     {
         if let Some(count) = self.counts.get_mut(print) {
             *count = raised(*count);
@@ -72,7 +72,7 @@ impl MapCounts {
 
     /// One less has the print.
     pub fn lower(&mut self, print: usize)
-        ensures { IsLowered print self.old self.new }
+        ensures { self.new ≡ lowered_at print self.old }
     {
         if let Some(count) = self.counts.get_mut(print) {
             *count = lowered(*count);

@@ -1,6 +1,7 @@
 // The first rule that each command breaks, but for L1 and the rules of authority.
 ghost use Rattle.std.specs.Prelude.{◌≡◌, ◌∷◌, [], IfOk};
 ghost use Rattle.rg_cmd.specs.declared.ask.AdminCommand.TheVariants.{CreatePolicy, CreateService, DeleteRole, DeleteService, DeleteZone, PutDef, PutRole, PutTags, PutZone, UpdatePolicy, UpdateService};
+ghost use Rattle.rg_twins.specs.Counts.{IsCounted};
 ghost use Rattle.rg_validate.specs.Definitions.{definition_rule, definition_rules};
 ghost use Rattle.rg_validate.specs.Failing.{first_failing};
 ghost use Rattle.rg_validate.specs.Rules.{command_rules};
@@ -27,6 +28,7 @@ use rg_defs::{DefFault, ServiceDef, check_def};
 use rg_policy::Policy;
 use rg_roles::RoleRow;
 use rg_tags::{TagRow, tags_fit};
+use rg_twins::MapCounts;
 use rg_zones::ZoneRow;
 use std::alloc::Global;
 
@@ -120,23 +122,27 @@ fn delete_service_fault(state: &State, name: &Text) -> Option<Rule>
 fn create_policy_fault(
     alloc: Global,
     state: &State,
+    counts: &MapCounts,
     policy: &Policy,
 ) -> Result<Option<Rule>, NoMemory>
     requires valid { IsValid state.now }
+    requires counted { IsCounted counts.now state.now.policies.items }
     ensures { IfOk result (λ fault. fault ≡ first_failing (command_rules state.now (CreatePolicy policy.now))) }
 {
     let Some(def) = def_of(state, &policy.service) else {
         return Ok(Some(Rule::E1));
     };
-    policy_fault(alloc, state, None, policy, def)
+    policy_fault(alloc, state, counts, None, policy, def)
 }
 
 fn update_policy_fault(
     alloc: Global,
     state: &State,
+    counts: &MapCounts,
     policy: &Policy,
 ) -> Result<Option<Rule>, NoMemory>
     requires valid { IsValid state.now }
+    requires counted { IsCounted counts.now state.now.policies.items }
     ensures { IfOk result (λ fault. fault ≡ first_failing (command_rules state.now (UpdatePolicy policy.now))) }
 {
     if !policy_exists(state, policy.id) {
@@ -145,7 +151,7 @@ fn update_policy_fault(
     let Some(def) = def_of(state, &policy.service) else {
         return Ok(Some(Rule::E1));
     };
-    policy_fault(alloc, state, Some(policy.id), policy, def)
+    policy_fault(alloc, state, counts, Some(policy.id), policy, def)
 }
 
 fn put_role_fault(alloc: Global, state: &State, role: &RoleRow) -> Result<Option<Rule>, NoMemory>
@@ -236,9 +242,11 @@ fn put_tags_fault(
 pub fn command_fault(
     alloc: Global,
     state: &State,
+    counts: &MapCounts,
     command: &AdminCommand,
 ) -> Result<Option<Rule>, NoMemory>
     requires valid { IsValid state.now }
+    requires counted { IsCounted counts.now state.now.policies.items }
     ensures { IfOk result (λ fault. fault ≡ first_failing (command_rules state.now command.now)) }
 {
     match command {
@@ -246,8 +254,8 @@ pub fn command_fault(
         AdminCommand::CreateService { service } => Ok(create_service_fault(state, service)),
         AdminCommand::UpdateService { service } => Ok(update_service_fault(state, service)),
         AdminCommand::DeleteService { name } => Ok(delete_service_fault(state, name)),
-        AdminCommand::CreatePolicy { policy } => create_policy_fault(alloc, state, policy),
-        AdminCommand::UpdatePolicy { policy } => update_policy_fault(alloc, state, policy),
+        AdminCommand::CreatePolicy { policy } => create_policy_fault(alloc, state, counts, policy),
+        AdminCommand::UpdatePolicy { policy } => update_policy_fault(alloc, state, counts, policy),
         AdminCommand::DeletePolicy { id } => Ok(unless(policy_exists(state, *id), Rule::E2)),
         AdminCommand::GetPolicy { id } => Ok(unless(policy_exists(state, *id), Rule::E2)),
         AdminCommand::ListPolicies { service } => {

@@ -1,5 +1,5 @@
 // The rules of policies that look at the state.
-ghost use Rattle.std.specs.Prelude.{◌≡◌, ◌&&◌, IfOk, None, option_map, true};
+ghost use Rattle.std.specs.Prelude.{◌≡◌, ◌&&◌, IfOk, None, option_map, false, true};
 ghost use Rattle.std.specs.List.{list_any};
 ghost use Rattle.rg_cond.specs.PolicyRules.{schedules_read};
 ghost use Rattle.rg_defs.specs.Rules.{def_fault};
@@ -7,14 +7,15 @@ ghost use Rattle.rg_policy.specs.declared.policy.Policy.{Policy};
 ghost use Rattle.rg_cmd.specs.Lookups.{has_id, policy_at};
 ghost use Rattle.rg_validate.specs.Failing.{first_failing};
 ghost use Rattle.rg_validate.specs.Policies.{has_no_twin, is_namesake, is_other, old_form, policy_name_is_new, policy_place_fits, policy_rules, policy_subjects_fit, stays_in, zone_fits};
-ghost use Rattle.rg_validate.specs.Steps.{form_rules, name_rules, setting_rules};
+ghost use Rattle.rg_validate.specs.Steps.{form_rules, name_rules, own_count, setting_rules};
+ghost use Rattle.rg_twins.specs.Counts.{IsCounted, has_print};
 ghost use Rattle.rg_twins.specs.Twins.{is_twin};
 ghost use Rattle.rg_validate.specs.Users.{time_zones_read};
 ghost use Rattle.rg_validate.specs.Valid.{IsValid};
 
 use crate::existence::has_id;
 use crate::lookups::is_tag_service;
-use rg_twins::{is_twin, same_place};
+use rg_twins::{MapCounts, is_twin, print_of, same_place};
 use rg_base::{NameIndex, NoMemory, PolicyId, is_name, same_text};
 use rg_cmd::{Rule, State};
 use rg_cond::{TimeZoneFault, TimeZones, conditions_compile, schedules_read};
@@ -82,6 +83,31 @@ pub fn policy_schedules_read(
     }
 }
 
+fn has_print(print: usize, policy: &Policy) -> u8
+    ensures { result ≡ has_print print policy.now }
+{
+    if print == print_of(policy) { 1 } else { 0 }
+}
+
+/// How many of those with the print the old form is.
+fn own_count(old: Option<&Policy>, print: usize) -> u8
+    ensures { result ≡ own_count (option_map (λ p. p.now) old.entry) print }
+{
+    match old {
+        Some(old) => has_print(print, old),
+        None => 0,
+    }
+}
+
+/// Whether the counts show that no other policy has the same maps.
+fn is_alone(state: &State, counts: &MapCounts, updated: Option<PolicyId>, policy: &Policy) -> bool
+    requires { IsCounted counts.now state.now.policies.items }
+    ensures { result ≡ true → list_any (λ (q : Policy). is_other updated q && is_twin policy.now q) state.now.policies.items ≡ false }
+{
+    let print = print_of(policy);
+    counts.count_of(print) <= own_count(old_form(state, updated), print)
+}
+
 fn some_twin(
     alloc: Global,
     policies: &[Policy],
@@ -99,17 +125,19 @@ fn some_twin(
 }
 
 /// Whether no other enabled policy of the service, zone, type, priority and schedules has the same maps, where the
-/// policy is enabled (rule V13).
+/// policy is enabled (rule V13). The policies are looked at where the counts don't tell.
 #[tactic(auto, unfolding(crate::specs::Policies::has_no_twin))]
 pub fn has_no_twin(
     alloc: Global,
     state: &State,
+    counts: &MapCounts,
     updated: Option<PolicyId>,
     policy: &Policy,
 ) -> Result<bool, NoMemory>
+    requires { IsCounted counts.now state.now.policies.items }
     ensures { IfOk result (λ single. single ≡ has_no_twin state.now updated policy.now) }
 {
-    if !policy.enabled {
+    if !policy.enabled || is_alone(state, counts, updated, policy) {
         return Ok(true);
     }
     Ok(!some_twin(alloc, state.policies.as_slice(), updated, policy)?)
@@ -215,11 +243,13 @@ fn form_fault(alloc: Global, policy: &Policy, def: &ServiceDef) -> Result<Option
 fn setting_fault(
     alloc: Global,
     state: &State,
+    counts: &MapCounts,
     updated: Option<PolicyId>,
     policy: &Policy,
     def: &ServiceDef,
 ) -> Result<Option<Rule>, NoMemory>
     requires valid { IsValid state.now }
+    requires counted { IsCounted counts.now state.now.policies.items }
     ensures { IfOk result (λ fault. fault ≡ first_failing (setting_rules state.now updated policy.now def.now)) }
 {
     if !policy_subjects_fit(alloc, state, policy)? {
@@ -231,7 +261,7 @@ fn setting_fault(
     if !policy_schedules_read(alloc, state, policy)? {
         return Ok(Some(Rule::V12));
     }
-    if !has_no_twin(alloc, state, updated, policy)? {
+    if !has_no_twin(alloc, state, counts, updated, policy)? {
         return Ok(Some(Rule::V13));
     }
     if !policy_place_fits(state, updated, policy) {
@@ -245,11 +275,13 @@ fn setting_fault(
 pub fn policy_fault(
     alloc: Global,
     state: &State,
+    counts: &MapCounts,
     updated: Option<PolicyId>,
     policy: &Policy,
     def: &ServiceDef,
 ) -> Result<Option<Rule>, NoMemory>
     requires valid { IsValid state.now }
+    requires counted { IsCounted counts.now state.now.policies.items }
     requires lawful { def_fault def.now ≡ None }
     ensures { IfOk result (λ fault. fault ≡ first_failing (policy_rules state.now updated policy.now def.now)) }
 {
@@ -259,5 +291,5 @@ pub fn policy_fault(
     if let Some(rule) = form_fault(alloc, policy, def)? {
         return Ok(Some(rule));
     }
-    setting_fault(alloc, state, updated, policy, def)
+    setting_fault(alloc, state, counts, updated, policy, def)
 }

@@ -1,5 +1,6 @@
 // The first rule that a command breaks.
 ghost use Rattle.std.specs.Prelude.{◌≡◌, IfOk};
+ghost use Rattle.rg_twins.specs.Counts.{IsCounted};
 ghost use Rattle.rg_validate.specs.Failing.{first_failing};
 ghost use Rattle.rg_validate.specs.Rules.{first_fault, limit_rules, only_reads};
 ghost use Rattle.rg_validate.specs.Valid.{IsValid};
@@ -7,6 +8,7 @@ ghost use Rattle.rg_validate.specs.Valid.{IsValid};
 use crate::commands::command_fault;
 use rg_base::NoMemory;
 use rg_cmd::{AdminCommand, Ask, Rule, State};
+use rg_twins::MapCounts;
 use std::alloc::Global;
 
 /// The most entries that a history has before changes are refused.
@@ -40,13 +42,20 @@ fn limit_fault(state: &State, command: &AdminCommand) -> Option<Rule>
 }
 
 /// The first rule that the command breaks in the state, up to the rules of authority: L1 where it is asked, then the
-/// command's rules in order; None where all hold. It changes nothing.
-pub fn first_fault(alloc: Global, state: &State, ask: &Ask) -> Result<Option<Rule>, NoMemory>
+/// command's rules in order; None where all hold. It changes nothing. The counts, which are those of the state's policies,
+/// spare most looks at their maps.
+pub fn first_fault(
+    alloc: Global,
+    state: &State,
+    counts: &MapCounts,
+    ask: &Ask,
+) -> Result<Option<Rule>, NoMemory>
     requires valid { IsValid state.now }
+    requires counted { IsCounted counts.now state.now.policies.items }
     ensures first { IfOk result (λ fault. fault ≡ first_fault state.now ask.now) }
 {
     if let Some(rule) = limit_fault(state, &ask.command) {
         return Ok(Some(rule));
     }
-    command_fault(alloc, state, &ask.command)
+    command_fault(alloc, state, counts, &ask.command)
 }
