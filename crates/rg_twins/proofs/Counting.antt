@@ -1,5 +1,5 @@
 -- What the counts tell, and how they follow a list of policies.
-use Rattle.std.proofs.Common.{◌≡◌, ◌≤◌, ◌<◌, ◌+◌, ◌-◌, ◌==◌, ◌⊎◌, ℕ, zero, suc, Bool, true, false, cond, min, List, [], ◌∷◌, slice_set, Contains, arith, refl, ap, sym, ◌∙◌, inl, inr}
+use Rattle.std.proofs.Common.{◌≡◌, ◌≤◌, ◌<◌, ◌+◌, ◌-◌, ◌==◌, ◌⊎◌, ℕ, zero, suc, Bool, true, false, cond, List, [], ◌∷◌, slice_set, Contains, arith, refl, ap, sym, ◌∙◌, inl, inr}
 use Rattle.std.specs.List.{sum_by}
 use Rattle.std.proofs.lemmas.Bool.{false≢true}
 use Rattle.std.proofs.lemmas.Bool.Decides.{nat_tests}
@@ -9,8 +9,6 @@ use Rattle.rg_policy.specs.Maps.{maps_of}
 use Rattle.rg_policy.specs.declared.policy.Policy.{Policy}
 use Rattle.rg_twins.specs.Counts.{IsCounted, count_of, has_print, lowered, lowered_at, raised, raised_at}
 use Rattle.rg_twins.specs.Prints.{print_of}
-use Rattle.rg_twins.specs.Twins.{same_maps}
-use Rattle.rg_twins.proofs.OnePrint.{one_print}
 
 -- ---- what they tell
 
