@@ -1,16 +1,15 @@
 -- V13 where no other policy has the print of the maps.
-use Rattle.std.proofs.Common.{arith, ◌≡◌, ◌≤◌, ◌&&◌, ℕ, nat_le, Bool, true, false, not, List, Option, Some, None, Contains, refl, sym, ap, ◌∙◌, subst}
-use Rattle.std.specs.List.{find, list_any}
+use Rattle.std.proofs.Common.{arith, ◌≡◌, ◌≤◌, ◌&&◌, ℕ, nat_le, Bool, true, false, not, List, Option, Some, None, Contains, refl, ap, subst}
+use Rattle.std.specs.List.{list_any}
 use Rattle.std.proofs.lemmas.Bool.{and_parts, false≢true}
 use Rattle.std.proofs.lemmas.Bool.Decides.{nat_tests}
-use Rattle.std.proofs.lemmas.Option.{none-some}
 use Rattle.rg_base.proofs.Lists.{any_holds, find_contained}
 use Rattle.rg_base.specs.declared.numbers.PolicyId.{PolicyId}
 use Rattle.rg_policy.specs.Maps.{maps_of}
 use Rattle.rg_policy.specs.declared.policy.Policy.{Policy}
 use Rattle.rg_cmd.specs.Lookups.{has_id, policy_at}
 use Rattle.rg_cmd.specs.declared.state.State.{State}
-use Rattle.rg_twins.specs.Counts.{IsCounted, count_of, has_print}
+use Rattle.rg_twins.specs.Counts.{IsCounted, count_of}
 use Rattle.rg_twins.specs.Prints.{print_of}
 use Rattle.rg_twins.specs.Twins.{is_twin, same_kind, same_maps}
 use Rattle.rg_twins.proofs.Counting.{none_other, none_same}

@@ -15,7 +15,6 @@ ghost use Rattle.rg_validate.specs.Valid.{IsValid};
 
 use crate::existence::has_id;
 use crate::lookups::is_tag_service;
-use rg_twins::{MapCounts, is_twin, print_of, same_place};
 use rg_base::{NameIndex, NoMemory, PolicyId, is_name, same_text};
 use rg_cmd::{Rule, State};
 use rg_cond::{TimeZoneFault, TimeZones, conditions_compile, schedules_read};
@@ -23,6 +22,7 @@ use rg_defs::{Paths, ServiceDef};
 use rg_effect::{entries_fit, lists_fit, outcomes_fit, priority_fits, subjects_fit, type_fits};
 use rg_policy::Policy;
 use rg_resmatch::{policy_levels_fit, policy_values_fit};
+use rg_twins::{MapCounts, is_twin, print_of, same_place};
 use rg_zones::policy_zone_fits;
 use std::alloc::Global;
 
