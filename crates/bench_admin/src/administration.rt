@@ -147,7 +147,7 @@ impl Works {
 
     /// 1 where the ask breaks no rule, else 0.
     fn is_faultless(&self, alloc: Global, ask: &Ask) -> Option<u32> {
-        match first_fault(alloc, self.admin.state(), ask) {
+        match first_fault(alloc, self.admin.state(), self.admin.counts(), ask) {
             Ok(fault) => Some(u32::from(fault.is_none())),
             Err(_) => None,
         }

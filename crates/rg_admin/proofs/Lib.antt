@@ -1,9 +1,10 @@
+pub mod Counted
 pub mod Firsts
-pub mod Readying
+pub mod Placing
+pub mod Putting
 pub mod Reaching
+pub mod Readying
+pub mod Serving
 pub mod Settling
 pub mod Stepping
 pub mod Tightness
-pub mod Placing
-pub mod Putting
-pub mod Serving

@@ -1,9 +1,10 @@
 // The administration machine.
-ghost use Rattle.std.specs.Prelude.{◌≡◌, IfOk, OnErr, OnOk, Some, true, vec_capacity, vec_len};
+ghost use Rattle.std.specs.Prelude.{◌≡◌, [], IfOk, OnErr, OnOk, Some, true, vec_capacity, vec_len};
 ghost use Rattle.std.specs.List.{list_any};
 ghost use Rattle.std.specs.Str.{chars};
 ghost use Rattle.rg_facts.specs.Sound.{sound};
 ghost use Rattle.rg_cmd.specs.Lookups.{is_service};
+ghost use Rattle.rg_twins.specs.Counts.{IsCounted};
 ghost use Rattle.rg_machine.specs.Changes.{after_command};
 ghost use Rattle.rg_machine.specs.Starts.{IsStart};
 ghost use Rattle.rg_machine.specs.Steps.{counted, fault, step};
@@ -16,6 +17,7 @@ ghost use Rattle.rg_admin.specs.Reached.{IsPacked};
 ghost use Rattle.rg_admin.specs.Stepped.{IsAccepted, IsMade, IsStep, administration_in};
 
 use crate::change::{change, kept_is_tight};
+use crate::counting::{count_step, shift_of};
 use crate::logs::ServiceLog;
 use crate::planning::{Due, plan, settle};
 use crate::reply::reply_of;
@@ -26,6 +28,7 @@ use rg_delegate::authority_fault;
 use rg_facts::Facts;
 use rg_machine::{states_are_kept, views_are_sound};
 use rg_turn::Machine;
+use rg_twins::MapCounts;
 use rg_validate::first_fault;
 use std::alloc::Global;
 use std::marker::Model;
@@ -37,6 +40,8 @@ const MOST_ENTRIES: u64 = 1 << 62;
 #[derive(Drop)]
 pub struct Admin {
     held: Held,
+    // Of the state's policies.
+    counts: MapCounts,
 }
 
 /// A state with the logs of its services.
@@ -48,6 +53,7 @@ struct Held {
 
 impl Model for Admin {
     ghost use Rattle.rg_machine.specs.Logs.{Administration};
+    ghost use Rattle.rg_twins.specs.Counts.{IsCounted};
     ghost use Rattle.rg_admin.specs.Stepped.{administration_in};
     ghost use Rattle.rg_admin.specs.Reached.{IsReached};
 
@@ -55,15 +61,21 @@ impl Model for Admin {
 
     ghost view = { λ a. administration_in a.held };
 
-    ghost invariant = { λ a. IsReached (administration_in a.held) };
+    ghost invariant = { λ a. IsReached (administration_in a.held) × IsCounted a.counts a.held.state.policies.items };
 }
 
 /// The first rule that the ask breaks.
-fn fault(alloc: Global, state: &State, ask: &Ask) -> Result<Option<Rule>, NoMemory>
-    requires { IsKept state.now }
+fn fault(
+    alloc: Global,
+    state: &State,
+    counts: &MapCounts,
+    ask: &Ask,
+) -> Result<Option<Rule>, NoMemory>
+    requires kept { IsKept state.now }
+    requires counted { IsCounted counts.now state.now.policies.items }
     ensures { IfOk result (λ f. f ≡ fault state.now ask.now) }
 {
-    match first_fault(alloc, state, ask)? {
+    match first_fault(alloc, state, counts, ask)? {
         Some(rule) => Ok(Some(rule)),
         None => authority_fault(alloc, state, ask),
     }
@@ -137,13 +149,19 @@ fn answer(alloc: Global, held: &mut Held, ask: Ask) -> Result<AdminReply, NoMemo
 }
 
 /// Answers an ask.
-fn step_held(alloc: Global, held: &mut Held, ask: Ask) -> Result<AdminReply, NoMemory>
+fn step_held(
+    alloc: Global,
+    held: &mut Held,
+    counts: &MapCounts,
+    ask: Ask,
+) -> Result<AdminReply, NoMemory>
     requires kept { IsKept held.old.state }
+    requires counted { IsCounted counts.now held.old.state.policies.items }
     requires packed { IsPacked held.old.state }
     ensures ok { IfOk result (IsStep (administration_in held.old) ask (administration_in held.new)) }
     ensures err { OnErr result (administration_in held.new ≡ administration_in held.old) }
 {
-    match fault(alloc, &held.state, &ask) {
+    match fault(alloc, &held.state, counts, &ask) {
         Ok(None) => answer(alloc, held, ask),
         Ok(Some(rule)) => {
             drop(ask);
@@ -159,13 +177,15 @@ fn step_held(alloc: Global, held: &mut Held, ask: Ask) -> Result<AdminReply, NoM
 
 impl Admin {
     /// The administration as it starts.
-    pub(crate) fn opened(state: State, logs: Vec<ServiceLog>) -> Admin
+    pub(crate) fn opened(state: State, logs: Vec<ServiceLog>, counts: MapCounts) -> Admin
+        requires counted { IsCounted counts [] }
         requires starts { IsStart (administration_of state logs.items) }
         requires packed { IsPacked state }
         ensures { result ≡ administration_of state logs.items }
     {
         Admin {
             held: Held { state, logs },
+            counts,
         }
     }
 
@@ -176,6 +196,13 @@ impl Admin {
     {
         states_are_kept();
         &self.held.state
+    }
+
+    /// How many of its policies have each print.
+    pub fn counts(&self) -> &MapCounts
+        ensures { IsCounted result.now self.now.state.policies.items }
+    {
+        &self.counts
     }
 
     /// The facts that the service's plugin sees.
@@ -213,7 +240,14 @@ impl Admin {
         ensures err { OnErr result (self.new ≡ self.old) }
     {
         states_are_kept();
-        step_held(alloc, &mut self.held, ask)
+        let shift = shift_of(&self.held.state, &ask.command);
+        match step_held(alloc, &mut self.held, &self.counts, ask) {
+            Ok(reply) => {
+                count_step(&mut self.counts, shift, &reply);
+                Ok(reply)
+            }
+            Err(refused) => Err(refused),
+        }
     }
 }
 

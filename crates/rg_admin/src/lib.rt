@@ -3,6 +3,7 @@
 
 mod admin;
 mod change;
+mod counting;
 mod download;
 mod lists;
 mod logs;

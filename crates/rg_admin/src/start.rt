@@ -1,9 +1,10 @@
 // How an administration starts from a configuration.
-ghost use Rattle.std.specs.Prelude.{◌≡◌, MatchResult, IfErr, IfOk, None, OnOk, filter, map, not, true};
+ghost use Rattle.std.specs.Prelude.{◌≡◌, [], MatchResult, IfErr, IfOk, None, OnOk, filter, map, not, true};
 ghost use Rattle.std.specs.Str.{bytes_eq};
 ghost use Rattle.rg_defs.specs.Rules.{tag_name};
 ghost use Rattle.rg_cmd.specs.declared.config.Config.{Config as Configuration};
 ghost use Rattle.rg_cmd.specs.declared.state.ServiceRow.{ServiceRow as Row};
+ghost use Rattle.rg_twins.specs.Counts.{IsCounted};
 ghost use Rattle.rg_validate.specs.Failing.{first_failing};
 ghost use Rattle.rg_machine.specs.Changes.{after_command};
 ghost use Rattle.rg_machine.specs.Starts.{IsStart, new_logs};
@@ -19,6 +20,7 @@ use crate::logs::ServiceLog;
 use rg_base::{NoMemory, Seq, Text, Version, same_text};
 use rg_cmd::{AdminCommand, Config, Rule, ServiceRow, State, UserRow};
 use rg_defs::{ServiceDef, tag_name};
+use rg_twins::MapCounts;
 use rg_validate::{command_fault, plugin_fits, service_exists, time_zones_read};
 use rg_zones::zones_apart_by_pairs;
 use std::alloc::Global;
@@ -88,15 +90,21 @@ impl Configured for UserRow {
 }
 
 /// Puts one row. No policy, zone or tag row is there that C1 could ask about.
-fn put(alloc: Global, state: &mut State, command: AdminCommand) -> Result<(), StartFault>
+fn put(
+    alloc: Global,
+    state: &mut State,
+    counts: &MapCounts,
+    command: AdminCommand,
+) -> Result<(), StartFault>
     requires starting { IsStarting state.old }
+    requires counted { IsCounted counts.now [] }
     requires puts { is_put command ≡ true }
     ensures ok { OnOk result ((first_failing (start_rules state.old command) ≡ None) × (state.new ≡ after_command state.old command)) }
     ensures starting { OnOk result (IsStarting state.new) }
     ensures err { IfErr result (λ fault. IsCause fault (first_failing (start_rules state.old command))) }
 {
     zones_apart_by_pairs();
-    match command_fault(alloc, state, &command) {
+    match command_fault(alloc, state, counts, &command) {
         Ok(None) => match change(alloc, state, command) {
             Ok(()) => Ok(()),
             Err(_) => Err(StartFault::NoMemory),
@@ -116,15 +124,17 @@ fn put(alloc: Global, state: &mut State, command: AdminCommand) -> Result<(), St
 fn put_all<T: Configured + Drop>(
     alloc: Global,
     state: &mut State,
+    counts: &MapCounts,
     rows: Vec<T>,
 ) -> Result<(), StartFault>
-    requires { IsStarting state.old }
+    requires starting { IsStarting state.old }
+    requires counted { IsCounted counts.now [] }
     ensures ok { OnOk result (IsPut state.old (map T.put_by rows.items) state.new) }
     ensures starting { OnOk result (IsStarting state.new) }
     ensures err { IfErr result (λ fault. IsCause fault (put_fault state.old (map T.put_by rows.items))) }
 {
     for row in rows {
-        if let Err(fault) = put(alloc, state, row.command()) {
+        if let Err(fault) = put(alloc, state, counts, row.command()) {
             return Err(fault);
         }
     }
@@ -204,31 +214,34 @@ fn new_logs(alloc: Global, services: &[ServiceRow]) -> Result<Vec<ServiceLog>, N
 fn put_rows(
     alloc: Global,
     state: &mut State,
+    counts: &MapCounts,
     defs: Vec<ServiceDef>,
     tags: Vec<ServiceRow>,
     others: Vec<ServiceRow>,
     users: Vec<UserRow>,
 ) -> Result<(), StartFault>
-    requires { IsStarting state.old }
+    requires starting { IsStarting state.old }
+    requires counted { IsCounted counts.now [] }
     ensures { MatchResult result (λ _. IsPut state.old (rows_put defs.items tags.items others.items users.items) state.new × IsStarting state.new) (λ fault. IsCause fault (put_fault state.old (rows_put defs.items tags.items others.items users.items))) }
 {
-    if let Err(fault) = put_all(alloc, state, defs) {
+    if let Err(fault) = put_all(alloc, state, counts, defs) {
         return Err(fault);
     }
-    if let Err(fault) = put_all(alloc, state, tags) {
+    if let Err(fault) = put_all(alloc, state, counts, tags) {
         return Err(fault);
     }
-    if let Err(fault) = put_all(alloc, state, others) {
+    if let Err(fault) = put_all(alloc, state, counts, others) {
         return Err(fault);
     }
-    if let Err(fault) = put_all(alloc, state, users) {
+    if let Err(fault) = put_all(alloc, state, counts, users) {
         return Err(fault);
     }
     Ok(())
 }
 
 /// The state once all rows of the configuration are put.
-fn put_config(alloc: Global, config: Config) -> Result<State, StartFault>
+fn put_config(alloc: Global, counts: &MapCounts, config: Config) -> Result<State, StartFault>
+    requires { IsCounted counts.now [] }
     ensures { MatchResult result (λ state. IsPutWhole config state) (λ fault. IsCause fault (put_fault (bare_state config) (puts config))) }
 {
     let Config {
@@ -247,6 +260,7 @@ fn put_config(alloc: Global, config: Config) -> Result<State, StartFault>
     if let Err(fault) = put_rows(
         alloc,
         &mut state,
+        counts,
         defs.into_vec(),
         tags,
         others,
@@ -270,11 +284,13 @@ fn with_logs(alloc: Global, state: State) -> Result<(State, Vec<ServiceLog>), No
 /// The state and the logs of the administration that the configuration starts.
 pub(crate) fn start_parts(
     alloc: Global,
+    counts: &MapCounts,
     config: Config,
 ) -> Result<(State, Vec<ServiceLog>), StartFault>
+    requires { IsCounted counts.now [] }
     ensures { MatchResult result (λ parts. (start_fault config ≡ None) × (administration_of parts.0 parts.1.items ≡ started config) × IsStart (administration_of parts.0 parts.1.items) × IsPacked parts.0) (λ fault. IsCause fault (start_fault config)) }
 {
-    let state = match put_config(alloc, config) {
+    let state = match put_config(alloc, counts, config) {
         Ok(state) => state,
         Err(fault) => return Err(fault),
     };
@@ -298,9 +314,16 @@ impl Admin {
         ensures starts { IfOk result IsStart }
         ensures err { IfErr result (λ fault. IsCause fault (start_fault config)) }
     {
-        match start_parts(alloc, config) {
-            Ok((state, logs)) => Ok(Admin::opened(state, logs)),
-            Err(fault) => Err(fault),
+        let Ok(counts) = MapCounts::new(alloc) else {
+            drop(config);
+            return Err(StartFault::NoMemory);
+        };
+        match start_parts(alloc, &counts, config) {
+            Ok((state, logs)) => Ok(Admin::opened(state, logs, counts)),
+            Err(fault) => {
+                drop(counts);
+                Err(fault)
+            }
         }
     }
 }

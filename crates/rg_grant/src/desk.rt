@@ -22,7 +22,7 @@ fn answer(alloc: Global, admin: &mut Admin, ask: GrantAsk) -> Result<AdminReply,
     ensures err { OnErr result (admin.new ≡ admin.old) }
     ensures kept { IsKept admin.old.state }
 {
-    let plain = plan(alloc, admin.state(), ask)?;
+    let plain = plan(alloc, admin.state(), admin.counts(), ask)?;
     admin.step(alloc, plain)
 }
 

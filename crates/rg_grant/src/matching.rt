@@ -3,6 +3,7 @@ ghost use Rattle.std.specs.Prelude.{◌≡◌, IfOk, option_map};
 ghost use Rattle.std.specs.List.{list_all};
 ghost use Rattle.rg_policy.specs.Maps.{maps_of};
 ghost use Rattle.rg_policy.specs.declared.policy.ResourceMap.{ResourceMap};
+ghost use Rattle.rg_twins.specs.Counts.{IsCounted};
 ghost use Rattle.rg_twins.specs.Twins.{same_levels, same_maps};
 ghost use Rattle.rg_grant.specs.Planning.{is_for, is_of_kind, map_of, policy_for};
 
@@ -10,7 +11,7 @@ use crate::row::GrantRow;
 use rg_base::{NoMemory, same_text};
 use rg_cmd::State;
 use rg_policy::{ACCESS_POLICY, NORMAL, Policy, ResourceMap};
-use rg_twins::same_levels;
+use rg_twins::{MapCounts, print_of_map, same_levels};
 use std::alloc::Global;
 
 /// Whether each of the maps has the row's levels, flags and values.
@@ -55,14 +56,21 @@ fn is_for(alloc: Global, row: &GrantRow, policy: &Policy) -> Result<bool, NoMemo
     same_maps(alloc, row, policy)
 }
 
-/// The policy of the row, if there is one. Policies that differ in a level, a flag or a first value take no memory.
+/// The policy of the row, if there is one. The policies are looked at where the counts show some with the row's print, and
+/// those that differ in a level, a flag or a first value take no memory.
+#[tactic(auto, using(crate::proofs::NoneFor::none_counted))]
 pub(crate) fn policy_for<'a>(
     alloc: Global,
     state: &'a State,
+    counts: &MapCounts,
     row: &GrantRow,
 ) -> Result<Option<&'a Policy>, NoMemory>
+    requires { IsCounted counts.now state.now.policies.items }
     ensures { IfOk result (λ found. option_map (λ p. p.now) found ≡ policy_for state.now row.now) }
 {
+    if counts.count_of(print_of_map(&row.resources)) == 0 {
+        return Ok(None);
+    }
     for policy in state.policies.as_slice() {
         if is_for(alloc, row, policy)? {
             return Ok(Some(policy));

@@ -1,5 +1,6 @@
 // Which command does what is asked.
 ghost use Rattle.std.specs.Prelude.{◌≡◌, IfOk};
+ghost use Rattle.rg_twins.specs.Counts.{IsCounted};
 ghost use Rattle.rg_grant.specs.Planning.{grant_of, planned, policy_for, revoke_of};
 
 use crate::ask::GrantAsk;
@@ -8,13 +9,20 @@ use crate::matching::policy_for;
 use crate::row::GrantRow;
 use rg_base::NoMemory;
 use rg_cmd::{AdminCommand, Ask, State};
+use rg_twins::MapCounts;
 use std::alloc::Global;
 
 /// The command of a grant.
-fn grant_of(alloc: Global, state: &State, row: &GrantRow) -> Result<AdminCommand, NoMemory>
+fn grant_of(
+    alloc: Global,
+    state: &State,
+    counts: &MapCounts,
+    row: &GrantRow,
+) -> Result<AdminCommand, NoMemory>
+    requires { IsCounted counts.now state.now.policies.items }
     ensures { IfOk result (λ command. command ≡ grant_of state.now row.now (policy_for state.now row.now)) }
 {
-    match policy_for(alloc, state, row)? {
+    match policy_for(alloc, state, counts, row)? {
         Some(policy) => Ok(AdminCommand::UpdatePolicy {
             policy: granted_form(alloc, row, policy)?,
         }),
@@ -25,10 +33,16 @@ fn grant_of(alloc: Global, state: &State, row: &GrantRow) -> Result<AdminCommand
 }
 
 /// The command of a revoke.
-fn revoke_of(alloc: Global, state: &State, row: &GrantRow) -> Result<AdminCommand, NoMemory>
+fn revoke_of(
+    alloc: Global,
+    state: &State,
+    counts: &MapCounts,
+    row: &GrantRow,
+) -> Result<AdminCommand, NoMemory>
+    requires { IsCounted counts.now state.now.policies.items }
     ensures { IfOk result (λ command. command ≡ revoke_of state.now row.now (policy_for state.now row.now)) }
 {
-    match policy_for(alloc, state, row)? {
+    match policy_for(alloc, state, counts, row)? {
         Some(policy) => Ok(AdminCommand::UpdatePolicy {
             policy: revoked_form(alloc, row, policy)?,
         }),
@@ -40,17 +54,23 @@ fn revoke_of(alloc: Global, state: &State, row: &GrantRow) -> Result<AdminComman
 
 /// What is asked of the administration.
 #[tactic(auto, unfolding(crate::specs::Planning::planned))]
-pub(crate) fn plan(alloc: Global, state: &State, ask: GrantAsk) -> Result<Ask, NoMemory>
+pub(crate) fn plan(
+    alloc: Global,
+    state: &State,
+    counts: &MapCounts,
+    ask: GrantAsk,
+) -> Result<Ask, NoMemory>
+    requires { IsCounted counts.now state.now.policies.items }
     ensures { IfOk result (λ plain. plain ≡ planned state.now ask) }
 {
     match ask {
         GrantAsk::Plain(plain) => Ok(plain),
         GrantAsk::Grant { actor, row } => {
-            let command = grant_of(alloc, state, &row)?;
+            let command = grant_of(alloc, state, counts, &row)?;
             Ok(Ask { actor, command })
         }
         GrantAsk::Revoke { actor, row } => {
-            let command = revoke_of(alloc, state, &row)?;
+            let command = revoke_of(alloc, state, counts, &row)?;
             Ok(Ask { actor, command })
         }
     }

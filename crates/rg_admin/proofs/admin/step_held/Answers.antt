@@ -2,8 +2,11 @@ use Rattle.std.proofs.Common.{refl, sym, ◌∙◌}
 use Rattle.rg_admin.proofs.Stepping.{refused_step, stepped_on}
 use Rattle.rg_admin.proofs.admin.step_held.Goals as goal
 
-pub fault-requires : goal.fault-requires
-fault-requires c = c.requires.kept
+pub fault-requires-clause-kept : goal.fault-requires-clause-kept
+fault-requires-clause-kept c = c.requires.kept
+
+pub fault-requires-clause-counted : goal.fault-requires-clause-counted
+fault-requires-clause-counted c = c.requires.counted
 
 pub answer-requires-clause-kept : goal.answer-requires-clause-kept
 answer-requires-clause-kept c = c.requires.kept

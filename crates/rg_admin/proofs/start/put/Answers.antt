@@ -1,10 +1,16 @@
 use Rattle.std.proofs.Common.{sym, ◌∙◌, subst}
+use Rattle.rg_base.specs.Listed.{Listed}
+use Rattle.rg_policy.specs.declared.policy.Policy.{Policy}
+use Rattle.rg_twins.specs.Counts.{IsCounted}
 use Rattle.rg_admin.specs.Puts.{IsStarting}
 use Rattle.rg_admin.proofs.Putting.{put_starts, same_rules, starting_tight}
 use Rattle.rg_admin.proofs.start.put.Goals as goal
 
-pub command_fault-requires : goal.command_fault-requires
-command_fault-requires c = record { valid = c.requires.starting.valid }
+pub command_fault-requires-clause-valid : goal.command_fault-requires-clause-valid
+command_fault-requires-clause-valid c = c.requires.starting.valid
+
+pub command_fault-requires-clause-counted : goal.command_fault-requires-clause-counted
+command_fault-requires-clause-counted c = subst (λ (l : Listed Policy). IsCounted c.args.counts.now l.items) (sym c.requires.starting.policies) c.requires.counted
 
 pub change-requires : goal.change-requires
 change-requires c = starting_tight c.args.state.now c.requires.starting

@@ -11,7 +11,7 @@ no_rows (x ∷ xs) none = absurd (omega (arith, none))
 pub loop-row-init : goal.loop-row-init
 loop-row-init g c =
     let all = c.into_iter-row-iterator.ensures.into_iter_gives.0 in record {
-      starting = c.requires;
+      starting = c.requires.starting;
       fault = ap (λ xs. put_fault c.args.state.now (map g.T.Configured.put_by xs)) (sym all);
       led = ap (λ xs. put_all c.args.state.now (map g.T.Configured.put_by xs)) (sym all);
     }

@@ -21,8 +21,8 @@ same-users c = refl
 pub same-time_zones : goal.same-time_zones
 same-time_zones c = refl
 
-pub put_rows-requires : goal.put_rows-requires
-put_rows-requires c = subst IsStarting (sym (c.bare_state-state.ensures c.args.config refl refl)) (bare_starts c.args.config)
+pub put_rows-requires-clause-starting : goal.put_rows-requires-clause-starting
+put_rows-requires-clause-starting c = subst IsStarting (sym (c.bare_state-state.ensures c.args.config refl refl)) (bare_starts c.args.config)
 
 pub returns-in-Err-put_rows : goal.returns-in-Err-put_rows
 returns-in-Err-put_rows c =

@@ -4,17 +4,17 @@ use Rattle.rg_cmd.specs.declared.ask.AdminCommand.TheVariants.{CreateService, Pu
 use Rattle.rg_admin.proofs.Putting.{fails_first, fails_later, put_both}
 use Rattle.rg_admin.proofs.start.put_rows.Goals as goal
 
-pub put_all-requires : goal.put_all-requires
-put_all-requires c = c.requires
+pub put_all-requires-clause-starting : goal.put_all-requires-clause-starting
+put_all-requires-clause-starting c = c.requires.starting
 
-pub put_all-requires-2 : goal.put_all-requires-2
-put_all-requires-2 c = c.in_default.ensures.starting
+pub put_all-requires-2-clause-starting : goal.put_all-requires-2-clause-starting
+put_all-requires-2-clause-starting c = c.in_default.ensures.starting
 
-pub put_all-requires-3 : goal.put_all-requires-3
-put_all-requires-3 c = c.in_default-put_all.ensures.starting
+pub put_all-requires-3-clause-starting : goal.put_all-requires-3-clause-starting
+put_all-requires-3-clause-starting c = c.in_default-put_all.ensures.starting
 
-pub put_all-requires-4 : goal.put_all-requires-4
-put_all-requires-4 c = c.in_default-put_all-2.ensures.starting
+pub put_all-requires-4-clause-starting : goal.put_all-requires-4-clause-starting
+put_all-requires-4-clause-starting c = c.in_default-put_all-2.ensures.starting
 
 pub returns-in-Err : goal.returns-in-Err
 returns-in-Err c =

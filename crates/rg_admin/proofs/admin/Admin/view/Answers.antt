@@ -13,5 +13,5 @@ pub unreachable-requires : goal.unreachable-requires
 unreachable-requires c =
     let none : view (administration_in c.self.inside.held) (chars c.args.service.now) ≡ None = search rules in
     let there = subst (λ (a : Administration). list_any (is_service (chars c.args.service.now)) a.state.services.items ≡ true) (sym c.self.view_is) c.requires in
-    let seen = reached_viewed (administration_in c.self.inside.held) c.self.invariant (chars c.args.service.now) there in
+    let seen = reached_viewed (administration_in c.self.inside.held) c.self.invariant.0 (chars c.args.service.now) there in
     none-some seen.0 (sym none ∙ seen.1)
