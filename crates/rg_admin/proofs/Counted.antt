@@ -12,7 +12,7 @@ use Rattle.rg_policy.specs.Maps.{maps_of}
 use Rattle.rg_policy.specs.declared.policy.Policy.{Policy}
 use Rattle.rg_twins.specs.Counts.{IsCounted, has_print, lowered_at, raised_at}
 use Rattle.rg_twins.specs.Prints.{print_of}
-use Rattle.rg_twins.proofs.Counting.{counted_less, counted_more}
+use Rattle.rg_twins.proofs.Counting.{counted_less, counted_more, sum_next}
 use Rattle.rg_cmd.specs.Lists.{put, without}
 use Rattle.rg_cmd.specs.Lookups.{has_id, policy_at}
 use Rattle.rg_cmd.specs.declared.ask.AdminCommand.{AdminCommand}
@@ -33,19 +33,16 @@ use Rattle.rg_admin.specs.Stepped.{IsStep}
 -- ---- sums over a list that is changed
 
 module _ {X : Type 0} (f : X → ℕ) (same : X → Bool) where
-  sum_next : (y : X) (xs : List X) → sum_by f (y ∷ xs) ≡ f y + sum_by f xs
-  sum_next y xs = let parts : sum_by f (y ∷ xs) ≡ sum_by f (y ∷ []) + sum_by f xs = sum_by-append f (y ∷ []) xs in omega (arith, parts)
-
   sum_more : (xs : List X) (x : X) → sum_by f (xs ++ x ∷ []) ≡ sum_by f xs + f x
-  sum_more xs x = let parts : sum_by f (xs ++ x ∷ []) ≡ sum_by f xs + sum_by f (x ∷ []) = sum_by-append f xs (x ∷ []) in omega (arith, parts, sum_next x [])
+  sum_more xs x = let parts : sum_by f (xs ++ x ∷ []) ≡ sum_by f xs + sum_by f (x ∷ []) = sum_by-append f xs (x ∷ []) in omega (arith, parts, sum_next f x [])
 
   sum_left : (xs : List X) → sum_by f (without same xs) ≤ sum_by f xs
   sum_left [] = omega arith
   sum_left (y ∷ xs) = at (same y) (sum_left xs)
     where
       at : (b : Bool) → sum_by f (without same xs) ≤ sum_by f xs → sum_by f (cond (not b) (y ∷ without same xs) (without same xs)) ≤ sum_by f (y ∷ xs)
-      at true rest = omega (arith, rest, sum_next y xs)
-      at false rest = omega (arith, rest, sum_next y xs, sum_next y (without same xs))
+      at true rest = omega (arith, rest, sum_next f y xs)
+      at false rest = omega (arith, rest, sum_next f y xs, sum_next f y (without same xs))
 
   -- all but those that are the same, and the first of these
   sum_without : (xs : List X) (o : X) → find same xs ≡ Some o → sum_by f (without same xs ++ o ∷ []) ≤ sum_by f xs
@@ -54,8 +51,8 @@ module _ {X : Type 0} (f : X → ℕ) (same : X → Bool) where
     where
       at : (b : Bool) → same y ≡ b → cond b (Some y) (find same xs) ≡ Some o → (find same xs ≡ Some o → sum_by f (without same xs ++ o ∷ []) ≤ sum_by f xs)
           → sum_by f (cond (not b) (y ∷ without same xs) (without same xs) ++ o ∷ []) ≤ sum_by f (y ∷ xs)
-      at true e first rest = let its : f y ≡ f o = ap f (same_Some y o first) in omega (arith, its, sum_more (without same xs) o, sum_left xs, sum_next y xs)
-      at false e later rest = let held = rest later in omega (arith, held, sum_next y (without same xs ++ o ∷ []), sum_next y xs)
+      at true e first rest = let its : f y ≡ f o = ap f (same_Some y o first) in omega (arith, its, sum_more (without same xs) o, sum_left xs, sum_next f y xs)
+      at false e later rest = let held = rest later in omega (arith, held, sum_next f y (without same xs ++ o ∷ []), sum_next f y xs)
 
   module _ (x : X) (apart : X → X → Bool) (shared : (a b : X) → same a ≡ true → same b ≡ true → apart a b ≡ true) where
     untouched : (xs : List X) → list_any same xs ≡ false → replaced same x xs ≡ xs
@@ -88,8 +85,8 @@ module _ {X : Type 0} (f : X → ℕ) (same : X → Bool) where
         at true e first rest =
             let its : f y ≡ f o = ap f (same_Some y o first) in
             let others : sum_by f (replaced same x xs) ≡ sum_by f xs = ap (sum_by f) (untouched xs (alone_in y xs e parts.0)) in
-            omega (arith, its, others, sum_next x (replaced same x xs ++ o ∷ []), sum_more (replaced same x xs) o, sum_next y (xs ++ x ∷ []), sum_more xs x)
-        at false e later rest = let held = rest later in omega (arith, held, sum_next y (replaced same x xs ++ o ∷ []), sum_next y (xs ++ x ∷ []))
+            omega (arith, its, others, sum_next f x (replaced same x xs ++ o ∷ []), sum_more (replaced same x xs) o, sum_next f y (xs ++ x ∷ []), sum_more xs x)
+        at false e later rest = let held = rest later in omega (arith, held, sum_next f y (replaced same x xs ++ o ∷ []), sum_next f y (xs ++ x ∷ []))
 
 -- ---- a change of the policies
 

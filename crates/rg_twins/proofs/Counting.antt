@@ -12,7 +12,7 @@ use Rattle.rg_twins.specs.Prints.{print_of}
 
 -- ---- what they tell
 
-sum_next : {X : Type 0} (f : X → ℕ) (y : X) (ys : List X) → sum_by f (y ∷ ys) ≡ f y + sum_by f ys
+pub sum_next : {X : Type 0} (f : X → ℕ) (y : X) (ys : List X) → sum_by f (y ∷ ys) ≡ f y + sum_by f ys
 sum_next f y ys = let parts : sum_by f (y ∷ ys) ≡ sum_by f (y ∷ []) + sum_by f ys = sum_by-append f (y ∷ []) ys in omega (arith, parts)
 
 sum_one : {X : Type 0} (f : X → ℕ) (xs : List X) (a : X) → Contains xs a → f a ≤ sum_by f xs

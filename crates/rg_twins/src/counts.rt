@@ -1,12 +1,12 @@
 // How many policies have each print.
-ghost use Rattle.std.specs.Prelude.{◌≡◌, [], IfOk};
+ghost use Rattle.std.specs.Prelude.{◌≡◌, ◌<◌, ◌^◌, ℕ, [], IfOk};
 ghost use Rattle.rg_twins.specs.Counts.{IsCounted, count_of, lowered, lowered_at, raised, raised_at};
 
 use rg_base::NoMemory;
 use std::alloc::Global;
 use std::marker::Model;
 
-/// The prints that are told apart, by their remainders.
+/// As many as there are prints.
 const PRINTS: usize = 1 << 18;
 
 /// How many policies have each print, up to 254 of them; where there were more, their number is lost. They take 256 KiB.
@@ -44,7 +44,8 @@ impl MapCounts {
     /// The counts of no policies.
     #[tactic(auto, using(crate::proofs::Counting::counted_none))]
     pub fn new(alloc: Global) -> Result<MapCounts, NoMemory>
-        ensures { IfOk result (λ counts. IsCounted counts []) }
+        ensures counted { IfOk result (λ counts. IsCounted counts []) }
+        ensures none { IfOk result (λ counts. (print : ℕ) → print < 2 ^ 18 → count_of counts print ≡ 0) }
     {
         let mut counts = Vec::new(alloc);
         counts.resize(PRINTS, 0)?;
