@@ -1,6 +1,6 @@
 -- For proofs alone: a configuration that is put row by row, and the start to which it leads.
 use Rattle.std.proofs.Common.{◌≡◌, ◌+◌, ◌∙◌, ◌&&◌, ◌||◌, ℕ, pos, int_lt, Bool, true, not, cond, is_none, List, [], ◌∷◌, ◌++◌, filter, map, Option, Some, None, refl, ap, sym, subst}
-use Rattle.std.specs.List.{find, list_all, list_any}
+use Rattle.std.specs.List.{find, list_all}
 use Rattle.std.specs.Option.{option_map, option_or}
 use Rattle.std.specs.Ordering.{int_eq}
 use Rattle.std.specs.Str.{bytes_eq}
@@ -35,7 +35,6 @@ use Rattle.rg_validate.specs.Users.{time_zones_read}
 use Rattle.rg_validate.specs.Valid.{IsKept, IsValid, is_given, policy_is_single, policy_valid}
 use Rattle.rg_validate.specs.Zones.{are_apart, are_apart_for}
 use Rattle.rg_machine.specs.Changes.{after_command}
-use Rattle.rg_machine.specs.Logs.{Administration}
 use Rattle.rg_machine.specs.Starts.{IsStart, new_logs}
 use Rattle.rg_machine.proofs.KeptDefs.{put_def_kept}
 use Rattle.rg_machine.proofs.KeptRoles.{text_turn}

@@ -1,5 +1,5 @@
 -- For proofs alone: what the rules of authority need of a state and of a command.
-use Rattle.std.proofs.Common.{◌≡◌, true, Option, Some, None, subst}
+use Rattle.std.proofs.Common.{◌≡◌, true, Option, None, subst}
 use Rattle.std.proofs.lemmas.Bool.{and_parts}
 use Rattle.rg_base.proofs.Lists.{all_holds}
 use Rattle.rg_policy.specs.declared.policy.Policy.{Policy}

@@ -1,8 +1,7 @@
 -- What stands between the administration and the keeper's list goes on standing.
-use Rattle.std.proofs.Common.{◌≡◌, ◌⊎◌, inl, inr, ⊎_elim, ◌==◌, ◌&&◌, ◌||◌, ℕ, ◌+◌, ◌≤◌, ◌<◌, ◌^◌, min, nat_lt, Bool, true, false, not, true≢false, List, [], ◌∷◌, ◌++◌, length, Option, Some, None, Ok, Err, Result, IfOk, IfErr, refl, sym, ap, ap₂, ◌∙◌, subst, arith}
+use Rattle.std.proofs.Common.{◌≡◌, ◌⊎◌, inl, inr, ⊎_elim, ◌==◌, ◌&&◌, ℕ, ◌+◌, ◌≤◌, ◌<◌, ◌^◌, min, nat_lt, Bool, true, false, not, true≢false, List, [], ◌∷◌, ◌++◌, length, Option, Some, None, Ok, Err, Result, IfOk, refl, sym, ap, ◌∙◌, subst, arith}
 use Rattle.std.proofs.lemmas.Bool.{and_parts}
 use Rattle.std.proofs.lemmas.Bool.Decides.{nat_tests}
-use Rattle.std.proofs.lemmas.Option.{same_Some}
 use Rattle.rg_cmd.specs.declared.ask.Ask.{Ask}
 use Rattle.rg_cmd.specs.declared.config.Config.{Config}
 use Rattle.rg_json.specs.declared.fault.Fault.{Fault}
@@ -12,11 +11,10 @@ use Rattle.rg_machine.specs.Logs.{Administration}
 use Rattle.rg_machine.specs.Starts.{IsStart}
 use Rattle.rg_machine.specs.Steps.{accepted, refused}
 use Rattle.rg_admin.specs.Starting.{start_fault, started}
-use Rattle.rg_keeper.specs.Keeping.{Passes}
 use Rattle.rg_ask_wire.specs.Asks.{ask_text}
 use Rattle.rg_ask_wire.specs.Keeping.{is_keeping}
 use Rattle.rg_ask_wire.specs.Reading.{ask_reading}
-use Rattle.rg_keep.specs.Crashes.{IsBeforeOrAfter, IsFit, MayLeave, MayTell, Survives}
+use Rattle.rg_keep.specs.Crashes.{IsFit, MayLeave, MayTell, Survives}
 use Rattle.rg_keep.specs.Keeping.{Adds, Agree, Counts, HasLength, IsAnswer, IsCause, IsKept, IsKeptBy, IsReplayed, Reopens, adds, added_if, is_full, is_past, with_count}
 use Rattle.rg_keep.specs.declared.kept_admin.KeptReply.{KeptReply}
 use Rattle.rg_keep.specs.declared.kept_admin.KeptReply.TheVariants.{Reply, Full}
@@ -26,7 +24,6 @@ use Rattle.rg_keep.specs.Replay.{after_entries, after_entry, after_reading, firs
 use Rattle.rg_keep.specs.Replaying.{IsNoStart, IsReplaying, IsStoppedIn}
 use Rattle.rg_keep.proofs.Alike.{agree_from, counts_one, kept_alike, refused_alike, unkept_cases}
 use Rattle.rg_keep.proofs.Lists.{after_more, good_more}
-use Rattle.rg_keep.proofs.Passing.{wider}
 use Rattle.rg_keep.proofs.Written.{AreWritten, looks_count, start_written, step_written}
 
 -- ---- replays

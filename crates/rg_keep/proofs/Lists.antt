@@ -1,5 +1,5 @@
 -- Entries one after another.
-use Rattle.std.proofs.Common.{◌≡◌, ◌==◌, ◌||◌, ℕ, zero, suc, ◌+◌, ◌≤◌, ◌<◌, Bool, true, false, cond, true≢false, List, [], ◌∷◌, ◌++◌, length, drop, slice_get, Option, Some, None, refl, sym, ap, ap₂, ◌∙◌, subst, arith}
+use Rattle.std.proofs.Common.{◌≡◌, ◌==◌, ◌||◌, ℕ, zero, suc, ◌+◌, ◌≤◌, ◌<◌, Bool, true, false, cond, List, [], ◌∷◌, ◌++◌, length, drop, slice_get, Option, Some, None, refl, sym, ap, ap₂, ◌∙◌, subst, arith}
 use Rattle.std.proofs.Math.Seq.{drop-nil}
 use Rattle.std.proofs.lemmas.Bool.Decides.{nat_tests}
 use Rattle.std.proofs.lemmas.Option.{none-some, same_Some}
@@ -7,7 +7,7 @@ use Rattle.rg_machine.specs.Logs.{Administration}
 use Rattle.rg_keep.specs.Replay.{after_entries, after_entry, first_bad_from, is_bad, most_kept}
 use Rattle.rg_keep.specs.declared.reopen.ReopenCause.{ReopenCause}
 use Rattle.rg_keep.specs.declared.reopen.ReopenCause.TheVariants.{Rule, BadRecord, Failed, NoMemory}
-use Rattle.rg_keep.specs.Replaying.{IsBadAt, IsOnItsWay, IsPart, IsReplaying, IsStopped, IsStoppedIn, IsTaken, IsWhole, Takes}
+use Rattle.rg_keep.specs.Replaying.{IsPart, IsReplaying, IsStopped, IsStoppedIn, Takes}
 
 -- ---- one entry more at the end
 

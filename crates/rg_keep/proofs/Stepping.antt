@@ -1,5 +1,5 @@
 -- What a step does by the kind of its ask: one that only looks, one past those that may be kept, one that may be kept.
-use Rattle.std.proofs.Common.{◌≡◌, ◌==◌, ◌&&◌, ℕ, ◌+◌, ◌≤◌, ◌<◌, Bool, true, false, not, true≢false, List, Option, Ok, refl, sym, ap, ◌∙◌, subst, arith}
+use Rattle.std.proofs.Common.{◌≡◌, ◌==◌, ◌&&◌, ℕ, ◌≤◌, ◌<◌, Bool, true, false, not, true≢false, List, Option, Ok, refl, sym, ap, ◌∙◌, subst, arith}
 use Rattle.std.proofs.lemmas.Bool.Decides.{nat_tests}
 use Rattle.rg_cmd.specs.declared.ask.Ask.{Ask}
 use Rattle.rg_machine.specs.Logs.{Administration}
@@ -7,7 +7,7 @@ use Rattle.rg_ask_wire.specs.Asks.{ask_text}
 use Rattle.rg_ask_wire.specs.Keeping.{is_keeping}
 use Rattle.rg_ask_wire.specs.Reading.{ask_reading}
 use Rattle.rg_keep.specs.Crashes.{IsFit}
-use Rattle.rg_keep.specs.Keeping.{Adds, Counts, HasLength, adds, count_one, is_past}
+use Rattle.rg_keep.specs.Keeping.{Adds, Counts, adds, count_one, is_past}
 use Rattle.rg_keep.specs.Replay.{is_kept, most_kept}
 use Rattle.rg_keep.proofs.Adding.{adds_none, fit_of, length_added, length_same, look_unkept, passes_left, tells_gain, tells_same}
 use Rattle.rg_keep.proofs.Lists.{not_most}

@@ -1,5 +1,5 @@
 -- Logs as each step leaves them: a command that only looks leaves them as they are.
-use Rattle.std.proofs.Common.{◌≡◌, ℕ, ◌+◌, ◌^◌, min, Bool, true, false, not, cond, true≢false, List, [], ◌∷◌, ◌++◌, map, filter, Option, Some, None, refl, sym, ap, ap₂, ◌∙◌, subst}
+use Rattle.std.proofs.Common.{◌≡◌, ℕ, ◌+◌, ◌^◌, min, Bool, true, false, not, cond, true≢false, List, [], ◌∷◌, ◌++◌, map, filter, Option, Some, None, refl, sym, ap, ap₂, subst}
 use Rattle.rg_base.specs.declared.numbers.PolicyId.{PolicyId}
 use Rattle.rg_base.specs.declared.numbers.Version.{Version}
 use Rattle.rg_cmd.specs.declared.ask.AdminCommand.{AdminCommand}

@@ -1,5 +1,5 @@
 -- Where the loop of a session stands, from its start to its ends.
-use Rattle.std.proofs.Common.{◌≡◌, ◌≤◌, ◌<◌, ◌+◌, ◌-◌, ◌⊎◌, inl, inr, ℕ, zero, suc, List, [], ◌∷◌, ◌++◌, length, Option, Some, None, Bool, true, false, refl, sym, ap, ◌∙◌, subst, arith, append_assoc, append-nil, length-append}
+use Rattle.std.proofs.Common.{◌≡◌, ◌≤◌, ◌<◌, ◌+◌, ◌-◌, inl, inr, ℕ, zero, suc, List, [], ◌∷◌, ◌++◌, length, Option, Some, None, Bool, true, false, refl, sym, ap, ◌∙◌, subst, arith, append_assoc, append-nil, length-append}
 use Rattle.std.specs.Prelude.{MatchBool}
 use mathlib.Core.List.{IsPrefix}
 use Rattle.rg_base.specs.declared.numbers.Moment.{Moment}
@@ -11,12 +11,8 @@ use Rattle.rg_http.specs.Framing.{HasMessage, HasBad}
 use Rattle.rg_http.specs.Answers.{IsRead}
 use Rattle.rg_http.specs.Messages.{Messages, Stops}
 use Rattle.rg_http.specs.Print.{response_text}
-use Rattle.rg_cmd.specs.declared.ask.AdminReply.{AdminReply}
-use Rattle.rg_cmd.specs.declared.ask.Ask.{Ask}
-use Rattle.rg_turn.specs.declared.rule.Entry.{Entry}
-use Rattle.rg_hook.specs.Enriching.{EnricherState}
 use Rattle.rg_link.specs.Answers.{Answers, end_text, texts}
-use Rattle.rg_link.specs.Audits.{AreAudited, AreEnriched, Decided}
+use Rattle.rg_link.specs.Audits.{AreAudited}
 use Rattle.rg_link.specs.Loop.{Going, IsAnswered, IsServed, IsUnanswered, StayOpen, Unserved}
 use Rattle.rg_link.specs.Sessions.{Broken, Fronts, IsCause, IsTail, MayHaveRun, Served, Wire, Wrote, message_limit}
 use Rattle.rg_link.specs.Workers.{Leads, Worker}

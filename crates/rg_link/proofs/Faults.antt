@@ -1,5 +1,5 @@
 -- Faults of a framer as those of a session, and the statuses of bad places.
-use Rattle.std.proofs.Common.{◌≡◌, ◌≤◌, ◌<◌, ◌⊎◌, inl, inr, ℕ, sym, subst, arith}
+use Rattle.std.proofs.Common.{◌≡◌, ◌≤◌, ◌<◌, inl, inr, ℕ, sym, subst, arith}
 use Rattle.http.specs.StatusCode.{IsStatusCode}
 use Rattle.rg_http.specs.Answers.{Counts as FrameCounts, IsRefusal}
 use Rattle.rg_http.specs.declared.message.FrameFault.{FrameFault}

@@ -1,5 +1,5 @@
 -- How steps of a session join, over plain lists.
-use Rattle.std.proofs.Common.{◌≡◌, ◌≤◌, ◌<◌, ◌+◌, ◌-◌, ◌⊎◌, ℕ, zero, suc, List, [], ◌∷◌, ◌++◌, length, map, take, drop, Option, Some, None, Bool, true, false, cond, slice_get, refl, sym, ap, ◌∙◌, subst, arith, inl, inr, append_assoc, append-nil, length-append}
+use Rattle.std.proofs.Common.{◌≡◌, ◌≤◌, ◌+◌, ◌-◌, ◌⊎◌, ℕ, zero, suc, List, [], ◌∷◌, ◌++◌, length, map, take, drop, Option, Some, Bool, true, false, cond, slice_get, refl, sym, ap, ◌∙◌, subst, arith, inl, inr, append_assoc, append-nil, length-append}
 use Rattle.std.proofs.lemmas.List.{take_all}
 use Rattle.std.specs.List.{AllZip, filter}
 use Rattle.std.specs.Str.{chars}
@@ -17,7 +17,7 @@ use Rattle.rg_cmd.specs.declared.ask.AdminReply.{AdminReply}
 use Rattle.rg_cmd.specs.declared.ask.Ask.{Ask}
 use Rattle.rg_machine.specs.Logs.{Administration}
 use Rattle.rg_turn.specs.declared.rule.Entry.{Entry}
-use Rattle.rg_turn.specs.Values.{IsCalled, SeatValue}
+use Rattle.rg_turn.specs.Values.{SeatValue}
 use Rattle.rg_turn.specs.View.{entry}
 use Rattle.rg_publish.specs.declared.history.Publication.{Publication}
 use Rattle.rg_publish.specs.Passes.{Seeing, risen}
@@ -31,8 +31,8 @@ use Rattle.rg_rest.specs.Routes.{call_of}
 use Rattle.rg_link.specs.Answers.{Answers, NothingLeft, Takes, ask_of, texts}
 use Rattle.rg_link.specs.Audits.{AfterLines, AreAudited, AreEnriched, Decided, IsDecided, audit_lines}
 use Rattle.rg_hook.specs.Told.{IsGiven, SinkState}
-use Rattle.rg_link.specs.Loop.{decided, IsAnswered, IsCall, IsJudged, IsServed, IsUnanswered, IsUncalled, IsUnjudged, Unserved}
-use Rattle.rg_link.specs.Sessions.{MayHaveRun, Wrote}
+use Rattle.rg_link.specs.Loop.{decided, IsAnswered, IsCall, IsJudged, IsServed, IsUncalled, IsUnjudged, Unserved}
+use Rattle.rg_link.specs.Sessions.{Wrote}
 use Rattle.rg_link.specs.Workers.{Leads, Rises, Stand, Worker, counted, serials}
 
 -- ---- lists

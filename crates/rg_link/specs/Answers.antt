@@ -1,5 +1,5 @@
 -- The answers to the messages of one link. To be read first.
-use Rattle.std.specs.Prelude.{◌≡◌, ℕ, List, [], ◌∷◌, ◌++◌, Bool, true, Option, Some, None, if◌then◌else◌}
+use Rattle.std.specs.Prelude.{◌≡◌, ℕ, List, [], ◌∷◌, ◌++◌, true, Option, Some, None, if◌then◌else◌}
 use Rattle.std.specs.Str.{chars, is_utf8}
 use Rattle.rg_base.specs.Listed.{Listed, listed}
 use Rattle.rg_base.specs.declared.numbers.Moment.{Moment}

@@ -1,5 +1,5 @@
 -- The command `replay`: a script of facts, or of an administration and its plugin.
-use Rattle.std.specs.Prelude.{ℕ, ◌++◌, List, [], ◌∷◌, codes, decimal, Option, Some, None, option_map, if◌then◌else◌}
+use Rattle.std.specs.Prelude.{ℕ, ◌++◌, List, [], codes, decimal, Option, Some, None, option_map, if◌then◌else◌}
 use Rattle.rg_base.specs.declared.numbers.Moment.{Moment}
 use Rattle.rg_base.specs.declared.numbers.Serial.{Serial}
 use Rattle.rg_policy.specs.declared.request.AccessRequest.{AccessRequest}

@@ -1,5 +1,5 @@
 -- What `clap` makes of plain words: the first is WORD, and those after it are PART.
-use Rattle.std.proofs.Common.{◌≡◌, ◌∙◌, ◌&&◌, ◌++◌, ℕ, List, [], ◌∷◌, Bool, true, false, not, Option, Some, None, Result, Ok, Err, codes, option_map, refl, ap, sym, subst, append_assoc, append-nil, map, fold}
+use Rattle.std.proofs.Common.{◌≡◌, ◌∙◌, ◌&&◌, ◌++◌, ℕ, List, [], ◌∷◌, Bool, true, false, not, Option, Some, None, codes, option_map, refl, ap, sym, subst, append_assoc, append-nil, map, fold}
 use Rattle.std.specs.List.{list_all}
 use Rattle.clap.specs.Matches.{first_value, matched_of, raw_values}
 use Rattle.clap.specs.Simple.{built, matches_of}
@@ -7,7 +7,6 @@ use Rattle.clap.specs.Walk.{Held, Row, Rule, Step, Text, Walk, after_step, all_o
 use Rattle.clap.specs.Walk.{idle, positional, value}
 use Rattle.clap.specs.declared.parser.matches.Found.{Found}
 use Rattle.clap.proofs.WalkLemmas.{both, first_value-rows, raw_values-rows}
-use Rattle.rg_run.specs.declared.command.Command.{Command}
 use Rattle.rg_run.specs.CommandLine.{words_app}
 use Rattle.rg_run.specs.Commands.{command_of, has_dash, is_plain, named}
 

@@ -1,10 +1,10 @@
 -- From the parts of a run of `serve` to the whole.
-use Rattle.std.proofs.Common.{◌≡◌, ◌∙◌, ◌⊎◌, ◌<◌, ◌+◌, ◌++◌, ℕ, zero, suc, true, false, List, [], ◌∷◌, length, take, Option, Some, None, append_assoc, append-nil, zero-add, arith, inl, inr, refl, ap, sym, subst}
+use Rattle.std.proofs.Common.{◌≡◌, ◌∙◌, ◌<◌, ◌+◌, ◌++◌, ℕ, zero, suc, true, false, List, [], ◌∷◌, length, take, Option, Some, None, append_assoc, append-nil, zero-add, arith, inl, inr, refl, ap, sym, subst}
 use Rattle.rg_base.specs.declared.numbers.Moment.{Moment}
 use Rattle.rg_serve.specs.Opened.{Opened}
 use Rattle.rg_work.specs.declared.status.Status.{Status}
 use Rattle.rg_work.specs.declared.status.Status.TheVariants.{Done, Usage, BadLine, ReadFault, WriteFault, NetFault, TooLong, KeepFault, NoMemory, BadRecord}
-use Rattle.rg_work.specs.Follow.{Comes, Output}
+use Rattle.rg_work.specs.Follow.{Output}
 use Rattle.rg_work.specs.Limits.{is_too_long}
 use Rattle.rg_service.specs.Links.{AreServed, HasServed, IsStopped}
 use Rattle.rg_work.specs.Ports.{Ports}

@@ -1,5 +1,5 @@
 -- What a script of `serve` comes to: its asks, the refresh after them, and what is printed.
-use Rattle.std.proofs.Common.{◌≡◌, ◌∙◌, ◌⊎◌, ◌+◌, ◌-◌, ◌++◌, ◌≤◌, ℕ, Bool, true, false, List, [], ◌∷◌, length, length-append, Option, Some, None, option_map, slice_get, append_assoc, append-nil, arith, refl, ap, sym, subst, inl, inr}
+use Rattle.std.proofs.Common.{◌≡◌, ◌∙◌, ◌⊎◌, ◌+◌, ◌-◌, ◌++◌, ◌≤◌, ℕ, false, List, [], ◌∷◌, length, length-append, Option, Some, None, option_map, slice_get, append_assoc, append-nil, arith, refl, ap, sym, subst, inl, inr}
 use Rattle.std.specs.Option.{option_map_or}
 use Rattle.std.proofs.lemmas.Option.{same_Some}
 use Rattle.rg_base.specs.declared.numbers.Moment.{Moment}
@@ -8,15 +8,14 @@ use Rattle.rg_turn.specs.View.{entry}
 use Rattle.rg_turn.proofs.Histories.{state_after_snoc, state_at_end}
 use Rattle.rg_facts.specs.declared.facts.Facts.{Facts}
 use Rattle.rg_cmd.specs.declared.ask.AdminReply.{AdminReply}
-use Rattle.rg_cmd.specs.declared.ask.AdminReply.TheVariants.{Downloaded}
 use Rattle.rg_cmd.specs.declared.ask.Ask.{Ask}
 use Rattle.rg_cmd.specs.declared.config.Config.{Config}
 use Rattle.rg_cmd.specs.declared.rule.Rule.{Rule}
 use Rattle.rg_machine.specs.Logs.{Administration}
-use Rattle.rg_machine.specs.Machine.{download_ask, same_versions, versions}
+use Rattle.rg_machine.specs.Machine.{same_versions, versions}
 use Rattle.rg_machine.specs.Steps.{step}
 use Rattle.rg_machine.specs.Views.{view}
-use Rattle.rg_admin.specs.Starting.{start_fault, started}
+use Rattle.rg_admin.specs.Starting.{start_fault}
 use Rattle.rg_publish.specs.Publications.{publication}
 use Rattle.rg_publish.specs.declared.history.Publication.{Publication}
 use Rattle.rg_session.specs.Refreshing.{Publishes, is_unpublished}
@@ -32,7 +31,7 @@ use Rattle.rg_work.specs.declared.status.Status.TheVariants.{Done, BadLine}
 use Rattle.rg_work.specs.Follow.{Comes, Decided, Output, Work, bad_line_text, before, ends_bad, worked}
 use Rattle.rg_service.specs.Preparing.{AreAsked, IsPrepared, IsReady}
 use Rattle.rg_work.specs.Printed.{reply_line}
-use Rattle.rg_service.specs.Serve.{AreRaised, Asked, Asking, after_asks, ask_taken, begun_unless, config_taken, line_taken, printed_of, replies, serve_step, taken, unless_begun}
+use Rattle.rg_service.specs.Serve.{AreRaised, Asked, Asking, after_asks, ask_taken, begun_unless, config_taken, line_taken, replies, serve_step, taken, unless_begun}
 
 -- what an option is mapped from
 mapped : {A B : Type 0} (f : A → B) (o : Option A) (b : B) → option_map f o ≡ Some b → (a : A) × (o ≡ Some a) × (f a ≡ b)

@@ -1,11 +1,10 @@
 -- For proofs alone: how the script of `serve` is held, and what it leaves.
-use Rattle.std.specs.Prelude.{◌≡◌, ◌≤◌, ◌+◌, ◌++◌, ℕ, List, [], length, Option, Some, None}
+use Rattle.std.specs.Prelude.{◌≡◌, ◌≤◌, ◌+◌, ℕ, List, [], length, Option, Some, None}
 use Rattle.rg_base.specs.declared.numbers.Moment.{Moment}
 use Rattle.rg_cmd.specs.declared.ask.Ask.{Ask}
 use Rattle.rg_machine.specs.Logs.{Administration}
 use Rattle.rg_machine.specs.Starts.{IsStart}
 use Rattle.rg_serve.specs.Opened.{IsAlone, Opened, present}
-use Rattle.rg_work.specs.declared.status.Status.{Status}
 use Rattle.rg_work.specs.declared.status.Status.TheVariants.{Done, BadLine}
 use Rattle.rg_work.specs.Follow.{Comes, Output}
 use Rattle.rg_service.specs.Serve.{AreRaised, Asked, Asking, after_asks, printed_of, replies, taken}

@@ -1,6 +1,6 @@
 -- The command `serve`: a script of one configuration and commands of the administration, and then links. To be read after Follow and
 -- Streams; Runs has it among the other commands.
-use Rattle.std.specs.Prelude.{◌≡◌, ◌⊎◌, ◌<◌, ◌≤◌, ℕ, ◌+◌, ◌++◌, Bool, true, false, List, [], ◌∷◌, length, codes, decimal, Option, Some, None, option_map}
+use Rattle.std.specs.Prelude.{◌≡◌, ◌⊎◌, ◌≤◌, ℕ, ◌+◌, ◌++◌, Bool, true, false, List, [], ◌∷◌, length, codes, decimal, Option, Some, None, option_map}
 use Rattle.rg_base.specs.declared.numbers.Moment.{Moment}
 use Rattle.rg_facts.specs.declared.facts.Facts.{Facts}
 use Rattle.rg_cmd.specs.declared.ask.Ask.{Ask}

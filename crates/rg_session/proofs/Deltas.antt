@@ -1,5 +1,5 @@
 -- Documents whose deltas are applied.
-use Rattle.std.proofs.Common.{◌≡◌, ◌∙◌, ◌≤◌, ◌&&◌, Bool, true, false, not, refl, ap, sym, subst}
+use Rattle.std.proofs.Common.{◌≡◌, ◌∙◌, ◌≤◌, ◌&&◌, true, false, not, refl, ap, sym, subst}
 use Rattle.std.proofs.lemmas.Bool.{false≢true}
 use Rattle.rg_base.specs.Counts.{Counts}
 use Rattle.rg_facts.specs.Sound.{sound}

@@ -1,10 +1,10 @@
 -- What a refresh leaves.
-use Rattle.std.proofs.Common.{◌≡◌, ◌∙◌, ℕ, ◌+◌, ◌-◌, ◌<◌, ◌≤◌, ◌^◌, true, false, List, [], ◌∷◌, ◌++◌, length, Some, slice_get, refl, ap, sym, subst, arith}
+use Rattle.std.proofs.Common.{◌≡◌, ◌∙◌, ℕ, ◌+◌, ◌-◌, ◌<◌, ◌≤◌, ◌^◌, true, List, [], ◌∷◌, ◌++◌, length, Some, slice_get, refl, ap, sym, subst, arith}
 use Rattle.std.proofs.lemmas.List.{length-append, same_from_push}
 use Rattle.std.proofs.lemmas.Option.{same_Some}
 use mathlib.Core.List.{IsPrefix}
 use Rattle.rg_base.specs.Counts.{Counts}
-use Rattle.rg_turn.specs.History.{IsLegal, state_after, state_at}
+use Rattle.rg_turn.specs.History.{IsLegal, state_at}
 use Rattle.rg_turn.specs.Values.{IsCalled, SeatValue}
 use Rattle.rg_turn.specs.View.{entry}
 use Rattle.rg_turn.specs.declared.rule.Entry.{Entry}
@@ -18,7 +18,7 @@ use Rattle.rg_cmd.specs.declared.download.Download.{Download}
 use Rattle.rg_engine.specs.Bounds.{WorkWithin}
 use Rattle.rg_machine.specs.Leading.{led}
 use Rattle.rg_machine.specs.Logs.{Administration}
-use Rattle.rg_machine.specs.Machine.{download_ask, is_unchanged, versions}
+use Rattle.rg_machine.specs.Machine.{download_ask, versions}
 use Rattle.rg_machine.specs.Starts.{IsStart}
 use Rattle.rg_machine.specs.Steps.{step}
 use Rattle.rg_machine.specs.Views.{view}

@@ -1,5 +1,5 @@
 -- What the document of a refresh leads to.
-use Rattle.std.proofs.Common.{◌≡◌, ◌∙◌, ℕ, zero, suc, ◌+◌, ◌-◌, ◌<◌, ◌≤◌, ◌^◌, min, eq-eqb, Bool, true, false, List, [], ◌∷◌, ◌++◌, length, Option, Some, None, slice_get, inl, inr, refl, ap, sym, subst, arith}
+use Rattle.std.proofs.Common.{◌≡◌, ◌∙◌, ℕ, ◌+◌, ◌-◌, ◌<◌, ◌≤◌, ◌^◌, min, eq-eqb, true, false, List, [], ◌∷◌, ◌++◌, length, Option, Some, None, slice_get, inl, inr, refl, ap, sym, arith}
 use Rattle.std.specs.List.{list_any}
 use Rattle.std.specs.Option.{option_or}
 use Rattle.std.proofs.lemmas.Bool.{cases_lt, false≢true}
@@ -34,7 +34,7 @@ use Rattle.rg_delta.specs.Logs.Known.{Nothing, These, Unknown}
 use Rattle.rg_delta.specs.Logs.{changes_after}
 use Rattle.rg_machine.specs.Downloads.{From, download, download_with, policy_part_by, tag_part_by}
 use Rattle.rg_machine.specs.Laws.{AreNoLess, IsNotDeleted, from_of}
-use Rattle.rg_machine.specs.Leading.{led, no_roles, policies_in, tags_in, with_policies, with_roles, with_tags}
+use Rattle.rg_machine.specs.Leading.{led, policies_in, tags_in, with_policies, with_roles, with_tags}
 use Rattle.rg_machine.specs.Logs.{Administration, log_at, policy_book, tag_book}
 use Rattle.rg_machine.specs.Machine.{Versions, document_of, download_ask, is_unchanged, same_versions, versions}
 use Rattle.rg_machine.specs.Starts.{IsStart}

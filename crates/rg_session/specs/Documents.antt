@@ -1,5 +1,5 @@
 -- For proofs: what is known of the document of a refresh.
-use Rattle.std.specs.Prelude.{◌≡◌, ◌≤◌, ◌<◌, ℕ, ◌+◌, ◌-◌, true, false, List, [], ◌∷◌, ◌++◌, length, slice_get, None, Some}
+use Rattle.std.specs.Prelude.{◌≡◌, ◌≤◌, ◌<◌, ℕ, ◌+◌, ◌-◌, true, false, List, [], ◌∷◌, ◌++◌, length, slice_get, Some}
 use Rattle.rg_turn.specs.History.{state_after}
 use Rattle.rg_turn.specs.Values.{SeatValue, IsCalled}
 use Rattle.rg_turn.specs.declared.rule.Entry.{Entry}

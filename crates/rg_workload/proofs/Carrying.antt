@@ -5,14 +5,13 @@ use Rattle.std.proofs.lemmas.Option.{slice_get-get_or}
 use Rattle.std.specs.List.{sum_by}
 use Rattle.rg_base.specs.declared.steps.Counted.{Counted}
 use Rattle.rg_policy.specs.declared.request.AccessRequest.{AccessRequest}
-use Rattle.rg_facts.specs.Flow.{is_allowed}
 use Rattle.rg_engine.specs.Bounds.{bound_on}
 use Rattle.rg_drill.specs.Workload.{policies_of, requests_of}
 use Rattle.rg_publish.specs.declared.history.Publication.{Publication}
 use Rattle.rg_running.specs.Running.{Running, newest}
 use Rattle.rg_workload.specs.declared.answers.Answers.{Answers}
 use Rattle.rg_workload.specs.declared.totals.Totals.{Totals}
-use Rattle.rg_workload.specs.Drill.{IsCarriedFrom, IsTotal, answers_to, drawn_requests, is_denied, is_undetermined, number_of, prepared, refreshes}
+use Rattle.rg_workload.specs.Drill.{IsCarriedFrom, IsTotal, answers_to, drawn_requests, prepared}
 
 there : {X : Type 0} (xs : List X) (i : ℕ) → i < length xs → (x : X) × (slice_get xs i ≡ Some x)
 there [] i low = absurd (omega (arith, low))

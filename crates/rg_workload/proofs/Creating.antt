@@ -1,5 +1,5 @@
 -- What the creation of one more policy makes of an administration that is running.
-use Rattle.std.proofs.Common.{◌≡◌, ◌∙◌, ℕ, ◌+◌, Bool, true, false, Option, Some, ap, refl, sym, option_map, option_and_then}
+use Rattle.std.proofs.Common.{◌≡◌, ◌∙◌, ℕ, ◌+◌, Bool, true, false, Option, Some, ap, sym, option_map, option_and_then}
 use Rattle.std.proofs.Math.Numerals.{suc-eq-add-one}
 use Rattle.rg_base.specs.declared.numbers.Serial.{Serial}
 use Rattle.rg_policy.specs.declared.policy.Policy.{Policy}

@@ -1,6 +1,5 @@
 use Rattle.std.proofs.Common.{◌≡◌, subst, sym, ap, ◌∙◌, IfOk}
 use Rattle.std.specs.Str.{IsUtf8, chars}
-use Rattle.rg_link.specs.Answers.{actor_of}
 use Rattle.rg_link.proofs.Actors.{actor_read, actor_unread}
 use Rattle.rg_link.proofs.calls.actor_of.Goals as goal
 

@@ -1,5 +1,4 @@
 use Rattle.std.proofs.Common.{inr}
-use Rattle.rg_hook.specs.Enriching.{HaveRun}
 use Rattle.rg_link.proofs.Steps.{has_run_all}
 use Rattle.rg_link.proofs.decisions.judge.Goals as goal
 

@@ -1,5 +1,4 @@
 use Rattle.std.proofs.Common.{◌≡◌, ◌≤◌, ◌-◌, true}
-use mathlib.Core.List.{IsPrefix}
 use Rattle.std.specs.Str.{chars}
 use Rattle.rg_link.specs.Loop.{Going}
 use Rattle.rg_link.specs.Sessions.{message_limit, wire}

@@ -1,4 +1,4 @@
-use Rattle.std.proofs.Common.{◌≡◌, refl, sym, ◌∙◌}
+use Rattle.std.proofs.Common.{refl, sym, ◌∙◌}
 use Rattle.rg_link.proofs.Steps.{served_call, served_decision, served_itself, unserved_call, unserved_decision, unserved_itself, unserved_none}
 use Rattle.rg_link.proofs.message.serve_one.Goals as goal
 

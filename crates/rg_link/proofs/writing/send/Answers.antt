@@ -1,4 +1,4 @@
-use Rattle.std.proofs.Common.{◌≡◌, List, ℕ, ap, ◌∙◌, subst}
+use Rattle.std.proofs.Common.{List, ℕ, ap, ◌∙◌, subst}
 use mathlib.Core.List.{IsPrefix}
 use Rattle.rg_link.specs.Sessions.{Wrote}
 use Rattle.rg_link.proofs.writing.send.Goals as goal

@@ -1,4 +1,4 @@
-use Rattle.std.proofs.Common.{◌≡◌, ◌∙◌, ℕ, List, None, length, ap, sym, subst}
+use Rattle.std.proofs.Common.{◌≡◌, ◌∙◌, ℕ, List, None, ap, sym, subst}
 use Rattle.rg_publish.specs.Passes.{Seeing}
 use Rattle.rg_session.specs.Closing.{ahead_of}
 use Rattle.rg_session.proofs.Settled.{none_ahead}

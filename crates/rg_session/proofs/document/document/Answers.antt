@@ -1,4 +1,4 @@
-use Rattle.std.proofs.Common.{◌≡◌, ◌∙◌, List, [], ◌∷◌, ◌++◌, ℕ, ap, sym, subst}
+use Rattle.std.proofs.Common.{◌∙◌, List, [], ◌∷◌, ◌++◌, ℕ, ap, subst}
 use Rattle.rg_turn.specs.History.{IsLegal}
 use Rattle.rg_turn.specs.Values.{IsCalled}
 use Rattle.rg_turn.specs.View.{entry}

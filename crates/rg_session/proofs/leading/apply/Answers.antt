@@ -1,5 +1,4 @@
-use Rattle.std.proofs.Common.{◌∙◌}
-use Rattle.rg_session.proofs.Deltas.{ends_as_led, ends_soundly, goes_forward, works_within}
+use Rattle.rg_session.proofs.Deltas.{ends_soundly, goes_forward}
 use Rattle.rg_session.proofs.leading.apply.Goals as goal
 
 pub apply-applied-requires-clause-sound : goal.apply-applied-requires-clause-sound

@@ -1,5 +1,4 @@
-use Rattle.std.proofs.Common.{◌≡◌, ◌∙◌, [], List, Some, ap, subst, sym, arith, lit<}
-use Rattle.rg_cmd.specs.declared.state.State.{State}
+use Rattle.std.proofs.Common.{[], arith, lit<}
 use Rattle.rg_machine.specs.Views.{view}
 use Rattle.rg_session.proofs.opening.first_engine.Goals as goal
 

@@ -1,4 +1,4 @@
-use Rattle.std.proofs.Common.{◌≡◌, ◌∙◌, ◌++◌, Result, Ok, Err, OnErr, ap, arith, string_bytes}
+use Rattle.std.proofs.Common.{◌∙◌, ◌++◌, Result, Ok, Err, OnErr, ap, arith, string_bytes}
 use Rattle.std.proofs.lemmas.Result.{IfOk-weaker}
 use Rattle.rg_work.specs.Follow.{bad_line_text}
 use Rattle.std.proofs.lemmas.List.{nil_from_length}

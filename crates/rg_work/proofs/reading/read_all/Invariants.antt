@@ -1,4 +1,4 @@
-use Rattle.std.proofs.Common.{◌≡◌, ◌≤◌, ◌-◌, Some, length, vec_len}
+use Rattle.std.proofs.Common.{◌≡◌, ◌≤◌, ◌-◌, Some, vec_len}
 use Rattle.rg_work.specs.Limits.{limit, line_limit, line_after}
 use Rattle.rg_work.specs.Streams.{HasRead}
 use Rattle.rg_work.proofs.reading.read_all.Given as goal

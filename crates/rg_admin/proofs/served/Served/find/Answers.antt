@@ -1,4 +1,4 @@
-use Rattle.std.proofs.Common.{◌≡◌, ◌∙◌, None, ap, rules, sym}
+use Rattle.std.proofs.Common.{◌≡◌, ◌∙◌, None, ap, rules}
 use Rattle.std.specs.Option.{option_map}
 use Rattle.std.specs.Str.{chars}
 use Rattle.rg_admin.specs.Held.{logs_of}

@@ -1,4 +1,4 @@
-use Rattle.rg_session.proofs.Refreshed.{downloaded, keeps_bounds, refreshed, stays_right}
+use Rattle.rg_session.proofs.Refreshed.{stays_right}
 use Rattle.rg_session.proofs.refresher.Refresher.refresh.Goals as goal
 
 pub returns-in-Ok-take-clause-right : goal.returns-in-Ok-take-clause-right

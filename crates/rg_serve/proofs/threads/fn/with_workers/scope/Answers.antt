@@ -1,4 +1,3 @@
-use denote.RattleType.{RattleType}
 use denote.Param.Send.{IsSend, IsSync, param_send, sendable}
 use Rattle.std.proofs.Crossing.{crosses}
 use Rattle.rg_threads.proofs.queue.Queue.TheSendSync as queue
