@@ -486,3 +486,20 @@ class AdminMaker(maker.Maker):
 
     def next_line(self):
         return self.pick([b"", b"#", b"# refresh", "# é".encode()]) if self.maybe(.03) else self.bad_line() if self.maybe(.002) else self.command()
+
+
+class NowMaker(AdminMaker):
+    """Of scripts without refreshes, whose decisions count in every line before them."""
+
+    def facts_to_ask(self):
+        """What the plugin sees now."""
+        return self.facts_of(self.state["plugin"])
+
+    def command(self):
+        while True:
+            made = super().command()
+            if made != b"refresh":
+                return made
+
+    def first_policies(self):
+        return (made for made in super().first_policies() if made != b"refresh")

@@ -1,8 +1,8 @@
 """Runs `rangerd replay` over made-up scripts of administration, and compares each line with the model.
 
-usage: checks/compare_admin.py PROGRAM SCRIPTS [--seed SEED] [--lines LINES] [--grants]      (seed 1, 60 lines where not given)
+usage: checks/compare_admin.py PROGRAM SCRIPTS [--seed SEED] [--lines LINES] [--grants | --keep]      (seed 1, 60 lines where not given)
 
-With --grants it runs `rangerd grants`, over scripts with grants and revokes.
+With --grants it runs `rangerd grants`, over scripts with grants and revokes, with --keep `rangerd keep`, over scripts with lines `reopen`.
 
 It stops at the first difference, prints it, and leaves the script in the file that it names. Where PROGRAM is `-` no program is
 run. Printed is how often each command was answered, and how often each of its rules refused; a rule that never did is named.
@@ -20,9 +20,21 @@ import admin_model
 import admin_rules
 import grants_maker
 import grants_model
+import keeping
+import kept_maker
+import kept_model
 import reading
 
 OUT_OF_REACH = {"L1"}  # 2^62 entries
+
+
+def kept():
+    return kept_model.KeptScript(keeping.Keeper())
+
+
+# what makes the scripts of a command, and what works them
+KINDS = {"replay": (admin_maker.AdminMaker, admin_model.Script), "grants": (grants_maker.GrantsMaker, grants_model.GrantScript),
+         "keep": (kept_maker.KeptMaker, kept)}
 
 
 def ends(making, lines):
@@ -31,13 +43,9 @@ def ends(making, lines):
     return end.join(lines) + (end if making.maybe(.9) else b"")
 
 
-def kind_of(making):
-    return grants_model.GrantScript if isinstance(making, grants_maker.GrantsMaker) else admin_model.Script
-
-
-def script_of(making, most):
+def script_of(making, script, most):
     """The script, the wanted text and status, and what to count."""
-    script, lines, counts = kind_of(making)(), [], []
+    lines, counts = [], []
     making.script = script
     printed, status, to_begin = "", 0, making.first_policies()
     while len(lines) < most and status == 0:
@@ -68,6 +76,8 @@ def labels(script, line, answer):
         yield "decide: " + json.loads(answer)["access"]
     if word == "refresh" and answer.startswith("{"):
         yield "refresh: " + next(iter(json.loads(answer)))
+    if word == "reopen" and answer.startswith("{"):
+        yield "reopen: " + ("none" if answer == '{"kept":0}' else "some")
     if word in ("grant", "revoke") and answer.startswith("{"):
         reply = json.loads(answer)
         yield word + ": " + reply.get("refused", "a new policy" if reply.get("version") == 1 else "accepted")
@@ -127,21 +137,23 @@ def words():
     parser.add_argument("scripts", type=int)
     parser.add_argument("--seed", type=int, default=1)
     parser.add_argument("--lines", type=int, default=60)
-    parser.add_argument("--grants", action="store_true")
+    parser.add_argument("--grants", dest="command", action="store_const", const="grants", default="replay")
+    parser.add_argument("--keep", dest="command", action="store_const", const="keep")
     return parser.parse_args()
 
 
 def main():
     given = words()
-    making, counts = (grants_maker.GrantsMaker if given.grants else admin_maker.AdminMaker)(given.seed), collections.Counter()
+    (maker, kind), counts = KINDS[given.command], collections.Counter()
+    making = maker(given.seed)
     for number in range(given.scripts):
-        script, text, status, labels_here = long_script() if number == 0 and not given.grants else script_of(making, given.lines)
+        script, text, status, labels_here = long_script() if number == 0 and given.command == "replay" else script_of(making, kind(), given.lines)
         counts.update(labels_here)
         if given.program == "-":
             # what was worked line by line while it was made has to be what the whole script gives
-            assert admin_model.worked(script, kind=kind_of(making))[:2] == (text, status), script.decode("utf-8", "replace")
+            assert admin_model.worked(script, kind=kind)[:2] == (text, status), script.decode("utf-8", "replace")
         else:
-            compare(given.program, "grants" if given.grants else "replay", "script %d of seed %d" % (number, given.seed), script, text, status)
+            compare(given.program, given.command, "script %d of seed %d" % (number, given.seed), script, text, status)
     print("%d scripts %s" % (given.scripts, "made" if given.program == "-" else "agree"))
     for label, count in sorted(counts.items()):
         print("%8d %s" % (count, label))

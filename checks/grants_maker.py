@@ -12,7 +12,7 @@ import model
 import spoils
 
 
-class GrantsMaker(admin_maker.AdminMaker):
+class GrantsMaker(admin_maker.NowMaker):
     def map_of(self, policy):
         """Values in another order and with repeats."""
         resources = copy.deepcopy(self.pick(maker.maps_of(policy)))
@@ -71,17 +71,8 @@ class GrantsMaker(admin_maker.AdminMaker):
         actor = "root" if self.maybe(.7) else self.pick(admin_maker.ACTORS)
         return admin_maker.line(word, actor, json.dumps(self.noise(made), ensure_ascii=self.maybe(.5)))
 
-    def facts_to_ask(self):
-        """What the plugin sees now."""
-        return self.facts_of(self.state["plugin"])
-
     def command(self):
-        if self.maybe(.35):
-            return self.row_line()
-        while True:
-            made = super().command()
-            if made != b"refresh":
-                return made
+        return self.row_line() if self.maybe(.35) else super().command()
 
     def bad_line(self):
         good = json.dumps({"service": "s"})
@@ -90,6 +81,3 @@ class GrantsMaker(admin_maker.AdminMaker):
                  admin_maker.line("grant", "root", '{"service":"s","users":"ann"}'), admin_maker.line("revoke", "root", '{"service":"s","delegateAdmin":1}'),
                  b"grant \xff " + good.encode(), admin_maker.line("facts", "{}")]
         return self.pick(words) if self.maybe(.5) else super().bad_line()
-
-    def first_policies(self):
-        return (made for made in super().first_policies() if made != b"refresh")
