@@ -44,6 +44,39 @@ def decision_line(row):
     return json.dumps(printed, separators=(",", ":"), ensure_ascii=False) + "\n"
 
 
+def many_alike():
+    """More policies with the same maps than are counted. All but one are disabled at first, and then all are deleted."""
+    definition = {"name": "d", "resources": [{"name": "path"}], "accessTypes": [{"name": "read"}]}
+    config = {"admins": ["root"], "plugin": "s", "serviceDefs": [definition], "services": [{"name": "s", "type": "d"}]}
+    row = json.dumps({"service": "s", "resources": {"path": {"values": ["a"]}}, "users": ["bob"], "accessTypes": ["read"]})
+    many = range(1, 301)
+
+    def policy(word, number, enabled, value="a", **more):
+        items = [{"users": ["ann"], "accesses": [{"type": "read"}]}]
+        made = {"service": "s", "name": f"p{number}", "isEnabled": enabled, "resources": {"path": {"values": [value]}}, "policyItems": items, **more}
+        return "admin root " + json.dumps({"command": word, "policy": made})
+
+    def kept(number, version):
+        return json.dumps({"id": number, "version": version}, separators=(",", ":"))
+
+    script = ["config " + json.dumps(config)] + [policy("createPolicy", number, False) for number in many]
+    printed = [kept(number, 1) for number in many]
+    for line, answer in (("revoke root " + row, '{"refused":"E2"}'),
+                         (policy("updatePolicy", 5, True, id=5), kept(5, 2)),
+                         (policy("updatePolicy", 9, True, id=9), '{"refused":"V13"}'),
+                         ("grant root " + row, kept(5, 3)),
+                         (policy("updatePolicy", 7, True, "b", id=7), kept(7, 2)),
+                         (policy("updatePolicy", 5, True, "b", id=5), '{"refused":"V13"}'),
+                         *(("admin root " + json.dumps({"command": "deletePolicy", "id": number}), '{"done":true}') for number in many),
+                         ("grant root " + row, kept(301, 1)),
+                         ("grant root " + row, kept(301, 2)),
+                         (policy("createPolicy", 1, True), '{"refused":"V13"}'),
+                         (policy("createPolicy", 2, True, "b"), kept(302, 1))):
+        script.append(line)
+        printed.append(answer)
+    return "many policies with the same maps", ["grants"], "\n".join(script).encode(), "".join(line + "\n" for line in printed).encode(), 0
+
+
 def cases():
     """The name, the words, the script, what is to be printed, and the status of each case."""
     definitions = json.loads((ROWS / "definitions.json").read_text())
@@ -56,6 +89,7 @@ def cases():
         script = "\n".join(row["script"]).encode("latin-1")
         printed = "".join(line + "\n" for line in row["printed"]).encode()
         yield row["name"], row.get("words", ["replay"]), script, printed, row["status"]
+    yield many_alike()
     limit = 1_048_576
     yield "the longest line", ["replay"], b"#" * limit, b"", 0
     yield "a line too long", ["replay"], b"#" * (limit + 1), b"too long\n", 6
