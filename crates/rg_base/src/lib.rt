@@ -20,6 +20,3 @@ pub use seq::Seq;
 pub use steps::{Counted, Ledger, Silent, StepKind, Steps};
 pub use tally::Tally;
 pub use text::{Text, char_count, folded_char, is_among, is_empty, is_name, same_text, split_char};
-
-#[cfg(test)]
-mod tests;

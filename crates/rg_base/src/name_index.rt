@@ -133,31 +133,3 @@ impl NameIndex {
         self.first_repeat().is_none()
     }
 }
-
-#[cfg(test)]
-mod tests {
-    use super::NameIndex;
-    use crate::text::Text;
-    use std::test::Fail;
-
-    #[test]
-    fn names_are_found_at_their_first_place(rt: HostRuntime) -> Result<(), Fail> {
-        let alloc = rt.alloc();
-        let mut names = Vec::new(alloc);
-        for name in ["hr", "sales", "Hr", "sales", "hr"] {
-            names.push(Text::copy_of(alloc, name)?)?;
-        }
-        let index = NameIndex::build(alloc, names.as_slice())?;
-        assert_eq!(rt; index.place_of("hr"), Some(0));
-        assert_eq!(rt; index.place_of("sales"), Some(1));
-        assert_eq!(rt; index.place_of("HR"), None);
-        assert!(rt; index.contains("Hr"));
-        assert!(rt; !index.contains(""));
-        assert_eq!(rt; index.first_repeat(), Some(3));
-        assert!(rt; !index.are_distinct());
-        let some = NameIndex::build(alloc, &names.as_slice()[..3])?;
-        assert_eq!(rt; some.first_repeat(), None);
-        assert!(rt; some.are_distinct());
-        Ok(())
-    }
-}

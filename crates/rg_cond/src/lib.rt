@@ -20,6 +20,3 @@ pub use policy_rules::{conditions_compile, schedules_read};
 pub use rules::Rule;
 pub use spans::{Schedule, Span, schedule_fault};
 pub use zones::TimeZones;
-
-#[cfg(test)]
-mod tests;

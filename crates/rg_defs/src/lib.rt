@@ -16,6 +16,3 @@ pub use laws::{above_is_decided, levels_lie_on_paths, paths_are_all};
 pub use level_paths::{level_of, lies_on, paths};
 pub use path_questions::Paths;
 pub use service_def::{AccessType, ConditionDef, Level, MaskType, ServiceDef};
-
-#[cfg(test)]
-mod tests;

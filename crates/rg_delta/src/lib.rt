@@ -17,6 +17,3 @@ pub use log::{DeltaLog, Since};
 pub use plain::apply_plain;
 pub use sides::{policy_edits, row_edits};
 pub use touch::Touch;
-
-#[cfg(test)]
-mod plain_tests;

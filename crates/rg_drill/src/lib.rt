@@ -9,6 +9,3 @@ mod workload;
 
 pub use definition::{drill_config, hive};
 pub use generator::Generator;
-
-#[cfg(test)]
-mod tests;

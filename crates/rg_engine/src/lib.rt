@@ -14,6 +14,3 @@ pub use engine::Engine;
 pub use fault::ApplyFault;
 pub use serials::numbered;
 pub use sharing::engine_may_be_shared;
-
-#[cfg(test)]
-mod tests;

@@ -25,6 +25,3 @@ pub use laws::{
 pub use outcome::Outcome;
 pub use setting::Setting;
 pub use texts::Published;
-
-#[cfg(test)]
-mod texts_tests;

@@ -20,6 +20,3 @@ pub use request_hooks::RequestHooks;
 pub use sink::AuditSink;
 pub use tables::{FixedPair, PairRow, SubjectPairs};
 pub use writer_sink::WriterSink;
-
-#[cfg(test)]
-mod tests;

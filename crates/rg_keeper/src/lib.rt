@@ -4,8 +4,6 @@
 mod keeper;
 mod mem_keeper;
 mod sql_keeper;
-#[cfg(test)]
-mod tests;
 
 pub use keeper::{Keeper, KeeperFault};
 pub use mem_keeper::{FailingCall, MemKeeper};

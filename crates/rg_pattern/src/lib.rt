@@ -17,6 +17,3 @@ pub use laws::{
     user_is_read_alike, user_plays_no_part,
 };
 pub use values::{pattern_of, value_fits, value_patterns};
-
-#[cfg(test)]
-mod tests;

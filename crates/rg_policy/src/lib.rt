@@ -16,6 +16,3 @@ pub use policy::{
 pub use request::{AccessRequest, Element, Resource};
 pub use rg_base::Pair;
 pub use tags::Tag;
-
-#[cfg(test)]
-mod tests;

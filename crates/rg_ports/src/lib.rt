@@ -13,8 +13,6 @@ mod mem_source;
 mod ports;
 mod taking;
 mod tcp;
-#[cfg(test)]
-mod tests;
 mod unread;
 
 pub use gate::{FreeGate, Gate, MeetingGate};

@@ -9,6 +9,3 @@ mod shown;
 pub use history::Publication;
 pub use pass::{Pass, Told};
 pub use publisher::{Publisher, begin};
-
-#[cfg(test)]
-mod tests;

@@ -15,6 +15,3 @@ mod split;
 pub use call::Call;
 pub use response::{decision_response, response_of};
 pub use router::Router;
-
-#[cfg(test)]
-mod tests;

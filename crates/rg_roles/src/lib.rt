@@ -14,6 +14,3 @@ mod walk;
 pub use fault::{RoleFault, role_fault};
 pub use membership::Roles;
 pub use row::RoleRow;
-
-#[cfg(test)]
-mod tests;

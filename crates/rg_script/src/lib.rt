@@ -4,8 +4,6 @@
 mod cause;
 mod line;
 mod lines;
-#[cfg(test)]
-mod tests;
 mod word;
 
 pub use cause::{Cause, Place, explain_line};

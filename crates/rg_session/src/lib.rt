@@ -16,6 +16,3 @@ pub use laws::{documents_lead, first_is_right, right_lists_stay_right};
 pub use opening::{Service, open};
 pub use refresher::{Refresh, Refresher};
 pub use settling::Ahead;
-
-#[cfg(test)]
-mod tests;

@@ -9,6 +9,3 @@ pub use attributes::attribute;
 pub use rg_policy::Tag;
 pub use row::TagRow;
 pub use rules::tags_fit;
-
-#[cfg(test)]
-mod tests;

@@ -8,6 +8,3 @@ mod watcher;
 pub use queue::Queue;
 pub use shared_clock::SharedClock;
 pub use watcher::Watcher;
-
-#[cfg(test)]
-mod tests;

@@ -12,6 +12,3 @@ mod walk;
 pub use pair::{Filed, Pair};
 pub use trie::Trie;
 pub use walk::Walk;
-
-#[cfg(test)]
-mod tests;

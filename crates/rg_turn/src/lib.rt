@@ -13,6 +13,3 @@ pub use machine::Machine;
 pub use rule::Entry;
 pub use seats::{Past, Seat};
 pub use turn::Turn;
-
-#[cfg(test)]
-mod tests;

@@ -23,8 +23,3 @@ pub use rules::{
     maps_fit, policy_zone_fits, services_fit, subjects_exist, tag_policy_zone_fits,
     zone_levels_fit, zone_values_fit,
 };
-
-#[cfg(test)]
-mod overlap_tests;
-#[cfg(test)]
-mod tests;
