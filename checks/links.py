@@ -1,15 +1,15 @@
 #!/usr/bin/env python3
-"""The table of links that crates/run_links serves, and what each has to leave, worked out from docs/HTTP.md and not from the program.
+"""The table of links that crates/test_threads serves, and what each has to leave, worked out from docs/HTTP.md and not from the program.
 
-usage: checks/links.py          compares crates/run_links/stdin and stdout with what is worked out here
+usage: checks/links.py          compares data/links.rows of crates/test_threads, and the lines of its stdout under `== links`, with what is
+                                worked out here
        checks/links.py --write  writes them
 """
 import json
 import pathlib
 import sys
 
-CRATE = pathlib.Path(__file__).resolve().parent.parent / "crates" / "run_links"
-CONFIG = (CRATE.parent / "test_scripts" / "data" / "administration.script").read_text().splitlines()[0].removeprefix("config ")
+CRATE = pathlib.Path(__file__).resolve().parent.parent / "crates" / "test_threads"
 PHRASES = {200: "OK", 204: "No Content", 304: "Not Modified", 400: "Bad Request", 401: "Unauthorized", 403: "Forbidden", 404: "Not Found",
            405: "Method Not Allowed", 411: "Length Required", 413: "Payload Too Large", 431: "Request Header Fields Too Large",
            501: "Not Implemented"}
@@ -36,7 +36,7 @@ def response(status, body="", close=False):
 
 
 def told(text):
-    """As run_links prints what was written: equal responses one after another are counted."""
+    """As the program prints what was written: equal responses one after another are counted."""
     front, *parts = text.replace("\r\n", "~").replace("\r", "^").split(START)
     runs = []
     for part in parts:
@@ -269,6 +269,13 @@ def unanswered():
     line(f"{name}, call 3 fails", "bad 400 after 0", 0, response(400, close=True))
 
 
+def with_table(stdout):
+    """What the program prints, with the lines of this table as they are worked out."""
+    before, behind = stdout.split("== links\n")
+    _, heading, after = behind.partition("== ")
+    return before + "== links\n" + "\n".join(wanted) + "\n" + heading + after
+
+
 def main():
     for title, table in (("downloads, and what is refused", downloads_and_refusals), ("how a link ends", ends),
                          ("heads and bodies at their limits", limits), ("decisions", decisions), ("sinks", sinks), ("the bell", bells),
@@ -280,7 +287,7 @@ def main():
     failing("two downloads", "", 8)
     failing("two downloads in pieces of 61", 61, 8)
     failing("two downloads byte by byte", 1, 2 * ONE + 2 * len(UNCHANGED) + 3)
-    texts = {"stdin": CONFIG + "\n" + "\n".join(rows) + "\n", "stdout": "\n".join(wanted) + "\n"}
+    texts = {"data/links.rows": "\n".join(rows) + "\n", "stdout": with_table((CRATE / "stdout").read_text())}
     for name, text in texts.items():
         path = CRATE / name
         if "--write" in sys.argv[1:]:

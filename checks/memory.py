@@ -1,7 +1,7 @@
 #!/usr/bin/env python3
 """Serves one link again and again, and has another request for memory refused each time: checks/memory.py [PROGRAM]
 
-PROGRAM is the built run_links (crates/run_links/out/run_links where not given). The link creates a policy, reads it, is refused another
+PROGRAM is the built test_threads (crates/test_threads/out/test_threads where not given). The link creates a policy, reads it, is refused another
 one, puts a role, asks for downloads and decisions, and ends. What has to stand where the session wants memory, by the session theorem:
 the answers written are a beginning of those of the whole link, and each is whole; the decisions that were answered are audited, but for
 the last one where memory is refused for its line, or one where the sink is refused it; and as many commands were called as were answered, or one more, whose answer is lost.
@@ -9,8 +9,8 @@ It is no part of the gate, since it needs a C compiler."""
 import pathlib, subprocess, sys, tempfile
 
 TOP = pathlib.Path(__file__).resolve().parent.parent
-PROGRAM = sys.argv[1] if len(sys.argv) > 1 else str(TOP / "crates/run_links/out/run_links")
-CONFIG = (TOP / "crates/run_links/stdin").read_text().splitlines()[0]
+CRATE = TOP / "crates/test_threads"
+PROGRAM = pathlib.Path(sys.argv[1]).resolve() if len(sys.argv) > 1 else CRATE / "out/test_threads"
 START = "HTTP/1.1 "
 REFUSING = r"""
 #define _GNU_SOURCE
@@ -56,8 +56,8 @@ MESSAGES = [
 
 def told(refused, preload):
     row = "a link|" + "".join(text for text, _, _ in MESSAGES)
-    run = subprocess.run([PROGRAM], input=f"{CONFIG}\n{row}\n".encode(), stdout=subprocess.PIPE, stderr=subprocess.DEVNULL,
-                         env={"LD_PRELOAD": preload, "REFUSED": str(refused)}, timeout=60)
+    run = subprocess.run([PROGRAM, "links"], input=f"{row}\n".encode(), stdout=subprocess.PIPE, stderr=subprocess.DEVNULL,
+                         cwd=CRATE / "data", env={"LD_PRELOAD": preload, "REFUSED": str(refused)}, timeout=60)
     return run.returncode, run.stdout.decode()
 
 
