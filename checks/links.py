@@ -9,7 +9,7 @@ import pathlib
 import sys
 
 CRATE = pathlib.Path(__file__).resolve().parent.parent / "crates" / "run_links"
-CONFIG = (CRATE.parent / "run_administration" / "stdin").read_text().splitlines()[0].removeprefix("config ")
+CONFIG = (CRATE.parent / "test_scripts" / "data" / "administration.script").read_text().splitlines()[0].removeprefix("config ")
 PHRASES = {200: "OK", 204: "No Content", 304: "Not Modified", 400: "Bad Request", 401: "Unauthorized", 403: "Forbidden", 404: "Not Found",
            405: "Method Not Allowed", 411: "Length Required", 413: "Payload Too Large", 431: "Request Header Fields Too Large",
            501: "Not Implemented"}

@@ -4,6 +4,8 @@ import pathlib
 
 import admin_model
 import grants_model
+import keeping
+import kept_model
 import model
 import records
 import report_model
@@ -236,35 +238,47 @@ def masks_and_filters():
     assert model.first_fault(facts({**select, "conditions": unsupported})) == "V9"
 
 
-def words(folder):
-    return (folder / "args").read_text().strip() if (folder / "args").exists() else None
+WORKED = {
+    "replay": admin_model.worked,
+    "grants": lambda script: admin_model.worked(script, kind=grants_model.GrantScript),
+    "report": lambda script: (report_model.printed(script.decode()), 0, None),
+    "keep": lambda script: (*kept_model.worked(script, keeping.Keeper()), None),
+}
 
 
-def stored_reports():
-    """The same of `report`."""
-    cases = [(run / "stdin", run / "stdout") for run in sorted((TOP / "crates").iterdir()) if words(run) == "report"]
-    cases.append((TOP / "examples" / "report.script", TOP / "examples" / "report.out"))
-    assert len(cases) >= 3
-    for script, out in cases:
-        assert report_model.printed(script.read_text()) == out.read_text(), script
+def read_where_it_is(path):
+    return path.read_bytes() if path.exists() else b""
+
+
+def table():
+    """The rows of crates/test_scripts that read a script and in which no call fails: name, command, script, output and status."""
+    folder = TOP / "crates" / "test_scripts"
+    for line in (folder / "stdin").read_text().splitlines():
+        if not line or line.startswith("#"):
+            continue
+        name, status, *words = line.split(" ")
+        settings = dict(word.split("=") for word in words if "=" in word)
+        command = " ".join(word for word in words if "=" not in word)
+        if command in WORKED and not settings.keys() & {"read", "write"}:
+            stored = read_where_it_is(folder / "data" / (settings.get("script", name) + ".script"))
+            script = b"#" * int(settings["hashes"]) if "hashes" in settings else stored
+            yield name, command, script, read_where_it_is(folder / "data" / (name + ".output")), int(status)
 
 
 def stored_runs():
-    """Every run of `replay` and of `grants` that the gate keeps, and the examples that have their output beside them."""
-    kinds = {"replay": admin_model.Script, "grants": grants_model.GrantScript}
-    cases = [(run.name, kinds[words(run)], run / "stdin", run / "stdout", run / "status")
-             for run in sorted((TOP / "crates").iterdir()) if words(run) in kinds and (run / "stdin").exists()]
-    cases += [(out.name, kinds["grants" if out.stem == "grants" else "replay"], out.with_suffix(".script"), out, TOP / "none")
-              for out in sorted((TOP / "examples").glob("*.out")) if out.stem != "report"]
-    assert len(cases) >= 7
-    for name, kind, script, out, status in cases:
-        text, number, cause = admin_model.worked(script.read_bytes(), kind=kind)
-        wanted = out.read_text() if out.exists() else ""
-        assert (text, number) == (wanted, int(status.read_text()) if status.exists() else 0), (name, cause)
+    """Every script that the gate runs, and the examples that have their output beside them."""
+    rangerd = TOP / "crates" / "rangerd"
+    cases = [*table(), ("rangerd", "replay", (rangerd / "stdin").read_bytes(), (rangerd / "stdout").read_bytes(), 0)]
+    cases += [(out.name, out.stem if out.stem in WORKED else "replay", out.with_suffix(".script").read_bytes(), out.read_bytes(), 0)
+              for out in sorted((TOP / "examples").glob("*.out"))]
+    assert {command for _, command, *_ in cases} == WORKED.keys()
+    for name, command, script, wanted, status in cases:
+        text, number, cause = WORKED[command](script)
+        assert (text.encode(), number) == (wanted, status), (name, cause)
 
 
 EXAMPLES = (resource_policies, resources, additional_maps, schedules_and_conditions, roles, zones, tags, eight_cells, two_tags, tags_in_zones,
-            masks_and_filters, stored_runs, stored_reports)
+            masks_and_filters, stored_runs)
 for example in EXAMPLES:
     example()
 print("%d groups of examples agree" % len(EXAMPLES))

@@ -13,7 +13,6 @@ pub enum SubjectKind {
 }
 
 /// What is decided for a subject and an access.
-#[derive(Drop)]
 pub struct ReportRow {
     pub kind: SubjectKind,
     /// The user's, the group's or the role's name; empty for all others.
@@ -21,4 +20,15 @@ pub struct ReportRow {
     /// The name of an access type.
     pub access: Text,
     pub verdict: Verdict,
+}
+
+impl Drop for ReportRow {
+    fn drop(self) {
+        let Self {
+            kind: _,
+            name: _,
+            access: _,
+            verdict: _,
+        } = self;
+    }
 }

@@ -37,11 +37,16 @@ use std::marker::Model;
 const MOST_ENTRIES: u64 = 1 << 62;
 
 /// The administration. Contracts see its state, and one log for each service in the order of the services.
-#[derive(Drop)]
 pub struct Admin {
     held: Held,
     // Of the state's policies.
     counts: MapCounts,
+}
+
+impl Drop for Admin {
+    fn drop(self) {
+        let Self { held: _, counts: _ } = self;
+    }
 }
 
 /// A state with the logs of its services.

@@ -12,13 +12,24 @@ use std::marker::Model;
 use std::mem;
 
 /// The logs of a service, and what the change under way is to do to them. Contracts see both.
-#[derive(Drop)]
 pub struct ServiceLog {
     service: Text,
     policies: DeltaLog<LogEntry>,
     tags: DeltaLog<TagChange>,
     policies_due: Touch<LogEntry>,
     tags_due: Touch<TagChange>,
+}
+
+impl Drop for ServiceLog {
+    fn drop(self) {
+        let Self {
+            service: _,
+            policies: _,
+            tags: _,
+            policies_due: _,
+            tags_due: _,
+        } = self;
+    }
 }
 
 impl Model for ServiceLog {

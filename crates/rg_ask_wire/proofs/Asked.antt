@@ -1,5 +1,5 @@
 -- An ask that was printed is read again as itself.
-use Rattle.std.proofs.Common.{◌≡◌, ℕ, ℤ, pos, ◌≤◌, List, [], ◌∷◌, Option, Some, None, Result, Ok, Bool, true, false, true≢false, IfOk, Err, unwrap_or, option_and_then, refl, sym, ap, ap₂, subst, ◌∙◌, arith}
+use Rattle.std.proofs.Common.{◌≡◌, ℕ, ℤ, pos, ◌≤◌, List, [], ◌∷◌, Some, None, Ok, true, false, true≢false, unwrap_or, option_and_then, refl, sym, ap, ap₂, subst, ◌∙◌, arith}
 use Rattle.serde_json.specs.Data.{Data, depth, no_members}
 use Rattle.serde_json.specs.Find.{as_str, get}
 use Rattle.serde_json.specs.Read.{max_depth}

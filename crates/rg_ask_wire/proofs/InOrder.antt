@@ -1,17 +1,16 @@
 -- Parts of JSON that is in order are in order.
-use Rattle.std.proofs.Common.{◌≡◌, ℕ, ℤ, pos, negsuc, List, [], ◌∷◌, ◌++◌, map, Option, Some, None, IfSome, option_map, option_and_then, unwrap_or, refl, sym, ap, ap₂, ◌∙◌, subst, Ordering, Less, Equal, Greater}
+use Rattle.std.proofs.Common.{◌≡◌, ℕ, ℤ, pos, List, [], ◌∷◌, map, Option, Some, None, IfSome, option_and_then, unwrap_or, refl, sym, ap, ap₂, ◌∙◌, subst, Ordering, Less, Equal, Greater}
 use Rattle.std.specs.Str.{IsUtf8, chars, encode_utf8_all}
 use Rattle.std.specs.Ordering.{match_ordering, nat_cmp}
 use Rattle.std.specs.Cmp.Lexicographic.{slice_cmp}
 use Rattle.std.proofs.lemmas.Str.{chars-nil, encodes-chars}
 use Rattle.serde_json.specs.Data.{Data, null, boolean, number, string, array, object, Items, no_items, item, Members, no_members, member}
-use Rattle.serde_json.specs.Find.{get, get_member, as_str, as_array, as_object, as_number, as_i64}
-use Rattle.rg_base.specs.Listed.{Listed, listed}
+use Rattle.serde_json.specs.Find.{get, get_member, as_str, as_number, as_i64}
 use Rattle.rg_json.specs.Fields.{data_list, field, items_in, list_at, list_of, map_at, map_of, members_in, pairs_list, text_at, text_of, text_or_at, unless_null, within, i64_at}
 use Rattle.rg_json.specs.Own.{EachOf, IsInteger, IsText, OwnList}
 use Rattle.rg_json.proofs.Owned.{own_nil, own_text}
-use Rattle.rg_ask_wire.specs.KeyOrder.{AreInOrder, IsBeforeAll, OwnMap}
-use Rattle.rg_ask_wire.specs.Orderly.{AreKeyed, AreOrderly, IsFine, IsFirstKey, IsOrderly}
+use Rattle.rg_ask_wire.specs.KeyOrder.{AreInOrder, OwnMap}
+use Rattle.rg_ask_wire.specs.Orderly.{AreKeyed, AreOrderly, IsOrderly}
 
 -- ---- what is found
 

@@ -1,7 +1,6 @@
 -- What was read from JSON that is in order is in key order.
-use Rattle.std.proofs.Common.{◌≡◌, ℕ, List, [], ◌∷◌, Bool, true, false, cond, bytes_eq, find, Option, Some, None, IfSome, Result, Ok, Err, refl, sym, ap, ◌∙◌, subst}
+use Rattle.std.proofs.Common.{◌≡◌, ℕ, List, [], ◌∷◌, Bool, true, false, cond, bytes_eq, find, Option, Some, None, IfSome, Result, Ok, Err, refl, sym, ap, subst}
 use Rattle.std.specs.Str.{IsUtf8, chars}
-use Rattle.std.proofs.lemmas.Option.{none-some}
 use Rattle.serde_json.specs.Data.{Data}
 use Rattle.rg_base.specs.Listed.{Listed}
 use Rattle.rg_base.specs.declared.pair.Pair.{Pair}
@@ -14,7 +13,7 @@ use Rattle.rg_json.specs.declared.fault.Fault.{Fault}
 use Rattle.rg_json.specs.Faults.{fault_of}
 use Rattle.rg_json.specs.Fields.{list_at, map_at, map_of, text_of, within}
 use Rattle.rg_json.specs.Own.{EachOf, IsText, OwnList}
-use Rattle.rg_json.specs.Reading.{reading_of, unless_fault}
+use Rattle.rg_json.specs.Reading.{unless_fault}
 use Rattle.rg_json.proofs.Owned.{own_text}
 use Rattle.rg_wire.specs.declared.key.Key.{Key}
 use Rattle.rg_wire.specs.declared.key.Key.TheVariants as key

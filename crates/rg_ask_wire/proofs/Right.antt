@@ -1,6 +1,5 @@
 -- What was printed for rows has no fault.
-use Rattle.std.proofs.Common.{◌≡◌, ℕ, List, [], ◌∷◌, Some, None, Bool, true, false, refl, ap, ◌∙◌}
-use Rattle.std.specs.Str.{chars, encode_utf8_all}
+use Rattle.std.proofs.Common.{◌≡◌, ℕ, List, Some, None, Bool, refl, ap, ◌∙◌}
 use Rattle.serde_json.specs.Data.{Data, no_members}
 use Rattle.serde_json.specs.Find.{get}
 use Rattle.rg_base.specs.Listed.{Listed}
@@ -16,9 +15,8 @@ use Rattle.rg_json.specs.declared.shape.Keys.TheVariants.{Any}
 use Rattle.rg_json.specs.declared.shape.Need.TheVariants.{Must, May}
 use Rattle.rg_json.specs.Fields.{truth_word_of}
 use Rattle.rg_json.specs.Faults.{fault_of}
-use Rattle.rg_json.specs.Own.{EachOf, IsInteger, IsText, OwnList}
 use Rattle.rg_json.specs.Printing.{text_data, bool_data, integer_data, list_data}
-use Rattle.rg_json.specs.Shape.{Shape, text, truth, truth_word, integer, list_of, map_of, text_or}
+use Rattle.rg_json.specs.Shape.{text, truth, truth_word, integer, list_of, map_of, text_or}
 use Rattle.rg_json.proofs.Again.{get_with}
 use Rattle.rg_json.proofs.Right.{first_right, head, list_right, own_list_right, text_right, texts_right, integer_right}
 use Rattle.rg_policy.specs.declared.policy.PolicyResource.{PolicyResource}
@@ -37,7 +35,7 @@ use Rattle.rg_wire.specs.Shapes.{access_type_shape, condition_def_shape, filter_
 use Rattle.rg_cmd_wire.specs.PrintedNames.{name_of as printed_name}
 use Rattle.rg_cmd_wire.specs.PrintedRows.{access_type_data, access_type_members, condition_def_data, condition_def_members, def_data, def_members, filter_part_data, filter_part_members, level_data, level_members, map_data, mask_part_data, mask_part_members, mask_type_data, mask_type_members, name_members, named_data, options_data, options_members, pair_data, pairs_data, role_data, role_members, tag_data, tag_members, tag_row_data, tag_row_members, zone_data, zone_level_data, zone_map_data, zone_members, zone_service_data, zone_service_members}
 use Rattle.rg_ask_wire.specs.Asks.{service_data, service_members, user_data, user_members}
-use Rattle.rg_ask_wire.specs.KeyOrder.{IsConditionDef, IsDef, IsLevel, IsPair, IsTag, IsTagRow, IsZone, IsZoneLevel, IsZoneService, OwnLevels, OwnMap, OwnPairs}
+use Rattle.rg_ask_wire.specs.KeyOrder.{IsConditionDef, IsDef, IsLevel, IsPair, IsTag, IsTagRow, IsZone, IsZoneLevel, IsZoneService, OwnLevels, OwnPairs}
 use Rattle.rg_ask_wire.proofs.Maps.{map_right}
 use Rattle.rg_ask_wire.proofs.Rows.{level_name, own_resources, resources_are_map}
 

@@ -1,5 +1,5 @@
 -- Rows that were printed are read again as themselves.
-use Rattle.std.proofs.Common.{◌≡◌, ℕ, pos, List, [], ◌∷◌, map, Option, Some, None, option_and_then, unwrap_or, Bool, true, false, refl, sym, ap, ◌∙◌}
+use Rattle.std.proofs.Common.{◌≡◌, ℕ, pos, List, [], ◌∷◌, map, Option, Some, option_and_then, unwrap_or, Bool, true, false, refl, sym, ap, ◌∙◌}
 use Rattle.std.specs.Str.{encode_utf8_all}
 use Rattle.serde_json.specs.Data.{Data, null, object, no_members, put}
 use Rattle.serde_json.specs.Find.{get}
@@ -12,7 +12,7 @@ use Rattle.rg_defs.specs.declared.service_def.ConditionDef.{ConditionDef}
 use Rattle.rg_defs.specs.declared.service_def.Level.{Level}
 use Rattle.rg_defs.specs.declared.service_def.MaskType.{MaskType}
 use Rattle.rg_defs.specs.declared.service_def.ServiceDef.{ServiceDef}
-use Rattle.rg_json.specs.Fields.{field, unless_null, text_of, text_or_at, truth_word_at, truth_word_of, within, list_at, list_of, map_of, map_at, items_in, members_in}
+use Rattle.rg_json.specs.Fields.{field, unless_null, text_of, text_or_at, truth_word_at, truth_word_of, within, list_at, list_of, map_of, map_at, items_in}
 use Rattle.rg_json.specs.Own.{IsText, OwnList}
 use Rattle.rg_json.specs.Printing.{text_data, bool_data, list_data}
 use Rattle.rg_json.proofs.Again.{get_with, text_again, text_of_again, bool_again, own_again, each_again, texts_again, integer_again}
@@ -21,7 +21,6 @@ use Rattle.rg_policy.specs.declared.policy.PolicyResource.{PolicyResource}
 use Rattle.rg_policy.specs.declared.tags.Tag.{Tag}
 use Rattle.rg_roles.specs.declared.row.RoleRow.{RoleRow}
 use Rattle.rg_tags.specs.declared.row.TagRow.{TagRow}
-use Rattle.rg_zones.specs.declared.row.Subjects.{Subjects}
 use Rattle.rg_zones.specs.declared.row.ZoneLevel.{ZoneLevel}
 use Rattle.rg_zones.specs.declared.row.ZoneRow.{ZoneRow}
 use Rattle.rg_zones.specs.declared.row.ZoneService.{ZoneService}
@@ -36,7 +35,7 @@ use Rattle.rg_cmd_wire.specs.PrintedNames.{name_of as printed_name}
 use Rattle.rg_cmd_wire.specs.PrintedRows.{access_type_data, access_type_members, condition_def_data, condition_def_members, def_data, def_members, filter_part_data, filter_part_members, level_data, level_members, map_data, mask_part_data, mask_part_members, mask_type_data, mask_type_members, name_members, named_data, named_members, options_data, options_members, pair_data, pairs_data, role_data, role_members, tag_data, tag_members, tag_row_data, tag_row_members, zone_data, zone_level_data, zone_map_data, zone_members, zone_service_data, zone_service_members}
 use Rattle.rg_cmd_wire.specs.Rows.{service_of, user_of}
 use Rattle.rg_ask_wire.specs.Asks.{service_data, service_members, user_data, user_members}
-use Rattle.rg_ask_wire.specs.KeyOrder.{AreInOrder, AreSubjects, IsAccessType, IsConditionDef, IsDef, IsLevel, IsMaskType, IsPair, IsRole, IsService, IsTag, IsTagRow, IsUser, IsZone, IsZoneLevel, IsZoneService, OwnLevels, OwnMap, OwnPairs}
+use Rattle.rg_ask_wire.specs.KeyOrder.{AreInOrder, IsAccessType, IsConditionDef, IsDef, IsLevel, IsMaskType, IsPair, IsRole, IsService, IsTag, IsTagRow, IsUser, IsZone, IsZoneLevel, IsZoneService, OwnLevels, OwnMap, OwnPairs}
 use Rattle.rg_ask_wire.proofs.Maps.{map_at_again, map_of_again}
 
 -- ---- parts

@@ -1,5 +1,5 @@
 -- What a state holds under a name or an id.
-use Rattle.std.specs.Prelude.{ℕ, ℤ, Bool, false, List, [], filter, Option, Some, None, option_and_then, if◌then◌else◌}
+use Rattle.std.specs.Prelude.{ℕ, ℤ, Bool, false, List, [], Option, Some, None, option_and_then, if◌then◌else◌}
 use Rattle.std.specs.List.{find}
 use Rattle.std.specs.Ordering.{int_eq}
 use Rattle.std.specs.Str.{bytes_eq}

@@ -42,13 +42,24 @@ pub enum LogEntry {
 }
 
 /// The versions of a service, and the last of the changes that led to them, the oldest first.
-#[derive(Drop)]
 pub struct Log {
     pub service: Text,
     pub policy_version: Version,
     pub tag_version: Version,
     pub policy_changes: Seq<LogEntry>,
     pub tag_changes: Seq<TagChange>,
+}
+
+impl Drop for Log {
+    fn drop(self) {
+        let Self {
+            service: _,
+            policy_version: _,
+            tag_version: _,
+            policy_changes: _,
+            tag_changes: _,
+        } = self;
+    }
 }
 
 impl Named for Log {

@@ -19,13 +19,23 @@ pub enum Part {
 }
 
 /// The changes of a service's policies and of its tag service's, from one version to another.
-#[derive(Drop)]
 pub struct PolicyDelta {
     pub from: Version,
     pub to: Version,
     pub changes: Seq<PolicyChange>,
     /// All zones, where one of the changes was of a zone.
     pub zones: Option<Seq<ZoneRow>>,
+}
+
+impl Drop for PolicyDelta {
+    fn drop(self) {
+        let Self {
+            from: _,
+            to: _,
+            changes: _,
+            zones: _,
+        } = self;
+    }
 }
 
 /// The changes of a service's tag rows, from one version to another.

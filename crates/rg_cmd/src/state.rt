@@ -10,7 +10,6 @@ use rg_zones::ZoneRow;
 use std::alloc::Global;
 
 /// A service (RangerService).
-#[derive(Drop)]
 pub struct ServiceRow {
     pub name: Text,
     /// The name of its definition.
@@ -21,6 +20,17 @@ pub struct ServiceRow {
     pub fallback: bool,
 }
 
+impl Drop for ServiceRow {
+    fn drop(self) {
+        let Self {
+            name: _,
+            def: _,
+            tag_service: _,
+            fallback: _,
+        } = self;
+    }
+}
+
 /// A user with the groups that the user belongs to.
 #[derive(Drop)]
 pub struct UserRow {
@@ -29,7 +39,6 @@ pub struct UserRow {
 }
 
 /// Everything that is administered but for the services' versions and logs. All lists are in order of creation.
-#[derive(Drop)]
 pub struct State {
     /// The names of the users who may do everything.
     pub admins: Seq<Text>,
@@ -49,6 +58,26 @@ pub struct State {
     pub count: u64,
     /// The version of the roles, which all services share.
     pub role_version: Version,
+}
+
+impl Drop for State {
+    fn drop(self) {
+        let Self {
+            admins: _,
+            users: _,
+            time_zones: _,
+            defs: _,
+            services: _,
+            policies: _,
+            zones: _,
+            roles: _,
+            tag_rows: _,
+            plugin: _,
+            next_id: _,
+            count: _,
+            role_version: _,
+        } = self;
+    }
 }
 
 impl Named for ServiceRow {

@@ -1,5 +1,5 @@
 -- The commands in JSON: the fields of each in the order of the format, and what they make.
-use Rattle.std.specs.Prelude.{ℕ, pos, List, [], ◌∷◌, option_and_then, unwrap_or}
+use Rattle.std.specs.Prelude.{pos, List, [], ◌∷◌, option_and_then, unwrap_or}
 use Rattle.serde_json.specs.Data.{Data}
 use Rattle.serde_json.specs.Find.{as_number, as_u64}
 use Rattle.rg_base.specs.declared.numbers.PolicyId.{PolicyId}

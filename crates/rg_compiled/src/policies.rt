@@ -36,12 +36,21 @@ use std::snapshot::Snapshot;
 
 /// The policies of one side, each with its evaluator, and their index. Contracts see the policies, and what they are read
 /// under. A change leaves a set as it is and gives a new one, which shares with it what the change doesn't touch.
-#[derive(Drop)]
 pub struct PolicySet {
     pub(crate) shelf: Shelf<HeldPolicy>,
     pub(crate) side: Side,
     /// Which only contracts see.
     pub(crate) frame: Snapshot<Frame>,
+}
+
+impl Drop for PolicySet {
+    fn drop(self) {
+        let Self {
+            shelf: _,
+            side: _,
+            frame: _,
+        } = self;
+    }
 }
 
 impl Model for PolicySet {

@@ -31,11 +31,20 @@ pub struct AccessType {
 }
 
 /// A policy condition (RangerPolicyConditionDef).
-#[derive(Drop)]
 pub struct ConditionDef {
     pub name: Text,
     pub evaluator: Text,
     pub options: Seq<Pair>,
+}
+
+impl Drop for ConditionDef {
+    fn drop(self) {
+        let Self {
+            name: _,
+            evaluator: _,
+            options: _,
+        } = self;
+    }
 }
 
 /// A mask type (RangerDataMaskTypeDef).
@@ -47,7 +56,6 @@ pub struct MaskType {
 }
 
 /// A service definition.
-#[derive(Drop)]
 pub struct ServiceDef {
     pub name: Text,
     pub levels: Seq<Level>,
@@ -60,6 +68,22 @@ pub struct ServiceDef {
     /// The access types and levels of the row filter part.
     pub filter_access: Seq<Text>,
     pub filter_levels: Seq<Text>,
+}
+
+impl Drop for ServiceDef {
+    fn drop(self) {
+        let Self {
+            name: _,
+            levels: _,
+            access_types: _,
+            conditions: _,
+            masks: _,
+            mask_access: _,
+            mask_levels: _,
+            filter_access: _,
+            filter_levels: _,
+        } = self;
+    }
 }
 
 impl TryCopy for Level {

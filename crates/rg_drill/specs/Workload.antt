@@ -1,6 +1,6 @@
 -- The policies and requests of the drill.
 use Rattle.std.specs.Prelude.{ℕ, zero, suc, ◌+◌, pos, Bool, true, false, List, [], ◌∷◌, ◌++◌, None, if◌then◌else◌}
-use Rattle.rg_base.specs.Listed.{Listed, listed}
+use Rattle.rg_base.specs.Listed.{listed}
 use Rattle.rg_policy.specs.Kinds.{access_policy, normal, overriding}
 use Rattle.rg_policy.specs.declared.policy.AccessEntry.{AccessEntry}
 use Rattle.rg_policy.specs.declared.policy.Item.{Item}

@@ -25,7 +25,6 @@ use std::marker::Model;
 use std::sync::Arc;
 
 /// What decides for one service. Contracts see its facts.
-#[derive(Drop)]
 pub struct Engine {
     /// Shared with the engines after it, as long as the zones and roles stay.
     setup: Arc<Setup>,
@@ -34,6 +33,17 @@ pub struct Engine {
     /// The lists that it was built of. A place that is reserved in one of them is part of the facts, and none but the list
     /// itself keeps it; a delta leaves no such places.
     given: Option<Lists>,
+}
+
+impl Drop for Engine {
+    fn drop(self) {
+        let Self {
+            setup: _,
+            versions: _,
+            sets: _,
+            given: _,
+        } = self;
+    }
 }
 
 impl Model for Engine {

@@ -29,12 +29,21 @@ use std::alloc::Global;
 use std::marker::Model;
 
 /// The policies, tag policies and tag rows, each compiled and filed. Contracts see them, and what they are read under.
-#[derive(Drop)]
 pub(crate) struct Sets {
     policies: PolicySet,
     /// None where there is no tag definition.
     tag_policies: Option<PolicySet>,
     rows: RowSet,
+}
+
+impl Drop for Sets {
+    fn drop(self) {
+        let Self {
+            policies: _,
+            tag_policies: _,
+            rows: _,
+        } = self;
+    }
 }
 
 impl Model for Sets {

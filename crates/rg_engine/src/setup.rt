@@ -37,13 +37,24 @@ impl Versions {
 
 /// The definitions, zones and roles of a service, each made ready to be asked. Contracts see the facts that it was built
 /// of, whose lists of policies and tag rows, and whose versions, don't matter.
-#[derive(Drop)]
 pub(crate) struct Setup {
     facts: Facts,
     frame: Frame,
     roles: Roles,
     zones: ZoneMap,
     paths: Paths,
+}
+
+impl Drop for Setup {
+    fn drop(self) {
+        let Self {
+            facts: _,
+            frame: _,
+            roles: _,
+            zones: _,
+            paths: _,
+        } = self;
+    }
 }
 
 impl Model for Setup {

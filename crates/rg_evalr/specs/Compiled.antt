@@ -1,5 +1,5 @@
 -- For proofs: what an evaluator keeps of a policy.
-use Rattle.std.specs.Prelude.{◌≡◌, ◌<◌, ◌^◌, ◌&&◌, ◌||◌, ℕ, Bool, List, length, map}
+use Rattle.std.specs.Prelude.{◌≡◌, ◌<◌, ◌^◌, ◌&&◌, ◌||◌, Bool, List, length, map}
 use Rattle.std.specs.List.{list_all}
 use Rattle.rg_base.specs.Listed.{Listed, listed}
 use Rattle.rg_base.specs.Texts.{is_among}

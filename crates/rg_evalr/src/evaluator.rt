@@ -27,7 +27,6 @@ use std::marker::Model;
 use std::snapshot::Snapshot;
 
 /// What is kept of a policy.
-#[derive(Drop)]
 pub(crate) struct Parts {
     pub enabled: bool,
     pub deny_all_else: bool,
@@ -42,13 +41,41 @@ pub(crate) struct Parts {
     pub filter_items: Seq<CompiledItem>,
 }
 
+impl Drop for Parts {
+    fn drop(self) {
+        let Self {
+            enabled: _,
+            deny_all_else: _,
+            spans: _,
+            matcher: _,
+            conditions: _,
+            items: _,
+            deny_items: _,
+            allow_exceptions: _,
+            deny_exceptions: _,
+            mask_items: _,
+            filter_items: _,
+        } = self;
+    }
+}
+
 /// A policy compiled, so that asking it takes no memory. Contracts see what it was compiled from. It knows no roles.
-#[derive(Drop)]
 pub struct Evaluator {
     frame: Snapshot<Frame>,
     policy: Snapshot<Policy>,
     side: Side,
     parts: Parts,
+}
+
+impl Drop for Evaluator {
+    fn drop(self) {
+        let Self {
+            frame: _,
+            policy: _,
+            side: _,
+            parts: _,
+        } = self;
+    }
 }
 
 impl Model for Evaluator {

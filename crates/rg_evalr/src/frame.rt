@@ -6,12 +6,21 @@ use rg_cond::TimeZones;
 use rg_defs::ServiceDef;
 
 /// The definitions and the time zones of a service.
-#[derive(Drop)]
 pub struct Frame {
     pub def: ServiceDef,
     /// The definition of the tag service, where the service has one.
     pub tag_def: Option<ServiceDef>,
     pub time_zones: TimeZones,
+}
+
+impl Drop for Frame {
+    fn drop(self) {
+        let Self {
+            def: _,
+            tag_def: _,
+            time_zones: _,
+        } = self;
+    }
 }
 
 /// What a policy is asked about.

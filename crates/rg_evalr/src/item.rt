@@ -29,7 +29,6 @@ impl<'a> Model for Context<'a> {
 }
 
 /// An item, its accesses and its conditions compiled.
-#[derive(Drop)]
 pub(crate) struct CompiledItem {
     /// What its entries grant, each access as requests ask for it.
     pub accesses: Seq<Text>,
@@ -41,6 +40,20 @@ pub(crate) struct CompiledItem {
     pub groups: Seq<Text>,
     pub roles: Seq<Text>,
     pub conditions: Seq<Condition>,
+}
+
+impl Drop for CompiledItem {
+    fn drop(self) {
+        let Self {
+            accesses: _,
+            every_user: _,
+            owner: _,
+            users: _,
+            groups: _,
+            roles: _,
+            conditions: _,
+        } = self;
+    }
 }
 
 /// Whether all these conditions hold.

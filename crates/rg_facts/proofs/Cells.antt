@@ -1,6 +1,6 @@
 -- The first cell that isn't empty is the cell of the first candidate by cell and id.
-use Rattle.std.proofs.Common.{◌≡◌, ◌||◌, ◌&&◌, ◌+◌, ◌<◌, ℕ, ℤ, Bool, true, false, cond, nat_lt, eqb, int_lt, List, [], ◌∷◌, map, filter, Option, Some, None, refl, ap, sym, subst, ◌∙◌, arith}
-use Rattle.std.proofs.lemmas.Bool.{and_parts, eqb-true, false≢true}
+use Rattle.std.proofs.Common.{◌≡◌, ◌||◌, ◌&&◌, ◌+◌, ℕ, ℤ, Bool, true, false, cond, nat_lt, eqb, int_lt, List, [], ◌∷◌, map, filter, Option, Some, None, refl, ap, sym, ◌∙◌, arith}
+use Rattle.std.proofs.lemmas.Bool.{and_parts, eqb-true}
 use Rattle.std.proofs.lemmas.Bool.Decides.{nat_tests}
 use Rattle.std.specs.List.{cons_option, filter_map, list_all, list_any}
 use Rattle.std.specs.Option.{option_map_or, option_or}
@@ -15,7 +15,7 @@ use Rattle.rg_evalr.specs.declared.frame.Side.TheVariants.{Resource, Tag}
 use Rattle.rg_facts.specs.Best.{best_from, better, ranked, ranks_before}
 use Rattle.rg_facts.specs.Candidates.{Candidate, Setting}
 use Rattle.rg_facts.specs.Firsts.{first_by, first_some}
-use Rattle.rg_facts.specs.Flow.{cell_at, cell_in, cell_of, cells, decided_in, decider, given, has_lesser_id, policies_in, stands_in}
+use Rattle.rg_facts.specs.Flow.{cell_at, cell_in, cell_of, cells, decider, given, has_lesser_id, policies_in, stands_in}
 use Rattle.rg_facts.proofs.Least.{best_from_none, by_id, by_rank}
 
 abbrev Rank : Type 0

@@ -1,5 +1,5 @@
 -- Policies that take no part may be left out.
-use Rattle.std.proofs.Common.{◌≡◌, ◌++◌, ℕ, Bool, false, List, [], ◌∷◌, map, Option, Some, None, Contains, refl, ap, sym, ◌∙◌}
+use Rattle.std.proofs.Common.{◌≡◌, ◌++◌, Bool, false, List, [], ◌∷◌, map, Option, None, Contains, refl, ap, sym, ◌∙◌}
 use Rattle.std.specs.List.{cons_option, filter_map, flat_map}
 use Rattle.rg_base.proofs.Lists.{Contains-first, Contains-later}
 use Rattle.rg_policy.specs.declared.policy.Policy.{Policy}

@@ -1,15 +1,14 @@
 -- What passes over candidates find.
-use Rattle.std.proofs.Common.{◌≡◌, ◌++◌, ℕ, Bool, true, false, cond, List, [], ◌∷◌, Option, Some, None, refl, ap, sym, ◌∙◌}
+use Rattle.std.proofs.Common.{◌≡◌, ◌++◌, ℕ, Bool, false, cond, List, [], ◌∷◌, Option, Some, None, refl, ap, sym, ◌∙◌}
 use Rattle.std.specs.List.{cons_option, filter_map, flat_map}
 use Rattle.std.specs.Prelude.{option_and_then}
 use Rattle.rg_policy.specs.declared.policy.Policy.{Policy}
 use Rattle.rg_policy.specs.declared.request.AccessRequest.{AccessRequest}
-use Rattle.rg_policy.specs.declared.tags.Tag.{Tag}
 use Rattle.rg_facts.specs.Best.{Best, access_asked, after, asked, best_from, better_of, choices_asked, none_yet, outcome_by, ranked, ranks_before}
 use Rattle.rg_facts.specs.Candidates.{Candidate, Setting, candidates, resource_candidates, setting_of, tag_candidates, tags_of}
-use Rattle.rg_facts.specs.Choices.{Choice, chosen, goes_before, offered, unless_no_mask}
+use Rattle.rg_facts.specs.Choices.{Choice, goes_before, offered, unless_no_mask}
 use Rattle.rg_facts.specs.Firsts.{first_by}
-use Rattle.rg_facts.specs.Flow.{Outcome, access_in, decider, is_allowed, outcome, outcome_from, outcome_of}
+use Rattle.rg_facts.specs.Flow.{access_in, decider, is_allowed, outcome, outcome_from, outcome_of}
 use Rattle.rg_facts.specs.declared.best.Pass.{Pass}
 use Rattle.rg_facts.specs.declared.best.Pass.TheVariants.{Access, Choices, All}
 use Rattle.rg_facts.specs.declared.choice.Kind.TheVariants.{Mask, Filter}

@@ -1,10 +1,9 @@
 -- What the soundness of facts says of their parts.
-use Rattle.std.proofs.Common.{◌≡◌, ◌&&◌, true, false, ℤ, pos, int_lt, Bool, List, [], ◌∷◌, Option, Some, None, is_none, Result, Ok, Err, IfOk, refl, ap, subst}
+use Rattle.std.proofs.Common.{◌≡◌, true, false, pos, int_lt, List, [], ◌∷◌, Option, Some, None, is_none, refl, ap, subst}
 use Rattle.std.proofs.lemmas.Bool.{and_parts, and_from}
 use Rattle.std.specs.List.{list_all}
 use Rattle.std.specs.Prelude.{unwrap_or}
 use Rattle.rg_base.specs.Texts.{all_distinct}
-use Rattle.rg_base.specs.declared.numbers.NoMemory.{NoMemory}
 use Rattle.rg_policy.specs.declared.policy.Policy.{Policy}
 use Rattle.rg_defs.specs.Rules.{def_fault}
 use Rattle.rg_defs.specs.declared.service_def.ServiceDef.{ServiceDef}

@@ -1,5 +1,5 @@
 -- Candidates that take no part give nothing and offer nothing.
-use Rattle.std.proofs.Common.{◌≡◌, ◌&&◌, ◌+◌, Bool, true, false, cond, ℕ, ℤ, Option, Some, None, refl, ap, ◌∙◌}
+use Rattle.std.proofs.Common.{◌≡◌, ◌&&◌, ◌+◌, Bool, true, false, cond, ℕ, ℤ, Option, None, refl, ap, ◌∙◌}
 use Rattle.std.specs.Ordering.{int_eq}
 use Rattle.std.specs.Prelude.{option_map}
 use Rattle.rg_policy.specs.Kinds.{access_policy, normal, overriding}

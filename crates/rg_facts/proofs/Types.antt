@@ -1,12 +1,10 @@
 -- Policies of one type give nothing of another.
-use Rattle.std.proofs.Common.{◌≡◌, ◌&&◌, ℕ, ℤ, pos, true, false, cond, Option, Some, None, refl, ap, ◌∙◌, arith}
+use Rattle.std.proofs.Common.{◌≡◌, ◌&&◌, ℕ, ℤ, pos, true, false, cond, None, ap, ◌∙◌, arith}
 use Rattle.std.proofs.lemmas.Int.{ints}
 use Rattle.std.specs.Ordering.{int_eq}
 use Rattle.std.specs.Prelude.{option_map}
-use Rattle.rg_policy.specs.Kinds.{access_policy, filter_policy, mask_policy}
 use Rattle.rg_policy.specs.declared.policy.Policy.{Policy}
 use Rattle.rg_evalr.specs.Effects.{access_of, item_of}
-use Rattle.rg_evalr.specs.declared.frame.Effect.{Effect}
 use Rattle.rg_evalr.specs.declared.frame.Effect.TheVariants.{Nothing}
 use Rattle.rg_facts.specs.Best.{ranked}
 use Rattle.rg_facts.specs.Candidates.{Candidate, Setting, context_of, is_chosen}

@@ -1,5 +1,5 @@
 -- The row filter and the mask.
-use Rattle.std.specs.Prelude.{ℕ, ◌+◌, ℤ, int_lt, nat_lt, eqb, codes, Bool, false, ◌&&◌, ◌||◌, List, [], ◌∷◌, Option, Some, None, option_map, option_and_then, if◌then◌else◌}
+use Rattle.std.specs.Prelude.{ℕ, ◌+◌, ℤ, int_lt, nat_lt, eqb, codes, Bool, false, ◌&&◌, ◌||◌, List, Option, Some, None, option_map, option_and_then, if◌then◌else◌}
 use Rattle.std.specs.List.{filter_map, slice_get}
 use Rattle.std.specs.Ordering.{int_eq}
 use Rattle.std.specs.Str.{bytes_eq}

@@ -53,7 +53,6 @@ pub struct MaskText {
 }
 
 /// A decision with its texts.
-#[derive(Drop)]
 pub struct Decision {
     pub access: Access,
     /// The deciding policy, or -1.
@@ -68,6 +67,23 @@ pub struct Decision {
     pub role_version: Version,
     /// The values of the named levels from the root, joined by `/`.
     pub path: Text,
+}
+
+impl Drop for Decision {
+    fn drop(self) {
+        let Self {
+            access: _,
+            policy: _,
+            audited: _,
+            filter: _,
+            mask: _,
+            serial: _,
+            policy_version: _,
+            tag_version: _,
+            role_version: _,
+            path: _,
+        } = self;
+    }
 }
 
 impl TryCopy for ItemPlace {

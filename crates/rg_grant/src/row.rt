@@ -3,7 +3,6 @@ use rg_base::{Seq, Text};
 use rg_policy::PolicyResource;
 
 /// Accesses to the resources of one map, for some subjects (Ranger's GrantRevokeRequest).
-#[derive(Drop)]
 pub struct GrantRow {
     pub service: Text,
     /// The name of a security zone, or empty.
@@ -16,4 +15,19 @@ pub struct GrantRow {
     pub accesses: Seq<Text>,
     /// Whether a grant lets the subjects administer what the resources cover. A revoke doesn't look at it.
     pub delegate: bool,
+}
+
+impl Drop for GrantRow {
+    fn drop(self) {
+        let Self {
+            service: _,
+            zone: _,
+            resources: _,
+            users: _,
+            groups: _,
+            roles: _,
+            accesses: _,
+            delegate: _,
+        } = self;
+    }
 }

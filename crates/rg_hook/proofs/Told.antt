@@ -1,5 +1,5 @@
 -- What sinks tell after a line.
-use Rattle.std.proofs.Common.{◌≡◌, ℕ, List, [], ◌∷◌, map, Option, ap}
+use Rattle.std.proofs.Common.{ℕ, List, [], ◌∷◌, map, Option, ap}
 use Rattle.std.specs.List.{AllZip}
 use Rattle.rg_hook.specs.Sinks.{AfterLine}
 use Rattle.rg_hook.specs.Told.{IsGiven, told_by}

@@ -1,5 +1,5 @@
 -- What contracts see of the keeper over a database: nothing of the records.
-use Rattle.std.specs.Prelude.{◌≡◌, ℕ, List, Option, Some, None}
+use Rattle.std.specs.Prelude.{◌≡◌, ℕ, List, Some, None}
 
 -- how many calls failed
 pub record SqlState : Type 0 where

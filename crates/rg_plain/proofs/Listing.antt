@@ -1,8 +1,7 @@
 -- Sources and candidates, made of the policies of a side one by one.
-use Rattle.std.proofs.Common.{◌≡◌, ◌||◌, ◌++◌, ℕ, Bool, true, false, cond, List, [], ◌∷◌, length, map, Option, Some, None, refl, ap, sym, ◌∙◌, arith}
+use Rattle.std.proofs.Common.{◌≡◌, ◌||◌, ℕ, Bool, true, false, cond, List, [], ◌∷◌, length, map, Option, Some, refl, ap, sym, ◌∙◌, arith}
 use Rattle.std.proofs.lemmas.List.Concat.{flat_map-append}
 use Rattle.std.specs.List.{filter, flat_map}
-use Rattle.std.specs.Str.{chars}
 use Rattle.rg_policy.specs.declared.policy.Policy.{Policy}
 use Rattle.rg_policy.specs.declared.request.AccessRequest.{AccessRequest}
 use Rattle.rg_policy.specs.declared.tags.Tag.{Tag}
@@ -13,7 +12,7 @@ use Rattle.rg_tags.specs.declared.row.TagRow.{TagRow}
 use Rattle.rg_evalr.specs.Sources.{Source}
 use Rattle.rg_evalr.specs.declared.frame.Frame.{Frame}
 use Rattle.rg_evalr.specs.declared.frame.Side.{Side}
-use Rattle.rg_evalr.specs.declared.frame.Side.TheVariants.{Resource, Tag as Tagged}
+use Rattle.rg_evalr.specs.declared.frame.Side.TheVariants.{Tag as Tagged}
 use Rattle.rg_facts.specs.Best.{Best, after}
 use Rattle.rg_facts.specs.Candidates.{Candidate, Setting, candidate, frame_of, row_lies, tag_candidates, tags_in}
 use Rattle.rg_facts.specs.Engines.{asked_for, row_matching}

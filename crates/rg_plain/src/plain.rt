@@ -24,21 +24,41 @@ use std::alloc::Global;
 use std::marker::Model;
 
 /// What is compiled of the policies and the tag rows.
-#[derive(Drop)]
 pub(crate) struct Compiled {
     pub evaluators: Seq<Evaluator>,
     pub tag_evaluators: Seq<Evaluator>,
     pub row_matchers: Seq<Matcher>,
 }
 
+impl Drop for Compiled {
+    fn drop(self) {
+        let Self {
+            evaluators: _,
+            tag_evaluators: _,
+            row_matchers: _,
+        } = self;
+    }
+}
+
 /// An engine over sound facts that asks each policy in turn. Contracts see its facts.
-#[derive(Drop)]
 pub struct Plain {
     held: Facts,
     roles: Roles,
     zones: ZoneMap,
     paths: Paths,
     compiled: Compiled,
+}
+
+impl Drop for Plain {
+    fn drop(self) {
+        let Self {
+            held: _,
+            roles: _,
+            zones: _,
+            paths: _,
+            compiled: _,
+        } = self;
+    }
 }
 
 impl Model for Plain {

@@ -20,7 +20,6 @@ pub struct PolicyCondition {
 }
 
 /// How an item masks values (RangerPolicyItemDataMaskInfo).
-#[derive(Drop)]
 pub struct MaskInfo {
     /// The name of a mask type of the service definition.
     pub kind: Text,
@@ -30,8 +29,17 @@ pub struct MaskInfo {
     pub value_expr: Text,
 }
 
+impl Drop for MaskInfo {
+    fn drop(self) {
+        let Self {
+            kind: _,
+            condition_expr: _,
+            value_expr: _,
+        } = self;
+    }
+}
+
 /// When a policy is valid, as written (RangerValiditySchedule).
-#[derive(Drop)]
 pub struct ScheduleText {
     /// `yyyy/MM/dd HH:mm:ss`, or empty for open. Both ends are included.
     pub start_time: Text,
@@ -40,6 +48,17 @@ pub struct ScheduleText {
     pub time_zone: Text,
     /// Whether a recurrence was written.
     pub recurring: bool,
+}
+
+impl Drop for ScheduleText {
+    fn drop(self) {
+        let Self {
+            start_time: _,
+            end_time: _,
+            time_zone: _,
+            recurring: _,
+        } = self;
+    }
 }
 
 /// A time zone with its rule.
@@ -51,7 +70,6 @@ pub struct TimeZoneRow {
 }
 
 /// What some subjects may do (RangerPolicyItem, with its forms for masks and row filters).
-#[derive(Drop)]
 pub struct Item {
     pub accesses: Seq<AccessEntry>,
     pub users: Seq<Text>,
@@ -63,6 +81,21 @@ pub struct Item {
     pub mask: Option<MaskInfo>,
     /// The row filter's expression.
     pub filter: Option<Text>,
+}
+
+impl Drop for Item {
+    fn drop(self) {
+        let Self {
+            accesses: _,
+            users: _,
+            groups: _,
+            roles: _,
+            conditions: _,
+            delegate: _,
+            mask: _,
+            filter: _,
+        } = self;
+    }
 }
 
 /// The values of one resource level (RangerPolicyResource).
@@ -84,7 +117,6 @@ pub struct ResourceMap {
 }
 
 /// A policy.
-#[derive(Drop)]
 pub struct Policy {
     pub id: PolicyId,
     pub guid: Text,
@@ -112,6 +144,34 @@ pub struct Policy {
     pub deny_all_else: bool,
     pub enabled: bool,
     pub audited: bool,
+}
+
+impl Drop for Policy {
+    fn drop(self) {
+        let Self {
+            id: _,
+            guid: _,
+            version: _,
+            service: _,
+            name: _,
+            policy_type: _,
+            priority: _,
+            resources: _,
+            additional: _,
+            conditions: _,
+            items: _,
+            deny_items: _,
+            allow_exceptions: _,
+            deny_exceptions: _,
+            mask_items: _,
+            filter_items: _,
+            schedules: _,
+            zone: _,
+            deny_all_else: _,
+            enabled: _,
+            audited: _,
+        } = self;
+    }
 }
 
 impl TryCopy for AccessEntry {

@@ -19,7 +19,6 @@ pub struct Resource {
 }
 
 /// A request for access.
-#[derive(Drop)]
 pub struct AccessRequest {
     pub user: Text,
     pub groups: Seq<Text>,
@@ -30,6 +29,20 @@ pub struct AccessRequest {
     /// The client's address, or empty.
     pub address: Text,
     pub context: Seq<Pair>,
+}
+
+impl Drop for AccessRequest {
+    fn drop(self) {
+        let Self {
+            user: _,
+            groups: _,
+            resource: _,
+            access: _,
+            moment: _,
+            address: _,
+            context: _,
+        } = self;
+    }
 }
 
 impl TryCopy for Element {

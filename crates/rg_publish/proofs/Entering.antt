@@ -1,5 +1,5 @@
 -- What a pass has seen after an entry goes on from what it had.
-use Rattle.std.proofs.Common.{◌≡◌, Bool, true, false, List, subst, sym}
+use Rattle.std.proofs.Common.{Bool, true, false, List, subst, sym}
 use mathlib.Core.List.{IsPrefix}
 use Rattle.rg_publish.specs.declared.history.Publication.{Publication}
 use Rattle.rg_publish.specs.Passes.{HasEntered, Seeing}

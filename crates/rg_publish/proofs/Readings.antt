@@ -1,12 +1,11 @@
 -- Each step keeps the rule of the readers.
-use Rattle.std.proofs.Common.{◌≡◌, ◌≢◌, ◌⊎◌, ℕ, List, [], ◌∷◌, ◌++◌, set, Option, Some, None, refl, sym, ap, ◌∙◌, subst, ⊎_elim}
+use Rattle.std.proofs.Common.{◌≡◌, ◌≢◌, ◌⊎◌, ℕ, List, set, Option, Some, None, refl, ap, ◌∙◌, subst, ⊎_elim}
 use mathlib.Core.Option.{some}
-use mathlib.Core.List.{IsPrefix}
 use lib.ListN.{get_elem?}
 use Rattle.crossbeam_utils.specs.Register.{Admits, TurnsAt, Forks, Merges}
 use Rattle.atomic_table.proofs.Lists.{at_set, at_snoc, set_again}
 use Rattle.logbook.specs.declared.tokens.Seen.{Seen}
-use Rattle.rg_publish.specs.Knowing.{Begins, KnownBegins, AllBegin, Reads}
+use Rattle.rg_publish.specs.Knowing.{Begins, AllBegin, Reads}
 use Rattle.rg_publish.proofs.Lists.{prefix_self, prefix_trans}
 
 module _ {E A P T : Type 0} (seen : T → Seen E A P) where

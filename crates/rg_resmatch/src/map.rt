@@ -17,13 +17,22 @@ use std::marker::Model;
 use std::snapshot::Snapshot;
 
 /// One resource map, its values read once.
-#[derive(Drop)]
 pub(crate) struct CompiledMap {
     pub(crate) levels: Vec<CompiledLevel>,
     /// Where the reach is down, the names of the levels on each path on which a request may lie.
     pub(crate) paths: Option<Vec<Seq<Text>>>,
     /// The resources as they were written, which only contracts see.
     pub(crate) written: Snapshot<Seq<PolicyResource>>,
+}
+
+impl Drop for CompiledMap {
+    fn drop(self) {
+        let Self {
+            levels: _,
+            paths: _,
+            written: _,
+        } = self;
+    }
 }
 
 impl Model for CompiledMap {

@@ -18,12 +18,21 @@ use std::marker::Model;
 use std::snapshot::Snapshot;
 
 /// Resource maps, compiled. Contracts see what they were compiled from.
-#[derive(Drop)]
 pub struct Matcher {
     maps: Vec<CompiledMap>,
     /// Which only contracts see.
     def: Snapshot<ServiceDef>,
     reach: Snapshot<Reach>,
+}
+
+impl Drop for Matcher {
+    fn drop(self) {
+        let Self {
+            maps: _,
+            def: _,
+            reach: _,
+        } = self;
+    }
 }
 
 impl Model for Matcher {

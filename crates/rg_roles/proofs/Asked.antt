@@ -1,6 +1,5 @@
 -- What is asked of a role, by its place or where it isn't there.
-use Rattle.std.proofs.Common.{Option, ◌&&◌, ◌||◌, ◌*◌, ◌^◌, length, ◌≡◌, ◌<◌, ℕ, Bool, false, List, [], get_or, Some, None, Contains, sym, ap, ◌∙◌, subst}
-use Rattle.std.specs.List.{list_any}
+use Rattle.std.proofs.Common.{Option, ◌&&◌, ◌||◌, ◌*◌, ◌^◌, length, ◌≡◌, ◌<◌, ℕ, Bool, false, List, Some, None, Contains, sym, ap, ◌∙◌, subst}
 use Rattle.std.specs.Option.{is_some}
 use Rattle.std.proofs.lemmas.Bool.{both_ways, false_from_ne_true}
 use Rattle.rg_roles.specs.declared.row.RoleRow.{RoleRow}

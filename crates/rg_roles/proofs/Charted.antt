@@ -1,10 +1,10 @@
 -- The chart of rows: what its steps say of chains of roles.
-use Rattle.std.proofs.Common.{◌⊎◌, inl, inr, ◌*◌, ◌&&◌, ◌||◌, ◌≡◌, ◌<◌, ℕ, Bool, true, false, List, [], ◌∷◌, ◌++◌, length, map, get_or, Option, Some, None, Contains, refl, sym, ap, ◌∙◌, subst, ⊎_elim, arith}
-use Rattle.std.specs.List.{All, list_any}
+use Rattle.std.proofs.Common.{◌⊎◌, inl, inr, ◌*◌, ◌&&◌, ◌||◌, ◌≡◌, ◌<◌, ℕ, Bool, true, false, List, [], length, map, get_or, Option, Some, None, Contains, refl, sym, ap, ◌∙◌, subst, ⊎_elim, arith}
+use Rattle.std.specs.List.{All}
 use Rattle.std.proofs.lemmas.Bool.{and_from, and_parts, false_from_ne_true, or_cases, or_left, or_right}
 use Rattle.std.proofs.lemmas.Bool.Decides.{same_from_decides}
 use Rattle.std.proofs.lemmas.List.{get_or-map, length-map}
-use Rattle.std.proofs.lemmas.List.Elements.{All-weaker, All-contains, All-contains_itself, All-from_get_or, Contains-get_or, Contains-append_left, Contains-push, Contains-push_cases}
+use Rattle.std.proofs.lemmas.List.Elements.{All-weaker, All-contains, All-contains_itself, All-from_get_or, Contains-get_or}
 use Rattle.rg_roles.specs.declared.row.RoleRow.{RoleRow}
 use Rattle.rg_roles.specs.Chains.{Leads, here, there, leads}
 use Rattle.rg_roles.specs.Faults.{first_row, is_on_cycle, repeats}
@@ -14,7 +14,7 @@ use Rattle.rg_roles.proofs.Sets.{any_below_at, any_below_from, has_within}
 use Rattle.rg_roles.proofs.Decided.{leads-Decides}
 use Rattle.rg_roles.proofs.Lookup.{place_found}
 use Rattle.rg_roles.proofs.Rows.{element, get_map, name_is, names_count, passes_is, unique}
-use Rattle.rg_base.proofs.Lists.{any_holds, any_from, among_from, among_holds, Contains-same}
+use Rattle.rg_base.proofs.Lists.{among_from, among_holds, Contains-same}
 
 -- between two lists of which each element gives the one at its place
 maps_back : {X : Type 0} (f : X → Option ℕ) (xs : List X) (ks : List ℕ) (d : X) → map f xs ≡ map Some ks → (k : ℕ) → Contains ks k → (x : X) × Contains xs x × (f x ≡ Some k)

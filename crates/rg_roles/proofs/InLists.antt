@@ -1,5 +1,5 @@
 -- Rows without a fault, in the words of lists.
-use Rattle.std.proofs.Common.{◌≡◌, ◌↔◌, ◌⊎◌, ◌<◌, ◌&&◌, ℕ, Bool, true, false, not, List, [], ◌∷◌, length, map, filter, Contains, Option, Some, None, refl, sym, ap, ◌∙◌, subst, inl, inr, ⊎_elim, cond}
+use Rattle.std.proofs.Common.{◌≡◌, ◌↔◌, ◌⊎◌, ℕ, Bool, true, false, not, List, [], ◌∷◌, length, map, filter, Contains, Option, Some, None, refl, sym, ap, ◌∙◌, subst, inl, inr, ⊎_elim, cond}
 use Rattle.std.specs.List.{list_any}
 use Rattle.std.specs.Option.{is_none}
 use Rattle.std.specs.Str.{bytes_eq}
@@ -8,7 +8,7 @@ use Rattle.std.proofs.lemmas.Slice.Eq.{bytes_eq-Decides}
 use Rattle.rg_base.specs.Names.{first_repeat}
 use Rattle.rg_base.specs.Texts.{all_distinct, is_among}
 use Rattle.rg_base.proofs.Firsts.{first_none, none_first}
-use Rattle.rg_base.proofs.Lists.{Contains-filter, Contains-filtered, Contains-map, Contains-mapped, Contains-same, all_distinct-map, among_from, among_holds, any_from, any_holds}
+use Rattle.rg_base.proofs.Lists.{Contains-filter, Contains-filtered, Contains-map, Contains-mapped, all_distinct-map, among_from, among_holds, any_from, any_holds}
 use Rattle.rg_base.proofs.Names.{distinct_is}
 use Rattle.rg_roles.specs.declared.row.RoleRow.{RoleRow}
 use Rattle.rg_roles.specs.Chains.{Leads, here, there, leads}

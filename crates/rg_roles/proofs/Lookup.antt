@@ -1,5 +1,5 @@
 -- The first place of a name.
-use Rattle.std.proofs.Common.{◌≡◌, ◌<◌, ℕ, not, true, false, List, [], length, get_or, Some, None, ap, sym, ◌∙◌}
+use Rattle.std.proofs.Common.{◌≡◌, ◌<◌, ℕ, not, true, false, List, [], length, get_or, Some, None, ap, ◌∙◌}
 use Rattle.std.specs.Option.{is_some}
 use Rattle.std.specs.Str.{bytes_eq}
 use Rattle.std.proofs.lemmas.List.Quantifiers.{position-Some}

@@ -4,7 +4,7 @@ use Rattle.std.proofs.lemmas.Bool.{cases_lt}
 use Rattle.std.proofs.lemmas.Bool.Decides.{nat_tests}
 use Rattle.std.proofs.lemmas.List.{get_or_past}
 use Rattle.rg_base.proofs.Lists.{Contains-none, all_holds}
-use Rattle.rg_roles.specs.Places.{NeverRises, Reaches, by_step, by_steps, falls, stays}
+use Rattle.rg_roles.specs.Places.{NeverRises, Reaches, by_step, by_steps, falls}
 
 module _ (chart : List (List ℕ)) (ranks : List ℕ) where
   abbrev rank : ℕ → ℕ

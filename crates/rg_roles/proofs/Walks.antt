@@ -2,7 +2,7 @@
 use Rattle.std.proofs.Common.{eqb, ◌≡◌, ◌+◌, ◌≤◌, ◌<◌, ℕ, Bool, true, false, cond, List, [], ◌∷◌, ◌++◌, length, take, get_or, Contains, refl, sym, ap, ◌∙◌, subst, ⊎_elim, arith}
 use Rattle.std.specs.Bool.{Decides}
 use Rattle.std.specs.List.{All, list_any}
-use Rattle.std.proofs.lemmas.Bool.{both_ways, cases_lt, eq-eqb, eqb-true, true≢false}
+use Rattle.std.proofs.lemmas.Bool.{cases_lt, eq-eqb, eqb-true, true≢false}
 use Rattle.std.proofs.lemmas.List.{append_assoc, get_or-replicate, get_or_past, take-append-le, take_more, take_all, length-append, append-nil, length-replicate}
 use Rattle.std.proofs.lemmas.List.Elements.{All-nil, All-append, All-push, All-weaker, All-get_or, All-contains, All-same, Contains-append_left, Contains-append_right}
 use Rattle.std.proofs.lemmas.List.Folds.{sum_by-replicate}

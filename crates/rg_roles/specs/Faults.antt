@@ -1,5 +1,5 @@
 -- What is at fault in a list of rows.
-use Rattle.std.specs.Prelude.{Contains, ℕ, zero, suc, ◌≡◌, ◌<◌, ◌⊎◌, not, Bool, true, false, List, length, take, Option, Some, None, option_map, if◌then◌else◌}
+use Rattle.std.specs.Prelude.{Contains, ℕ, ◌≡◌, ◌<◌, ◌⊎◌, not, Bool, true, false, List, length, take, Option, Some, option_map}
 use Rattle.std.specs.List.{list_any}
 use Rattle.std.specs.Option.{option_or}
 use Rattle.std.specs.Str.{bytes_eq}

@@ -2,7 +2,6 @@
 use Rattle.std.specs.Prelude.{ℕ, codes, ◌||◌, Bool, false, List, [], map, slice_get, slice_index_or}
 use Rattle.std.specs.List.{list_any}
 use Rattle.std.specs.Option.{option_map_or}
-use Rattle.std.specs.Str.{bytes_eq}
 use Rattle.rg_base.specs.Texts.{is_among}
 use Rattle.rg_roles.specs.declared.row.RoleRow.{RoleRow}
 

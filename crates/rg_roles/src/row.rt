@@ -3,13 +3,23 @@ use rg_base::{Named, NoMemory, Seq, Text, TryCopy};
 use std::alloc::Global;
 
 /// A role with its members.
-#[derive(Drop)]
 pub struct RoleRow {
     pub name: Text,
     pub users: Seq<Text>,
     pub groups: Seq<Text>,
     /// The names of the roles whose members this role has too.
     pub roles: Seq<Text>,
+}
+
+impl Drop for RoleRow {
+    fn drop(self) {
+        let Self {
+            name: _,
+            users: _,
+            groups: _,
+            roles: _,
+        } = self;
+    }
 }
 
 impl Named for RoleRow {

@@ -22,12 +22,22 @@ use std::sync::Wait;
 
 /// An administration with its plugin, for one caller: a turn of one seat, what is published, and one pass. Contracts see the
 /// administration after all calls, and the publications.
-#[derive(Drop)]
 pub struct Running<R: Wait + Drop> {
     turn: Turn<Admin>,
     seat: Seat<Admin>,
     refresher: Refresher<R>,
     pass: Pass,
+}
+
+impl<R: Wait + Drop> Drop for Running<R> {
+    fn drop(self) {
+        let Self {
+            turn: _,
+            seat: _,
+            refresher: _,
+            pass: _,
+        } = self;
+    }
 }
 
 impl<R: Wait + Drop> Model for Running<R> {

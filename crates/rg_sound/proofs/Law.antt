@@ -1,5 +1,5 @@
 -- Facts are sound exactly where nothing makes them unsound.
-use Rattle.std.proofs.Common.{◌≡◌, ◌&&◌, true, false, not, ℕ, ◌+◌, suc, Bool, cond, List, [], ◌∷◌, Option, Some, None, is_none, refl, ap, sym, ◌∙◌}
+use Rattle.std.proofs.Common.{◌≡◌, ◌&&◌, true, false, not, ℕ, ◌+◌, Bool, cond, List, [], ◌∷◌, Option, Some, None, is_none, refl, ap, sym, ◌∙◌}
 use Rattle.std.proofs.lemmas.Bool.{and_from, and_parts}
 use Rattle.std.proofs.lemmas.Iterator.Adapters.{position_from-zero}
 use Rattle.std.specs.List.{find, list_all, position_from}
@@ -25,7 +25,7 @@ use Rattle.rg_evalr.specs.declared.frame.Frame.{Frame}
 use Rattle.rg_evalr.specs.declared.frame.Side.{Side}
 use Rattle.rg_evalr.specs.declared.frame.Side.TheVariants.{Resource, Tag}
 use Rattle.rg_facts.specs.Candidates.{frame_of}
-use Rattle.rg_facts.specs.Sound.{all_policies, defs_sound, ids_sound, is_no_policy, is_tag_def, passes, policies_sound, roles_sound, row_ids, row_sound, sound, tag_def_sound, tag_policies_pass, tag_rows_sound, versions_fit, zone_names_sound, zones_sound}
+use Rattle.rg_facts.specs.Sound.{all_policies, defs_sound, ids_sound, is_no_policy, is_tag_def, passes, policies_sound, roles_sound, row_ids, sound, tag_def_sound, tag_policies_pass, tag_rows_sound, versions_fit, zone_names_sound, zones_sound}
 use Rattle.rg_facts.specs.declared.facts.Facts.{Facts}
 use Rattle.rg_sound.specs.Causes.{causes, def_causes, faulty, first_cause, first_faulty, first_policy, first_some, first_tag_row, first_zone, policy_causes, role_causes, rule_cause, tag_def_causes, tag_policies_cause, tag_row_causes, unless, zone_causes, zone_name_causes}
 use Rattle.rg_sound.specs.declared.unsound.Unsound.{Unsound}

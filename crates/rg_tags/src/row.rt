@@ -4,12 +4,22 @@ use rg_policy::{PolicyResource, Tag};
 use std::alloc::Global;
 
 /// A resource with its tags (RangerServiceResource).
-#[derive(Drop)]
 pub struct TagRow {
     pub id: i64,
     pub service: Text,
     pub resources: Seq<PolicyResource>,
     pub tags: Seq<Tag>,
+}
+
+impl Drop for TagRow {
+    fn drop(self) {
+        let Self {
+            id: _,
+            service: _,
+            resources: _,
+            tags: _,
+        } = self;
+    }
 }
 
 impl TryCopy for TagRow {

@@ -3,7 +3,7 @@ use Rattle.std.proofs.Common.{◌≡◌, ℕ, ◌≤◌, Bool, true, false, List
 use Rattle.serde_json.specs.Data.{depth}
 use Rattle.serde_json.specs.Written.{has_float}
 use Rattle.rg_base.specs.Listed.{Listed}
-use Rattle.rg_json.specs.Printing.{text_data, list_data}
+use Rattle.rg_json.specs.Printing.{list_data}
 use Rattle.rg_json.proofs.Plain.{Plain, PlainMembers, none_plain, put_plain, object_plain, list_plain, text_plain, bool_plain, integer_plain, count_plain, option_plain, texts_plain}
 use Rattle.rg_policy.specs.declared.policy.AccessEntry.{AccessEntry}
 use Rattle.rg_policy.specs.declared.policy.PolicyCondition.{PolicyCondition}

@@ -1,5 +1,5 @@
 -- Zones that overlap no other, in the words of lists.
-use Rattle.std.proofs.Common.{◌≡◌, ◌⊎◌, ◌<◌, ◌≤◌, ◌+◌, ◌&&◌, ◌||◌, ◌++◌, ℕ, zero, suc, Bool, true, false, not, cond, if◌then◌else◌, nat_eq, List, [], ◌∷◌, length, map, filter, Option, Some, None, Contains, slice_get, refl, sym, ap, subst, ◌∙◌, inl, inr, arith}
+use Rattle.std.proofs.Common.{◌≡◌, ◌<◌, ◌+◌, ◌&&◌, ◌||◌, ◌++◌, ℕ, zero, suc, Bool, true, false, not, cond, nat_eq, List, [], ◌∷◌, length, map, filter, Option, Some, None, Contains, slice_get, refl, sym, ap, subst, ◌∙◌, inl, inr, arith}
 use Rattle.std.proofs.lemmas.Bool.{and_from, and_parts, false≢true, not-true, not_from_false, or_left, or_right}
 use Rattle.std.proofs.lemmas.List.Elements.{Contains-append_cases, Contains-append_left, Contains-append_right}
 use Rattle.std.proofs.lemmas.Option.{none-some, same_Some, slice_get_within}
@@ -9,7 +9,7 @@ use Rattle.std.specs.Option.{is_none}
 use Rattle.std.specs.Str.{bytes_eq}
 use Rattle.rg_base.specs.Listed.{Listed}
 use Rattle.rg_base.specs.Texts.{all_distinct}
-use Rattle.rg_base.proofs.Lists.{Contains-cases, Contains-filtered, Contains-first, Contains-later, Contains-mapped, Contains-none, Contains-slice_get, all_from, all_holds, any_from, any_holds}
+use Rattle.rg_base.proofs.Lists.{Contains-cases, Contains-filtered, Contains-mapped, Contains-slice_get, all_from, all_holds, any_from, any_holds}
 use Rattle.rg_defs.specs.declared.service_def.Level.{Level}
 use Rattle.rg_defs.specs.declared.service_def.ServiceDef.{ServiceDef}
 use Rattle.rg_defs.specs.Paths.{level_of}
@@ -18,12 +18,11 @@ use Rattle.rg_pattern.specs.declared.atoms.Atom.TheVariants.{Character, One, Any
 use Rattle.rg_pattern.specs.Tests.{cell, is_any, overlaps, share_char}
 use Rattle.rg_zones.specs.declared.row.ZoneLevel.{ZoneLevel}
 use Rattle.rg_zones.specs.declared.row.ZoneRow.{ZoneRow}
-use Rattle.rg_zones.specs.Overlap.{LevelPatterns, all_meet, at_pair, first_overlap, folds, holds_of, level_patterns, levels_meet, map_patterns, maps_overlap, needed_names, needs_none, patterns_meet, patterns_overlap, reaches, share_levels, zones_overlap}
+use Rattle.rg_zones.specs.Overlap.{LevelPatterns, all_meet, at_pair, first_overlap, folds, holds_of, level_patterns, levels_meet, map_patterns, maps_overlap, needed_names, needs_none, patterns_overlap, reaches, share_levels, zones_overlap}
 use Rattle.rg_zones.specs.Zones.{maps_for}
 use Rattle.rg_zones.proofs.Keys.{nat_eq-flip}
 use Rattle.rg_zones.proofs.Least.{First, first_of}
 use Rattle.rg_zones.proofs.Members.{bool_cases}
-use Rattle.rg_zones.proofs.Pairs.{pair_there}
 
 -- ---- truth values
 

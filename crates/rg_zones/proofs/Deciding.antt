@@ -1,9 +1,7 @@
 -- The computed test of two zones decides whether they overlap.
-use Rattle.std.proofs.Common.{◌≡◌, ◌&&◌, ◌||◌, ℕ, Bool, true, false, not, if◌then◌else◌, List, [], refl, sym, ◌∙◌}
-use Rattle.std.proofs.lemmas.Bool.{and_parts}
+use Rattle.std.proofs.Common.{◌≡◌, ℕ, Bool, true, false, if◌then◌else◌, List, [], refl, sym, ◌∙◌}
 use Rattle.std.proofs.lemmas.List.Folds.{list_all-map}
 use Rattle.std.specs.List.{list_all, list_any}
-use Rattle.std.specs.Str.{bytes_eq}
 use Rattle.rg_base.specs.Listed.{Listed}
 use Rattle.rg_defs.specs.declared.service_def.ServiceDef.{ServiceDef}
 use Rattle.rg_policy.specs.declared.request.Element.{Element}
@@ -16,7 +14,7 @@ use Rattle.rg_zones.specs.Zones.{entry_maps, in_zone, is_for, map_lies, maps_for
 use Rattle.rg_zones.proofs.Fitting.{fit_maps, in_maps}
 use Rattle.rg_zones.proofs.Forms.{TwinScalars, TwinUser, form_lies, form_of, known, lies_same, scalars_of}
 use Rattle.rg_zones.proofs.Found.{FoundLaw, TextLaw, forms_found}
-use Rattle.rg_zones.proofs.Members.{Has, agree_any, all_flat, all_has, any_flat, any_has, has_all, has_any}
+use Rattle.rg_zones.proofs.Members.{Has, all_flat, all_has, any_has, has_all, has_any}
 use Rattle.rg_zones.proofs.Shown.{ShownLaw, StandsLaw, forms_shown}
 
 all_chosen : {X : Type 0} (p : X → Bool) (b : Bool) (xs : List X) → list_all p xs ≡ true → list_all p (if b then xs else []) ≡ true

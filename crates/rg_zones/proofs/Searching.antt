@@ -7,7 +7,6 @@ use Rattle.std.proofs.lemmas.Option.{none-some, same_Some, slice_get_within}
 use Rattle.std.proofs.lemmas.Slice.Eq.{bytes_eq-Decides}
 use Rattle.std.specs.List.{filter, find, flat_map, fold, list_all, list_any, range_with_len, starts_with}
 use Rattle.std.specs.Str.{bytes_eq}
-use Rattle.rg_base.specs.Listed.{Listed}
 use Rattle.rg_base.proofs.Lists.{Contains-cases, Contains-filter, Contains-first, Contains-flat_map, Contains-flat_mapped, Contains-later, Contains-map, Contains-mapped, Contains-none, Contains-slice_get, all_holds, any_holds, find_agree, take_next}
 use Rattle.rg_defs.specs.declared.service_def.Level.{Level}
 use Rattle.rg_defs.specs.declared.service_def.ServiceDef.{ServiceDef}
@@ -18,7 +17,6 @@ use Rattle.rg_pattern.specs.Tests.{overlaps}
 use Rattle.rg_trie.specs.declared.pair.Filed.{Filed}
 use Rattle.rg_trie.specs.declared.pair.Pair.{Pair}
 use Rattle.rg_trie.specs.Walked.{entries_under, is_under}
-use Rattle.rg_zones.specs.declared.row.ZoneLevel.{ZoneLevel}
 use Rattle.rg_zones.specs.declared.row.ZoneRow.{ZoneRow}
 use Rattle.rg_zones.specs.Best.{better, ordered}
 use Rattle.rg_zones.specs.Candidates.{AreFiled, Filing, HoldsFirst, IsFiled, IsFiledAt, across, all_need, beside, beside_all, filed_as, filing_keys, filings_meet, found_under, keys_at, level_keys, map_keys, maps_of, meet_at, name_at, needs_level, same_anchor, same_place, zone_keys}

@@ -37,12 +37,21 @@ impl Model for MatchedZone {
 }
 
 /// The zones of one service, compiled. Contracts see what they were built from.
-#[derive(Drop)]
 pub struct ZoneMap {
     zones: Vec<MatchedZone>,
     service: Text,
     /// Which only contracts see.
     def: Snapshot<ServiceDef>,
+}
+
+impl Drop for ZoneMap {
+    fn drop(self) {
+        let Self {
+            zones: _,
+            service: _,
+            def: _,
+        } = self;
+    }
 }
 
 impl Model for ZoneMap {

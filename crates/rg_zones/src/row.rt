@@ -18,15 +18,23 @@ pub struct ZoneService {
 }
 
 /// Users, groups and roles by name.
-#[derive(Drop)]
 pub struct Subjects {
     pub users: Seq<Text>,
     pub groups: Seq<Text>,
     pub roles: Seq<Text>,
 }
 
+impl Drop for Subjects {
+    fn drop(self) {
+        let Self {
+            users: _,
+            groups: _,
+            roles: _,
+        } = self;
+    }
+}
+
 /// A security zone.
-#[derive(Drop)]
 pub struct ZoneRow {
     pub name: Text,
     pub services: Seq<ZoneService>,
@@ -34,6 +42,18 @@ pub struct ZoneRow {
     pub tag_services: Seq<Text>,
     pub admins: Subjects,
     pub auditors: Subjects,
+}
+
+impl Drop for ZoneRow {
+    fn drop(self) {
+        let Self {
+            name: _,
+            services: _,
+            tag_services: _,
+            admins: _,
+            auditors: _,
+        } = self;
+    }
 }
 
 impl TryCopy for ZoneLevel {

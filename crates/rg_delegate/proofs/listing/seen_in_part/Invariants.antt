@@ -4,7 +4,6 @@ use Rattle.std.specs.Str.{chars}
 use Rattle.rg_cmd.specs.Lookups.{is_of}
 use Rattle.rg_policy.specs.declared.policy.Policy.{Policy}
 use Rattle.rg_delegate.specs.Authority.{may_see}
-use Rattle.rg_delegate.specs.Found.{candidates}
 use Rattle.rg_delegate.proofs.listing.seen_in_part.Given as goal
 
 abbrev pub invariant-loop-policy : goal.invariant-loop-policy

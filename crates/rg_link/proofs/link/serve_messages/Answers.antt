@@ -1,4 +1,4 @@
-use Rattle.std.proofs.Common.{[], refl, sym, ap, ◌∙◌, subst, arith}
+use Rattle.std.proofs.Common.{refl, sym, ap, ◌∙◌, subst, arith}
 use Rattle.std.specs.Str.{chars}
 use Rattle.rg_http.specs.declared.message.End.TheVariants.{Bad}
 use Rattle.rg_http.specs.Answers.{Framed, IsRead}

@@ -1,4 +1,4 @@
-use Rattle.std.proofs.Common.{◌≡◌, ℕ, ◌+◌, ◌-◌, List, [], ◌∷◌, ◌++◌, length, Some, slice_get, arith, length-append, refl, sym, ap, ◌∙◌, subst}
+use Rattle.std.proofs.Common.{◌≡◌, ◌+◌, ◌-◌, List, [], ◌∷◌, ◌++◌, length, Some, slice_get, arith, length-append, sym, ap, ◌∙◌, subst}
 use Rattle.std.specs.Arc.{arc_value}
 use Rattle.rg_publish.specs.declared.history.Publication.{Publication}
 use Rattle.rg_publish.specs.Publications.{publication}

@@ -1,5 +1,4 @@
 use Rattle.std.proofs.Common.{◌≡◌, [], ◌∷◌, drop}
-use Rattle.rg_publish.specs.Knowing.{Begins}
 use Rattle.rg_publish.proofs.publisher.show.Given as goal
 
 abbrev pub invariant-loop : goal.invariant-loop

@@ -3,7 +3,6 @@ use Rattle.std.proofs.lemmas.Result.{err_from_is_err_and}
 use Rattle.rg_base.specs.Names.{first_repeat}
 use Rattle.rg_roles.specs.declared.fault.RoleFault.TheVariants.{Duplicate}
 use Rattle.rg_roles.specs.Faults.{first_row, repeats}
-use Rattle.rg_roles.specs.Places.{AreBounded}
 use Rattle.rg_roles.proofs.Built.{is_cycle, no_fault, repeat_is}
 use Rattle.rg_roles.proofs.Charted.{chart_bounded}
 use Rattle.rg_roles.proofs.Ranked.{duplicate_first, unknown_next}

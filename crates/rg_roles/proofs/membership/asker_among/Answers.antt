@@ -1,4 +1,4 @@
-use Rattle.std.proofs.Common.{Bool, ℕ, get_or, sym, ◌∙◌}
+use Rattle.std.proofs.Common.{Bool, ℕ, sym, ◌∙◌}
 use Rattle.std.specs.Str.{chars}
 use Rattle.rg_roles.specs.Members.{names_asker, passes_at}
 use Rattle.rg_roles.proofs.Sets.{none_below_zero, word_found, word_none, word_zero}

@@ -1,4 +1,4 @@
-use Rattle.std.proofs.Common.{◌≡◌, ◌++◌, ◌+◌, ◌<◌, List, ℕ, drop, length, sym, ap, ◌∙◌, append_assoc, arith}
+use Rattle.std.proofs.Common.{◌++◌, ◌+◌, ◌<◌, List, ℕ, drop, length, sym, ap, ◌∙◌, append_assoc, arith}
 use Rattle.std.specs.Str.{chars}
 use Rattle.rg_base.proofs.Lists.{drop_next}
 use Rattle.rg_zones.specs.Candidates.{level_keys, map_keys}

@@ -1,11 +1,10 @@
-use Rattle.std.proofs.Common.{◌≡◌, ◌+◌, ◌<◌, ◌++◌, ℕ, List, [], ◌∷◌, Some, length, take, drop, map, slice_get, true, sym, ap, subst, ◌∙◌, arith}
+use Rattle.std.proofs.Common.{◌≡◌, ◌+◌, ◌<◌, ◌++◌, [], ◌∷◌, length, map, true, sym, ap, subst, ◌∙◌, arith}
 use Rattle.std.proofs.lemmas.List.{map-append}
 use Rattle.std.specs.List.{list_all}
 use Rattle.std.specs.Str.{chars}
-use Rattle.rg_base.proofs.Lists.{left_passes, take_next}
-use Rattle.rg_zones.specs.declared.row.ZoneRow.{ZoneRow}
+use Rattle.rg_base.proofs.Lists.{left_passes}
 use Rattle.rg_zones.specs.Candidates.{AreFiled, Filing, IsFiled, maps_of}
-use Rattle.rg_zones.specs.Overlap.{LevelPatterns, zone_patterns, zone_scalars}
+use Rattle.rg_zones.specs.Overlap.{zone_patterns, zone_scalars}
 use Rattle.rg_zones.specs.Rules.{maps_fit}
 use Rattle.rg_zones.proofs.Scalars.{one_more}
 use Rattle.rg_zones.proofs.Searching.{filed_more, mapped_more}

@@ -1,4 +1,4 @@
-use Rattle.std.proofs.Common.{◌≡◌, ℕ, List, Option, None, length, sym, ap, subst, ◌∙◌}
+use Rattle.std.proofs.Common.{◌≡◌, ℕ, List, Option, None, length, ap, subst, ◌∙◌}
 use Rattle.std.specs.List.{fold, range_with_len}
 use Rattle.std.specs.Str.{chars}
 use Rattle.rg_defs.specs.declared.service_def.Level.{Level}

@@ -1,7 +1,5 @@
-use Rattle.std.proofs.Common.{◌≡◌, ◌+◌, ◌<◌, ◌⊎◌, ℕ, zero, suc, List, Some, Contains, length, slice_get, sym, ap, subst, ◌∙◌, inl, inr, arith}
-use Rattle.std.proofs.lemmas.Option.{same_Some}
-use Rattle.rg_trie.specs.declared.pair.Pair.{Pair}
-use Rattle.rg_zones.specs.Candidates.{Filing, HoldsFirst, filed_as}
+use Rattle.std.proofs.Common.{◌≡◌, ◌<◌, ℕ, List, Contains, slice_get, sym, ap, subst, ◌∙◌, inl, inr, arith}
+use Rattle.rg_zones.specs.Candidates.{Filing, filed_as}
 use Rattle.rg_zones.proofs.Searching.{here_or_before, item_there}
 use Rattle.rg_zones.proofs.overlap.trie_of.Goals as goal
 

@@ -1,6 +1,6 @@
-use Rattle.std.proofs.Common.{◌≡◌, List, ap, sym, ◌∙◌}
+use Rattle.std.proofs.Common.{◌≡◌, ap, sym, ◌∙◌}
 use Rattle.std.specs.List.{flat_map}
-use Rattle.rg_facts.specs.Best.{Best, after, none_yet, outcome_by}
+use Rattle.rg_facts.specs.Best.{after, none_yet, outcome_by}
 use Rattle.rg_facts.specs.Candidates.{Setting, resource_candidates, setting_of, tag_candidates, tags_of}
 use Rattle.rg_facts.specs.declared.best.Pass.TheVariants.{Access, All, Choices}
 use Rattle.rg_facts.specs.declared.facts.Facts.{Facts}

@@ -1,5 +1,5 @@
-use Rattle.std.proofs.Common.{ℕ, ◌+◌, sym, ap, ◌∙◌, subst}
-use Rattle.std.specs.Prelude.{IfSome, min, Option}
+use Rattle.std.proofs.Common.{sym, ap, ◌∙◌, subst}
+use Rattle.std.specs.Prelude.{IfSome, Option}
 use mathlib.Core.List.{IsPrefix}
 use Rattle.rg_publish.specs.declared.shown.Shown.{Shown}
 use Rattle.rg_publish.specs.Passes.{Seeing, risen}

@@ -1,4 +1,4 @@
-use Rattle.std.proofs.Common.{sym, ap, subst}
+use Rattle.std.proofs.Common.{sym, subst}
 use mathlib.Core.List.{IsPrefix}
 use Rattle.rg_publish.specs.declared.shown.Shown.{Shown}
 use Rattle.rg_publish.specs.Publications.{Published}

@@ -1,4 +1,4 @@
-use Rattle.std.proofs.Common.{◌≡◌, refl, ap, subst}
+use Rattle.std.proofs.Common.{refl, subst}
 use mathlib.Core.List.{IsPrefix}
 use Rattle.rg_publish.proofs.Lists.{decided}
 use Rattle.rg_publish.proofs.shown.Shown.is_before.Goals as goal

@@ -1,7 +1,7 @@
 use Rattle.std.proofs.Common.{◌&&◌, ◌||◌, ◌*◌, ◌≡◌, ◌<◌, ◌^◌, false, length, sym, ap, subst, ◌∙◌}
 use Rattle.std.specs.Str.{chars}
 use Rattle.rg_roles.specs.Holding.{holds}
-use Rattle.rg_roles.specs.Members.{names_asker, names_of, passes_at}
+use Rattle.rg_roles.specs.Members.{names_asker, passes_at}
 use Rattle.rg_roles.specs.Places.{any_below, has, place_in}
 use Rattle.rg_roles.proofs.Asked.{asked_few, asked_nowhere, asked_there}
 use Rattle.rg_roles.proofs.Decided.{leads-Decides}

@@ -1,5 +1,5 @@
-use Rattle.std.proofs.Common.{◌≡◌, rules, ℕ, List, Option, Some, None, map, position, sym, ap, ◌∙◌}
-use Rattle.rg_zones.specs.Matched.{RowMatching, is_matched, rows_of}
+use Rattle.std.proofs.Common.{◌≡◌, rules, None, position, ap, ◌∙◌}
+use Rattle.rg_zones.specs.Matched.{is_matched, rows_of}
 use Rattle.rg_zones.specs.Zones.{in_zone, zone_of}
 use Rattle.rg_zones.specs.Zoning.{Zoning}
 use Rattle.rg_zones.proofs.Finding.{same_place}

@@ -1,0 +1,110 @@
+#!/usr/bin/env bash
+# Tries the edits of code that the prover has to refuse: checks/wrong_bodies/CRATE/*.edit, and the gate's own in crates/CRATE/must-fail.
+# usage: checks/wrong_bodies.sh [--jobs N] [CRATE..]    (every crate that has edits where none is named)
+#        checks/wrong_bodies.sh --list                  (these crates, each with the number of its edits)
+# A line tells of each edit, and the last line is 'N refused, N not refused, N bad'. The status is 1 where one isn't refused: the crate is still
+# proved with it, it cannot be applied or read (bad), or it wasn't tried, as where the crate as it stands isn't proved.
+# `rt ci CRATE..` does the work, in a copy of the crates and of those that they stand on. So nothing that it proved before on this machine is
+# proved again, an edit is tried again only once its crate or one below has changed, and what is proved here counts for the gate. It tells of
+# its progress on standard error. --jobs N makes N checks at a time, whatever memory is left; else processors and memory say how many.
+set -u
+shopt -s nullglob
+cd "$(dirname "$0")/.." || exit 2
+
+stop() {
+  echo "wrong_bodies: $1" >&2
+  exit 2
+}
+
+edits_of() {
+  printf '%s\n' "checks/wrong_bodies/$1"/*.edit "crates/$1/must-fail"/*.edit | grep .
+}
+
+# The crates that have edits, in the order of crates.txt.
+with_edits() {
+  sed -n 's/^\([a-z0-9_]*\)[ :].*/\1/p' crates.txt | while read -r crate; do
+    edits_of "$crate" > /dev/null && echo "$crate"
+  done
+}
+
+# The lines of crates.txt that tell of these crates and of all that they stand on.
+lines_of() {
+  awk -v wanted="$*" '
+    /^[a-z]/ { name = $1; sub(/:.*/, "", name); line[name] = $0; below[name] = $0; sub(/^[^:]*:/, "", below[name]) }
+    END {
+      count = split(wanted, todo)
+      for (at = 1; at <= count; at++) {
+        if (todo[at] in done || !(todo[at] in line)) continue
+        done[todo[at]] = 1
+        print line[todo[at]]
+        more = split(below[todo[at]], next_ones)
+        for (other = 1; other <= more; other++) todo[++count] = next_ones[other]
+      }
+    }' crates.txt
+}
+
+# Copies a crate without its edits and without what checks left in it.
+copy_crate() {
+  mkdir -p "$room/crates/$1"
+  for part in "crates/$1"/*; do
+    case ${part##*/} in
+      out | must-fail) ;;
+      *) cp -r "$part" "$room/crates/$1/" ;;
+    esac
+  done
+}
+
+give_edits() {
+  mkdir "$room/crates/$1/must-fail"
+  for edit in $(edits_of "$1"); do
+    [ ! -e "$room/crates/$1/must-fail/${edit##*/}" ] || stop "$1 has two edits ${edit##*/}"
+    cp "$edit" "$room/crates/$1/must-fail/"
+    edits=$((edits + 1))
+  done
+}
+
+crates=()
+while [ $# -gt 0 ]; do
+  case $1 in
+    --list)
+      with_edits | while read -r crate; do echo "$crate $(edits_of "$crate" | wc -l)"; done
+      exit
+      ;;
+    --jobs)
+      export RT_JOBS=${2:-}
+      [[ $RT_JOBS =~ ^[1-9][0-9]*$ ]] || stop "--jobs takes a number"
+      shift
+      ;;
+    *)
+      edits_of "$1" > /dev/null || stop "there are no edits of $1"
+      crates+=("$1")
+      ;;
+  esac
+  shift
+done
+[ ${#crates[@]} -gt 0 ] || mapfile -t crates < <(with_edits)
+
+running=
+room=$(mktemp -d) || exit 2
+trap 'kill $running 2> /dev/null; rm -rf "$room"' EXIT
+trap 'exit 2' INT TERM
+edits=0 refused=0 bad=0
+lines_of "${crates[@]}" > "$room/crates.txt"
+cp HANDLES "$room/"
+while read -r crate _; do copy_crate "${crate%:}"; done < "$room/crates.txt"
+for crate in "${crates[@]}"; do give_edits "$crate"; done
+
+exec 3< <(cd "$room" && exec rt ci "${crates[@]}" 2>&1)
+running=$!
+while IFS= read -r line <&3; do
+  case $line in
+    "rt: must-fail "*) echo "${line#rt: must-fail }" ;;
+    *) echo "$line" >&2 ;;
+  esac
+  case $line in
+    "rt: must-fail "*.edit:\ refused*) refused=$((refused + 1)) ;;
+    "rt: must-fail "*.edit:\ BAD\ EDIT*) bad=$((bad + 1)) ;;
+  esac
+done
+echo "$refused refused, $((edits - refused - bad)) not refused, $bad bad"
+[ "$refused" -eq "$edits" ]

@@ -1,0 +1,57 @@
+// Runs the program over ports in memory. Each line of the table, but a blank one and one that begins with `#`, is a run:
+//
+//     NAME STATUS WORD..
+//
+// NAME.script is the script, NAME.output what is to be printed, and STATUS what the run is to end with. A file that isn't there is empty.
+// Words of the form KEY=VALUE are settings of the run (table.rt), the others those of the command line. Printed is a line for each run: its
+// status, how many bytes it printed, and whether both are as wanted. Where they aren't, the lines behind it say what was wanted.
+#![tactic(auto)]
+
+mod runs;
+mod table;
+mod tell;
+
+use anyhow::Result;
+use std::io::ErrorKind;
+use std::rt::Files;
+use std::sync::Wait;
+use std::thread::Threads;
+use std::{fs, io};
+use table::{Row, Script};
+
+/// The bytes of a file in the folder that this runs in; none where there is no such file.
+fn bytes_of<R: Files + AllocGlobal>(rt: &R, name: &str, ending: &str) -> io::Result<Vec<u8>> {
+    let path = format!(in rt.alloc(); "{name}.{ending}")?;
+    match fs::read(rt, path.as_str()) {
+        Err(error) if error.kind() == ErrorKind::NotFound => Ok(Vec::new(rt.alloc())),
+        read => read,
+    }
+}
+
+/// The bytes of the row's script.
+fn script_of<R: Files + AllocGlobal>(rt: &R, script: &Script) -> io::Result<Vec<u8>> {
+    match script {
+        Script::Stored(name) => bytes_of(rt, name.as_str(), "script"),
+        Script::Hashes(count) => Ok(vec![in rt.alloc(); b'#'; *count]?),
+    }
+}
+
+/// Runs the row, and tells how it ended.
+fn run_line<R: Files + AllocGlobal + Threads + Wait + Sync>(rt: &R, line: &str) -> Result<String> {
+    let alloc = rt.alloc();
+    let row = Row::read(alloc, line)?;
+    let script = script_of(rt, &row.script)?;
+    let wanted = bytes_of(rt, row.name.as_str(), "output")?;
+    let outcome = runs::run_row(rt, alloc, &row, script)?;
+    Ok(tell::told_of(alloc, &row, wanted.as_slice(), &outcome)?)
+}
+
+fn main(rt: HostRuntime) -> Result<()> {
+    let table = io::read_to_string(rt.alloc(), rt.stdin())?;
+    for line in table.lines() {
+        if !line.is_empty() && !line.starts_with('#') {
+            print!(rt; "{}", run_line(&rt, line)?.as_str())?;
+        }
+    }
+    Ok(())
+}
