@@ -3,8 +3,7 @@
 # POLICIES policies, a command read, a reply printed, a note in a log that is full, and a question to it.
 # usage: bench/admin.sh [POLICIES [RUNS]]      (5,000 and seven where not given; it prints microseconds a call, the median of the runs)
 set -eu
-cd "$(dirname "$0")/../crates/bench_admin"
-rt run > /dev/null 2>&1 || { echo "bench_admin is not built: see rt run in its folder" >&2; exit 1; }
+. "$(dirname "$0")/built.sh"
 
 POLICIES=${1:-5000}
 RUNS=${2:-7}
@@ -14,7 +13,7 @@ median() {
     local start
     for _ in $(seq "$RUNS"); do
         start=$(date +%s%N)
-        out/bench_admin "$@" > /dev/null
+        "$program" admin "$@" > /dev/null
         echo $(($(date +%s%N) - start))
     done | sort -n | sed -n "$(((RUNS + 1) / 2))p"
 }

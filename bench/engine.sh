@@ -3,8 +3,7 @@
 # engine after the change of one policy, and the memory. Prints microseconds; the lowest of three runs counts.
 # usage: bench/engine.sh [POLICIES]..      (1,000 and 5,000 where not given)
 set -eu
-cd "$(dirname "$0")/../crates/bench_engine"
-rt run > /dev/null 2>&1 || { echo "bench_engine is not built: see rt run in its folder" >&2; exit 1; }
+. "$(dirname "$0")/built.sh"
 [ $# -gt 0 ] || set -- 1000 5000
 
 REQUESTS=1000
@@ -14,7 +13,7 @@ lowest() {
     local best=0 start took
     for _ in 1 2 3; do
         start=$(date +%s%N)
-        out/bench_engine "$@" > /dev/null
+        "$program" engine "$@" > /dev/null
         took=$(($(date +%s%N) - start))
         if [ "$best" -eq 0 ] || [ "$took" -lt "$best" ]; then best=$took; fi
     done
@@ -28,7 +27,7 @@ each() {
 
 # The peak of resident memory of a run, in bytes.
 peak() {
-    python3 - out/bench_engine "$@" <<'P'
+    python3 - "$program" engine "$@" <<'P'
 import os, sys
 child = os.fork()
 if child == 0:

@@ -1,16 +1,14 @@
 #!/usr/bin/env bash
-# Times framing and printing in memory: builds bench_http and runs each case.
+# Times framing and printing in memory: builds bench_figures and runs each case.
 # usage: bench/http.sh    (it prints messages or responses a second, start-up taken off; the best of five runs)
 set -eu
-cd "$(dirname "$0")/../crates/bench_http"
-rt run >/dev/null 2>&1 || { echo "bench_http is not built: see rt run in its folder" >&2; exit 1; }
-program=out/bench_http
+. "$(dirname "$0")/built.sh"
 
 # The nanoseconds that one run takes.
 time_of() {
     local start end
     start=$(date +%s%N)
-    "$program" "$@" >/dev/null
+    "$program" http "$@" >/dev/null
     end=$(date +%s%N)
     echo $((end - start))
 }

@@ -4,8 +4,7 @@
 # many publications a pass decided by.
 # usage: bench/passes.sh [POLICIES [ROUNDS]]    (5,000 policies; each pass decides a hundred requests ROUNDS times)
 set -eu
-cd "$(dirname "$0")/../crates/bench_passes"
-rt run > /dev/null 2>&1 || { echo "bench_passes is not built: see rt run in its folder" >&2; exit 1; }
+. "$(dirname "$0")/built.sh"
 
 POLICIES=${1:-5000}
 ROUNDS=${2:-50}
@@ -13,7 +12,7 @@ ROUNDS=${2:-50}
 for passes in 0 1 2 4; do
     for pause in 0 100 1; do
         if [ "$passes" -eq 0 ] && [ "$pause" -ne 0 ]; then continue; fi
-        out/bench_passes "$passes" "$POLICIES" "$ROUNDS" "$pause" | awk -F '[ =]' -v passes="$passes" -v pause="$pause" '
+        "$program" passes "$passes" "$POLICIES" "$ROUNDS" "$pause" | awk -F '[ =]' -v passes="$passes" -v pause="$pause" '
             /^decisions/ { decisions = $2; falling = $4 }
             /^microseconds/ { micros = $2; published = $4; serials = $6 }
             END {

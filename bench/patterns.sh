@@ -1,16 +1,14 @@
 #!/usr/bin/env bash
-# Times matching and overlap tests: builds bench_patterns and runs each case so many rounds.
+# Times matching and overlap tests: builds bench_figures and runs each case so many rounds.
 # usage: bench/patterns.sh    (it prints nanoseconds for each round, start-up taken off)
 set -eu
-cd "$(dirname "$0")/../crates/bench_patterns"
-rt run >/dev/null 2>&1 || { echo "bench_patterns is not built: see rt run in its folder" >&2; exit 1; }
-program=out/bench_patterns
+. "$(dirname "$0")/built.sh"
 
 # The nanoseconds that one run takes.
 time_of() {
     local start end
     start=$(date +%s%N)
-    "$program" "$1" "$2" >/dev/null
+    "$program" patterns "$1" "$2" >/dev/null
     end=$(date +%s%N)
     echo $((end - start))
 }

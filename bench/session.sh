@@ -1,10 +1,9 @@
 #!/usr/bin/env bash
-# Times decisions through a link in memory: builds bench_session, and asks for 10,000 decisions on a link.
+# Times decisions through a link in memory: builds bench_figures, and asks for 10,000 decisions on a link.
 # usage: bench/session.sh [POLICIES [LINKS]]    (1,000 policies and ten links; it prints decisions a second, without the time in
 # which the policies are created and published; the best of three runs)
 set -eu
-cd "$(dirname "$0")/../crates/bench_session"
-rt run > /dev/null 2>&1 || { echo "bench_session is not built: see rt run in its folder" >&2; exit 1; }
+. "$(dirname "$0")/built.sh"
 
 POLICIES=${1:-1000}
 LINKS=${2:-10}
@@ -15,7 +14,7 @@ best_of() {
     local best= start took
     for _ in 1 2 3; do
         start=$(date +%s%N)
-        out/bench_session "$POLICIES" "$1" "$MESSAGES" > /dev/null
+        "$program" session "$POLICIES" "$1" "$MESSAGES" > /dev/null
         took=$(($(date +%s%N) - start))
         if [ -z "$best" ] || [ "$took" -lt "$best" ]; then best=$took; fi
     done

@@ -1,8 +1,7 @@
 #!/usr/bin/env bash
 # What an edit of a trie, a walk over it and a count of what the walk gives cost, at three sizes. Prints microseconds; the lowest of three runs counts.
 set -eu
-cd "$(dirname "$0")/../crates/bench_trie"
-rt run > /dev/null 2>&1 || { echo "bench_trie is not built: see rt run in crates/bench_trie" >&2; exit 1; }
+. "$(dirname "$0")/built.sh"
 
 ROUNDS=10000
 WALKS=100000
@@ -12,7 +11,7 @@ lowest() {
     local best=0 start took
     for _ in 1 2 3; do
         start=$(date +%s%N)
-        out/bench_trie "$@" > /dev/null
+        "$program" trie "$@" > /dev/null
         took=$((($(date +%s%N) - start) / 1000))
         if [ "$best" -eq 0 ] || [ "$took" -lt "$best" ]; then best=$took; fi
     done

@@ -1,8 +1,7 @@
 #!/usr/bin/env bash
 # What a call of a turn costs, by one thread alone and by four at once. Prints microseconds a call; the lowest of three runs counts.
 set -eu
-cd "$(dirname "$0")/../crates/bench_turn"
-rt run > /dev/null 2>&1 || { echo "bench_turn is not built: see rt run in crates/bench_turn" >&2; exit 1; }
+. "$(dirname "$0")/built.sh"
 
 CALLS=500000
 
@@ -10,7 +9,7 @@ for threads in 1 4; do
     best=0
     for _ in 1 2 3; do
         start=$(date +%s%N)
-        out/bench_turn "$threads" "$CALLS" > /dev/null
+        "$program" turn "$threads" "$CALLS" > /dev/null
         took=$((($(date +%s%N) - start) / 1000))
         if [ "$best" -eq 0 ] || [ "$took" -lt "$best" ]; then best=$took; fi
     done

@@ -1,7 +1,8 @@
 """Runs `rangerd replay` over scripts made from a seed, and compares each line with the model.
 
-usage: checks/compare.py [SEED] [SCRIPTS] [--parts PARTS] [--dry]      (1 and 1000 where not given)
+usage: checks/compare.py [SEED] [SCRIPTS] [--parts PARTS] [--program PROGRAM | --dry]      (1 and 1000 where not given)
 
+PROGRAM is a built rangerd; where it isn't given, this repository's is taken, and is built first where it has to be.
 PARTS is a list such as roles,zones of the parts that the scripts may use (all that are built where not given, and `none` for none).
 It stops at the first difference, prints it, and leaves the script in the file that it names.
 With --dry no program is run: printed is how often each cell, each kind of answer and each broken rule came up in the model.
@@ -21,7 +22,6 @@ import records
 import spoils
 
 TOP = os.path.dirname(os.path.dirname(os.path.abspath(__file__)))
-PROGRAM = os.path.join(TOP, "crates", "rangerd", "out", "rangerd")
 BUILT = "roles,zones,tags,masks,maps"
 REQUESTS = 25
 
@@ -68,8 +68,13 @@ def labels(facts, request, verdict):
                 yield "%s by a %s policy%s" % (word, asked.side, ": " + item["dataMaskInfo"]["dataMaskType"] if kind == 1 else "")
 
 
-def compare(name, script, text, status):
-    ran = subprocess.run([PROGRAM, "replay"], input=script, capture_output=True, text=True)
+def built_program():
+    """The path of this repository's program."""
+    return subprocess.run([os.path.join(TOP, "bin", "built"), "rangerd", "replay"], stdout=subprocess.PIPE, text=True, check=True).stdout.strip()
+
+
+def compare(program, name, script, text, status):
+    ran = subprocess.run([program, "replay"], input=script, capture_output=True, text=True)
     if (ran.stdout, ran.returncode) == (text, status):
         return
     with tempfile.NamedTemporaryFile("w", suffix=".script", delete=False) as kept:
@@ -85,6 +90,7 @@ def words():
     parser.add_argument("seed", nargs="?", type=int, default=1)
     parser.add_argument("scripts", nargs="?", type=int, default=1000)
     parser.add_argument("--parts", default=BUILT)
+    parser.add_argument("--program")
     parser.add_argument("--dry", action="store_true")
     return parser.parse_args()
 
@@ -94,15 +100,14 @@ def main():
     parts = [part for part in given.parts.split(",") if part != "none"]
     if not set(parts) <= set(maker.PARTS):
         sys.exit("the parts are " + ",".join(maker.PARTS))
-    if not given.dry:
-        subprocess.run([os.path.join(TOP, "bin", "rangerd"), "replay"], stdin=subprocess.DEVNULL, check=True)
+    program = None if given.dry else given.program or built_program()
     making, counts = maker.Maker(given.seed, parts), collections.Counter()
     for number in range(given.scripts):
         facts = facts_of(making)
         requests = [making.request(facts) for _ in range(REQUESTS)]
         text, status = wanted(facts, requests, counts)
-        if not given.dry:
-            compare("script %d of seed %d" % (number, given.seed), script_of(facts, requests), text, status)
+        if program:
+            compare(program, "script %d of seed %d" % (number, given.seed), script_of(facts, requests), text, status)
     print("%d scripts %s" % (given.scripts, "made" if given.dry else "agree"))
     for label, count in sorted(counts.items()):
         print("%8d %s" % (count, label))

@@ -1,0 +1,28 @@
+#!/usr/bin/env bash
+# Runs rangerd over made-up scripts, and compares each line with the rules written once more, in Python: scripts of facts, of an
+# administration, with grants, and of kept administrations. Prints the seed and a line for each kind. Where scripts differ it prints the
+# difference and ends with status 1. Where there is no Python it compares nothing.
+# usage: checks/quick.sh [SEED [PROGRAM]]      (the day, as 20240131, and the built rangerd where not given)
+set -u
+cd "$(dirname "$0")/.." || exit 1
+seed=${1:-$(date -u +%Y%m%d)} program=${2:-crates/rangerd/out/rangerd} failed=0
+command -v python3 > /dev/null || { echo "made-up scripts: none is compared, since there is no python3"; exit 0; }
+echo "made-up scripts of seed $seed:"
+
+# Prints the first line of what a comparison says, or all of it where it fails. A program that hangs is ended after five minutes.
+compare() {
+  local kind=$1 said
+  shift
+  if said=$(timeout 300 python3 "$@" 2>&1); then
+    echo "$kind: ${said%%$'\n'*}"
+  else
+    printf '%s: not as wanted, or not done in five minutes\n%s\n' "$kind" "$said"
+    failed=1
+  fi
+}
+
+compare facts checks/compare.py "$seed" 200 --program "$program"
+compare administration checks/compare_admin.py "$program" 60 --seed "$seed"
+compare grants checks/compare_admin.py "$program" 60 --seed "$seed" --grants
+compare keep checks/compare_admin.py "$program" 60 --seed "$seed" --keep
+exit "$failed"
