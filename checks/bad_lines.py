@@ -1,10 +1,11 @@
 #!/usr/bin/env python3
-"""Writes the scripts of the stored runs of `rangerd-check`, and what it has to print for them.
+"""Writes scripts that `rangerd-check` reads in the stored runs, and what it has to print for them.
 
-    checks/bad_lines.py kinds FOLDER      a line of each kind that is bad, with its cause
-    checks/bad_lines.py commands FOLDER   every command with every key missing, null, of another kind and out of range
+    checks/bad_lines.py kinds SCRIPT OUTPUT      a line of each kind that is bad, with its cause: stdin and stdout of crates/rangerd_check
+    checks/bad_lines.py commands SCRIPT OUTPUT   every command with every key missing, null, of another kind and out of range:
+                                                 commands.script and commands.output of crates/test_readers/data
 
-The causes stand in the tables below, which were written from docs/FORMATS.md and docs/RULES.md. FOLDER gets `stdin` and `stdout`.
+The causes stand in the tables below, which were written from docs/FORMATS.md and docs/RULES.md.
 """
 
 import json
@@ -443,12 +444,12 @@ def commands():
     return rows
 
 
-def main(which, folder):
+def main(which, script_path, output_path):
     rows = {"kinds": kinds, "commands": commands}[which]()
     script = "".join(line + "\n" for line, _ in rows)
     told = "".join(f"line {place + 1}: {why}\n" for place, (_, why) in enumerate(rows) if why is not GOOD)
-    Path(folder, "stdin").write_text(script)
-    Path(folder, "stdout").write_text(told)
+    Path(script_path).write_text(script)
+    Path(output_path).write_text(told)
 
 
 if __name__ == "__main__":

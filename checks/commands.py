@@ -1,5 +1,6 @@
 #!/usr/bin/env python3
-"""Prints what the program check_commands is to print: the first fault of each command of its table, by the tables of reading.py.
+"""Prints what the program check_models is to print under `# commands`: the first fault of each command of its table, by the tables of
+reading.py.
 
 usage: checks/commands.py
 """
@@ -7,7 +8,7 @@ import pathlib
 
 import reading
 
-TABLE = pathlib.Path(__file__).resolve().parent.parent / "crates" / "check_commands" / "stdin"
+TABLE = pathlib.Path(__file__).resolve().parent.parent / "crates" / "check_models" / "data" / "commands.rows"
 
 
 def main():

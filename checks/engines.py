@@ -1,5 +1,6 @@
 #!/usr/bin/env python3
-"""Prints what the program check_engines is to print: its made-up facts, deltas and requests once more, decided by model.py.
+"""Prints what the program check_models is to print under `# engines`: its made-up facts, deltas and requests once more, decided by
+model.py.
 
 usage: checks/engines.py
 """

@@ -1,5 +1,6 @@
 #!/usr/bin/env python3
-"""Prints what the program check_views is to print: its made-up asks once more, over the administration of admin_model.py.
+"""Prints what the program check_models is to print under `# views`: its made-up asks once more, over the administration of
+admin_model.py.
 
 usage: checks/views.py
 """
@@ -10,7 +11,7 @@ import re
 import admin_model
 
 ASKS, FACTOR, WORD = 2000, 0x9E3779B97F4A7C15, 2 ** 64
-SOURCE = pathlib.Path(__file__).resolve().parent.parent / "crates" / "check_views" / "src" / "asks.rt"
+SOURCE = pathlib.Path(__file__).resolve().parent.parent / "crates" / "check_models" / "src" / "views" / "asks.rt"
 
 
 def drawn(ask, place, count):
