@@ -1,7 +1,7 @@
 #!/usr/bin/env python3
 """Times keeping commands in a database file, and reopening them: bench/reopen.py PROGRAM [ROWS].
 
-PROGRAM is the built crates/keep_on_disk (out/keep_on_disk in its folder, once `rt run` was run there). ROWS is how many policies, users,
+PROGRAM is the built crates/test_kept (out/test_kept in its folder, once `rt run` was run there). ROWS is how many policies, users,
 roles and tag rows the commands are about (20 where not given): what a command costs rises with these, so the state is to stand while the
 list gets longer. Printed are, for lists of 10,000, 50,000 and 100,000 commands, how many are reopened in a second of processor time, and
 that time, in the best of three runs; the same by the clock; the peak of resident memory of a reopening; the size of the files; and how many

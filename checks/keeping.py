@@ -1,6 +1,7 @@
 #!/usr/bin/env python3
-"""Prints what the program run_keeping is to print, from the rules: which asks are accepted by admin_model.py, which of them are kept and as
-what records, what a keeper holds of whose calls one fails, and what lines of a script of a kept administration ask.
+"""Prints what the program test_kept is to print of a database as a keeper and of keepers that fail, from the rules: which asks are accepted by
+admin_model.py, which of them are kept and as what records, what a keeper holds of whose calls one fails, and what lines of a script of a kept
+administration ask. `checks/kept.py` prints all that the program is to print.
 
 usage: checks/keeping.py
 """
@@ -11,7 +12,7 @@ import re
 import admin_model
 import reading
 
-CRATE = pathlib.Path(__file__).resolve().parent.parent / "crates" / "run_keeping"
+CRATE = pathlib.Path(__file__).resolve().parent.parent / "crates" / "test_kept"
 CALLS = range(1, 40)
 LOOKS = ("getPolicy", "listPolicies", "download")
 
@@ -150,17 +151,44 @@ def line_row(line):
         return "bad"
 
 
-def main():
-    first, *asks = (CRATE / "stdin").read_text("utf-8").splitlines()
+def database_rows():
+    """A list of records, which is empty at first."""
+    keeper = Keeper()
+
+    def fetched(place):
+        return "fetch %d: %s" % (place, keeper.fetch(place) or "none")
+
+    yield fetched(0)
+    for record in ("first", '{"second":2}'):
+        keeper.append(record)
+        yield "append %s: kept" % record
+    for place in (0, 1, 2, 2 ** 64 - 1):
+        yield fetched(place)
+    yield "failures: 0"
+
+
+def keeping_rows():
+    first, *asks = (CRATE / "data" / "keeping.asks").read_text("utf-8").splitlines()
     config = admin_model.taken(reading.read(reading.CONFIG, first.encode()))
     for rows in (failures, taken, spoiled):
-        for row in rows(config, asks):
-            print(row)
-    print("a database: %d answered, %s" % (len(asks), told(config, kept_of(config, asks))))
+        yield from rows(config, asks)
+    yield "a database: %d answered, %s" % (len(asks), told(config, kept_of(config, asks)))
     for record in kept_of(config, asks):
-        print(printed(*ask_of(record)))
-    for line in re.search(r'r#"(.*?)"#', (CRATE / "src" / "lines.rt").read_text("utf-8"), re.DOTALL)[1].split("\n"):
-        print(line_row(line))
+        yield printed(*ask_of(record))
+    for line in re.search(r'r#"(.*?)"#', (CRATE / "src" / "keeping" / "lines.rt").read_text("utf-8"), re.DOTALL)[1].split("\n"):
+        yield line_row(line)
+
+
+def all_rows():
+    yield "== a database as a keeper"
+    yield from database_rows()
+    yield "== keepers that fail"
+    yield from keeping_rows()
+
+
+def main():
+    for row in all_rows():
+        print(row)
 
 
 if __name__ == "__main__":

@@ -1,16 +1,14 @@
 #!/usr/bin/env python3
-"""Prints what the program run_kept is to print, from the rules: what `keep` prints over a keeper of whose calls one fails or that holds a
-record which is none, with which status it ends, and how many records stand then. Of each run it is looked at besides whether a failed one
-printed a beginning of the whole text, and kept the first of all records.
+"""Prints what the program test_kept is to print without words, from the rules: what keeping.py prints; what `keep` prints over a keeper of whose
+calls one fails or that holds a record which is none, with which status it ends, and how many records stand then; and what commands in a file
+make. Of each run of `keep` it is looked at besides whether a failed one printed a beginning of the whole text, and kept the first of all records.
 
-usage: checks/kept.py
+usage: checks/kept.py | cmp - crates/test_kept/stdout
 """
-import pathlib
-
+import disk_model
 import keeping
 import kept_model
 
-CRATE = pathlib.Path(__file__).resolve().parent.parent / "crates" / "run_kept"
 CALLS = range(1, 38)
 WAYS = ("without", "with")
 SECOND_APPEND = 3
@@ -51,13 +49,22 @@ def bad_records(config):
         yield row("{} is kept, and %s" % what, script, keeping.Keeper(["{}"]))
 
 
-def main():
-    script = (CRATE / "stdin").read_bytes()
+def kept_rows():
+    script = (keeping.CRATE / "data" / "kept.script").read_bytes()
     lines = script.splitlines(keepends=True)
-    print(row("no call fails", script, keeping.Keeper()))
+    yield row("no call fails", script, keeping.Keeper())
     for rows in (failures(script), second_append(lines), bad_records(lines[0])):
-        for one in rows:
-            print(one)
+        yield from rows
+
+
+def main():
+    for one in keeping.all_rows():
+        print(one)
+    print("== runs of keep")
+    for one in kept_rows():
+        print(one)
+    print("== commands in a file")
+    print(disk_model.demonstrated(), end="")
 
 
 if __name__ == "__main__":

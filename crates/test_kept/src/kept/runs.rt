@@ -1,6 +1,7 @@
 // A run of `keep` in memory.
 ghost use Rattle.std.specs.Prelude.{◌≡◌, ◌≤◌, ◌<◌, length, IfOk, IsSome};
 
+use crate::keepers::text_of;
 use rg_base::{Moment, Seq};
 use rg_hook::{AuditFan, Enrichers, WorkerHooks};
 use rg_keeper::MemKeeper;
@@ -9,7 +10,6 @@ use rg_ports::{
 };
 use rg_run::run;
 use std::alloc::{AllocError, Global};
-use std::str;
 use std::sync::Wait;
 use std::thread::Threads;
 
@@ -33,11 +33,7 @@ fn one_worker(alloc: Global) -> Result<Vec<WorkerHooks>, AllocError>
 
 /// What was printed, with `~` for each LF.
 fn tell_printed(told: &mut String, printed: &[u8]) -> Result<(), AllocError> {
-    for (place, line) in str::from_utf8(printed)
-        .unwrap_or("no text")
-        .split('\n')
-        .enumerate()
-    {
+    for (place, line) in text_of(printed).split('\n').enumerate() {
         if 0 < place {
             told.push('~')?;
         }
@@ -46,15 +42,32 @@ fn tell_printed(told: &mut String, printed: &[u8]) -> Result<(), AllocError> {
     Ok(())
 }
 
+/// What a run reads and writes, in memory.
+#[derive(Drop)]
+struct Ports {
+    source: MemSource,
+    sink: MemSink,
+    clock: ListClock,
+    net: MemListener,
+}
+
+fn ports(alloc: Global, script: Vec<u8>, moments: Vec<Moment>) -> Ports
+    requires moments { 0 < length moments.items }
+{
+    Ports {
+        source: MemSource::new(Seq::from_vec(script), Seq::new(alloc), Seq::new(alloc)),
+        sink: MemSink::new(Seq::new(alloc), Seq::new(alloc), Seq::new(alloc)),
+        clock: ListClock::new(Seq::from_vec(moments)),
+        net: MemListener::new(Vec::new(alloc), Seq::new(alloc)),
+    }
+}
+
 /// Runs with these workers. In `run_over` it isn't found that they may cross threads.
-fn run_with<S: Source, K: Sink, C: Clock, N: Listener, R: Threads + Wait + Sync>(
+fn run_with<R: Threads + Wait + Sync>(
     rt: &R,
     alloc: Global,
     words: &[String],
-    source: &mut S,
-    sink: &mut K,
-    clock: &mut C,
-    net: &mut N,
+    ports: &mut Ports,
     workers: &mut Vec<WorkerHooks>,
     keeper: &mut Option<MemKeeper>,
 ) -> u8
@@ -63,7 +76,16 @@ fn run_with<S: Source, K: Sink, C: Clock, N: Listener, R: Threads + Wait + Sync>
     ensures { IsSome keeper.new }
 {
     run(
-        rt, alloc, words, source, sink, clock, net, &FreeGate, workers, keeper,
+        rt,
+        alloc,
+        words,
+        &mut ports.source,
+        &mut ports.sink,
+        &mut ports.clock,
+        &mut ports.net,
+        &FreeGate,
+        workers,
+        keeper,
     )
 }
 
@@ -80,33 +102,17 @@ fn run_over<R: Threads + Wait + Sync>(
     rt: &R,
     alloc: Global,
     words: &[String],
-    script: Vec<u8>,
-    moments: Vec<Moment>,
+    mut ports: Ports,
     mut workers: Vec<WorkerHooks>,
     keeper: MemKeeper,
 ) -> Outcome
-    requires moments { 0 < length moments.items }
     requires workers { length workers.items ≡ 1 }
 {
-    let mut source = MemSource::new(Seq::from_vec(script), Seq::new(alloc), Seq::new(alloc));
-    let mut sink = MemSink::new(Seq::new(alloc), Seq::new(alloc), Seq::new(alloc));
-    let mut clock = ListClock::new(Seq::from_vec(moments));
-    let mut net = MemListener::new(Vec::new(alloc), Seq::new(alloc));
     let mut place = Some(keeper);
-    let status = run_with(
-        rt,
-        alloc,
-        words,
-        &mut source,
-        &mut sink,
-        &mut clock,
-        &mut net,
-        &mut workers,
-        &mut place,
-    );
+    let status = run_with(rt, alloc, words, &mut ports, &mut workers, &mut place);
     Outcome {
         status,
-        sink,
+        sink: ports.sink,
         keeper: place.unwrap(),
     }
 }
@@ -130,16 +136,9 @@ pub(crate) fn tell_run<R: Threads + Wait + Sync>(
     let words = words_of(alloc)?;
     let script = Vec::from_slice(alloc, script.as_bytes())?;
     let moments = Vec::from_slice(alloc, &[Moment(0)])?;
+    let ports = ports(alloc, script, moments);
     let workers = one_worker(alloc)?;
-    let outcome = run_over(
-        rt,
-        alloc,
-        words.as_slice(),
-        script,
-        moments,
-        workers,
-        keeper,
-    );
+    let outcome = run_over(rt, alloc, words.as_slice(), ports, workers, keeper);
     drop(words);
     tell_outcome(told, &outcome)?;
     let Outcome {

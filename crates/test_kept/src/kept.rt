@@ -1,7 +1,13 @@
-// The rows.
-use crate::runs::tell_run;
-use rg_base::Seq;
+// Runs of `keep` over keepers in memory. The input is a script: a configuration, two commands that each make a policy, and more lines.
+// Each row tells the status, how many records the keeper holds then, and what was printed, with `~` for each LF. There is a row for the
+// whole script, and one for each call of the keeper, with its record and without it, where that call fails; a call past the last fails
+// nothing. Then the second append of the first lines fails, and another run goes on with that keeper. The last rows are of a keeper that
+// holds `{}`.
+mod runs;
+
+use crate::keepers::{add_record, both_ways, calls_before, failing_keeper, keeper_of, way_of};
 use rg_keeper::{FailingCall, MemKeeper};
+use runs::tell_run;
 use std::alloc::{AllocError, Global};
 use std::sync::Wait;
 use std::thread::Threads;
@@ -17,19 +23,11 @@ const AGAIN: &str = r#"reopen
 admin root {"command":"listPolicies","service":"hive1"}
 "#;
 
-/// A keeper without records, of whose calls this one fails.
-fn failing_keeper(alloc: Global, number: u64, keeps: bool) -> Result<MemKeeper, AllocError> {
-    let mut fails = Vec::new(alloc);
-    fails.push(FailingCall { number, keeps })?;
-    Ok(MemKeeper::new(Seq::new(alloc), Seq::from_vec(fails)))
-}
-
 /// A keeper of the record `{}`, none of whose calls fails.
 fn bad_keeper(alloc: Global) -> Result<MemKeeper, AllocError> {
-    let record = Vec::from_slice(alloc, b"{}")?;
     let mut records = Vec::new(alloc);
-    records.push(Seq::from_vec(record))?;
-    Ok(MemKeeper::new(Seq::from_vec(records), Seq::new(alloc)))
+    add_record(&mut records, alloc, b"{}")?;
+    Ok(keeper_of(alloc, records))
 }
 
 /// The first lines of the script, and then these.
@@ -43,18 +41,14 @@ fn with_first(alloc: Global, script: &str, count: usize, more: &str) -> Result<S
     Ok(text)
 }
 
-fn how_it_fails(keeps: bool) -> &'static str {
-    if keeps { "with" } else { "without" }
-}
-
 /// A run over a keeper that doesn't fail.
-pub(crate) fn whole_row<R: Threads + Wait + Sync>(
+fn whole_row<R: Threads + Wait + Sync>(
     rt: &R,
     alloc: Global,
     script: &str,
 ) -> Result<String, AllocError> {
     let mut told = String::from_str(alloc, "no call fails: ")?;
-    let keeper = MemKeeper::new(Seq::new(alloc), Seq::new(alloc));
+    let keeper = keeper_of(alloc, Vec::new(alloc));
     let keeper = tell_run(&mut told, rt, alloc, script, keeper)?;
     drop(keeper);
     Ok(told)
@@ -65,44 +59,42 @@ fn failure_row<R: Threads + Wait + Sync>(
     rt: &R,
     alloc: Global,
     script: &str,
-    number: u64,
-    keeps: bool,
+    call: FailingCall,
 ) -> Result<String, AllocError> {
-    let how = how_it_fails(keeps);
-    let mut told = format!(in alloc; "call {number} fails {how} its record: ")?;
-    let keeper = failing_keeper(alloc, number, keeps)?;
+    let (number, way) = (call.number, way_of(call));
+    let mut told = format!(in alloc; "call {number} fails {way} its record: ")?;
+    let keeper = failing_keeper(alloc, call)?;
     let keeper = tell_run(&mut told, rt, alloc, script, keeper)?;
     drop(keeper);
     Ok(told)
 }
 
 /// The rows of runs in which a call fails.
-pub(crate) fn add_failures<R: Threads + Wait + Sync>(
+fn add_failures<R: Threads + Wait + Sync>(
     rows: &mut Vec<String>,
     rt: &R,
     alloc: Global,
     script: &str,
 ) -> Result<(), AllocError> {
-    for number in 1..MOST_CALLS {
-        rows.push(failure_row(rt, alloc, script, number, false)?)?;
-        rows.push(failure_row(rt, alloc, script, number, true)?)?;
+    for call in calls_before(alloc, MOST_CALLS)?.as_slice() {
+        rows.push(failure_row(rt, alloc, script, *call)?)?;
     }
     Ok(())
 }
 
 /// The row of a run of the first lines in which the second append fails, and that of a run that goes on with its keeper.
-pub(crate) fn add_second_append<R: Threads + Wait + Sync>(
+fn add_second_append<R: Threads + Wait + Sync>(
     rows: &mut Vec<String>,
     rt: &R,
     alloc: Global,
     script: &str,
-    keeps: bool,
+    call: FailingCall,
 ) -> Result<(), AllocError> {
-    let how = how_it_fails(keeps);
+    let way = way_of(call);
     let two = with_first(alloc, script, 3, "")?;
     let again = with_first(alloc, script, 1, AGAIN)?;
-    let mut told = format!(in alloc; "the second append fails {how} its record: ")?;
-    let keeper = failing_keeper(alloc, SECOND_APPEND, keeps)?;
+    let mut told = format!(in alloc; "the second append fails {way} its record: ")?;
+    let keeper = failing_keeper(alloc, call)?;
     let keeper = tell_run(&mut told, rt, alloc, two.as_str(), keeper)?;
     rows.push(told)?;
     let mut told = String::from_str(alloc, "then another run: ")?;
@@ -126,7 +118,7 @@ fn bad_record_row<R: Threads + Wait + Sync>(
 }
 
 /// The rows of runs over a keeper that holds `{}`.
-pub(crate) fn add_bad_records<R: Threads + Wait + Sync>(
+fn add_bad_records<R: Threads + Wait + Sync>(
     rows: &mut Vec<String>,
     rt: &R,
     alloc: Global,
@@ -146,4 +138,20 @@ pub(crate) fn add_bad_records<R: Threads + Wait + Sync>(
         rows.push(bad_record_row(rt, alloc, what, script)?)?;
     }
     Ok(())
+}
+
+/// The rows of a script.
+pub(crate) fn rows_of<R: Threads + Wait + Sync>(
+    rt: &R,
+    alloc: Global,
+    script: &str,
+) -> Result<Vec<String>, AllocError> {
+    let mut rows = Vec::new(alloc);
+    rows.push(whole_row(rt, alloc, script)?)?;
+    add_failures(&mut rows, rt, alloc, script)?;
+    for call in both_ways(SECOND_APPEND) {
+        add_second_append(&mut rows, rt, alloc, script, call)?;
+    }
+    add_bad_records(&mut rows, rt, alloc, script)?;
+    Ok(rows)
 }

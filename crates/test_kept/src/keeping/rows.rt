@@ -1,11 +1,19 @@
 // The rows.
-use crate::keepers::{add_record, ask_all, config_of, copies, failing_keeper, keeper_of};
+use crate::administration::{answered, reopened};
+use crate::keepers::{add_record, copies, database_in_memory, failing_keeper, keeper_of, way_of};
+use anyhow::Result;
 use rg_admin::Admin;
 use rg_base::Seq;
 use rg_keep::{KeptAdmin, ReopenCause};
-use rg_keeper::{Keeper, MemKeeper, SqlKeeper};
-use sqlite::Connection;
+use rg_keeper::{FailingCall, Keeper, MemKeeper};
 use std::alloc::{AllocError, Global};
+
+/// What is asked under a configuration, in texts.
+#[derive(Clone, Copy)]
+pub(crate) struct Asked<'a> {
+    pub(crate) config: &'a str,
+    pub(crate) asks: &'a [&'a str],
+}
 
 fn tell_cause(told: &mut String, cause: ReopenCause) -> Result<(), AllocError> {
     match cause {
@@ -33,15 +41,12 @@ fn tell_reopened<P: Keeper + Drop>(
     alloc: Global,
     config: &str,
     keeper: P,
-) -> Result<(), AllocError> {
-    let Some(config) = config_of(alloc, config) else {
-        drop(keeper);
-        return told.push_str("no configuration");
-    };
-    match KeptAdmin::reopen(alloc, config, keeper) {
-        Ok(desk) => tell_state(told, desk.admin(), desk.kept()),
-        Err(fault) => tell_cause(told, fault.cause),
+) -> Result<()> {
+    match reopened(alloc, config, keeper)? {
+        Ok(admin) => tell_state(told, admin.admin(), admin.kept())?,
+        Err(fault) => tell_cause(told, fault.cause)?,
     }
+    Ok(())
 }
 
 /// Tells how many records there are, and what is reopened from them.
@@ -50,27 +55,35 @@ fn tell_records(
     alloc: Global,
     config: &str,
     records: Vec<Seq<u8>>,
-) -> Result<(), AllocError> {
+) -> Result<()> {
     let held = records.len();
     write!(told, "{held} records; ")?;
     tell_reopened(told, alloc, config, keeper_of(alloc, records))
+}
+
+/// Asks in turn until the keeper fails: how many were answered, and the keeper.
+fn ask_all<P: Keeper + Drop>(alloc: Global, admin: KeptAdmin<P>, asks: &[&str]) -> (usize, P) {
+    let mut admin = admin;
+    for (place, ask) in asks.iter().enumerate() {
+        match answered(alloc, admin, ask) {
+            Ok(next) => admin = next,
+            Err(unanswered) => return (place, unanswered.keeper),
+        }
+    }
+    (asks.len(), admin.into_keeper())
 }
 
 /// Tells how many asks are answered over this keeper. It comes back.
 fn tell_answered<P: Keeper + Drop>(
     told: &mut String,
     alloc: Global,
-    config: &str,
+    asked: &Asked,
     keeper: P,
-    asks: &[String],
-) -> Result<P, AllocError> {
-    let Some(config) = config_of(alloc, config) else {
-        return Ok(keeper);
-    };
-    match KeptAdmin::reopen(alloc, config, keeper) {
-        Ok(desk) => {
-            let (answered, keeper) = ask_all(alloc, desk, asks);
-            write!(told, "{answered} answered, ")?;
+) -> Result<P> {
+    match reopened(alloc, asked.config, keeper)? {
+        Ok(admin) => {
+            let (count, keeper) = ask_all(alloc, admin, asked.asks);
+            write!(told, "{count} answered, ")?;
             Ok(keeper)
         }
         Err(fault) => {
@@ -82,44 +95,35 @@ fn tell_answered<P: Keeper + Drop>(
 }
 
 /// A run in which this call fails.
-pub fn failure_row(
-    alloc: Global,
-    config: &str,
-    asks: &[String],
-    number: u64,
-    keeps: bool,
-) -> Result<String, AllocError> {
-    let how = if keeps { "with" } else { "without" };
-    let mut told = format!(in alloc; "call {number} {how} its record: ")?;
-    let keeper = failing_keeper(alloc, Vec::new(alloc), number, keeps)?;
-    let keeper = tell_answered(&mut told, alloc, config, keeper, asks)?;
+pub(crate) fn failure_row(alloc: Global, asked: &Asked, call: FailingCall) -> Result<String> {
+    let (number, way) = (call.number, way_of(call));
+    let mut told = format!(in alloc; "call {number} {way} its record: ")?;
+    let keeper = tell_answered(&mut told, alloc, asked, failing_keeper(alloc, call)?)?;
     let records = copies(alloc, keeper.records())?;
-    tell_records(&mut told, alloc, config, records)?;
+    tell_records(&mut told, alloc, asked.config, records)?;
     Ok(told)
 }
 
 /// The keeper after these asks.
-pub fn whole(alloc: Global, config: &str, asks: &[String]) -> Result<MemKeeper, AllocError> {
+pub(crate) fn kept_by(alloc: Global, asked: &Asked) -> Result<MemKeeper> {
     let mut untold = String::new(alloc);
-    let keeper = keeper_of(alloc, Vec::new(alloc));
-    tell_answered(&mut untold, alloc, config, keeper, asks)
+    tell_answered(&mut untold, alloc, asked, keeper_of(alloc, Vec::new(alloc)))
 }
 
 /// What is reopened where the line of the ask at this place is the record behind those of the asks before it.
-pub fn taken_row(
-    alloc: Global,
-    config: &str,
-    asks: &[String],
-    place: usize,
-    ask: &str,
-) -> Result<String, AllocError> {
+pub(crate) fn taken_row(alloc: Global, asked: &Asked, place: usize) -> Result<String> {
     let number = place.saturating_add(1);
     let mut told = format!(in alloc; "ask {number} as a record: ")?;
-    let before = asks.get(..place).unwrap_or(asks);
-    let keeper = whole(alloc, config, before)?;
+    let before = Asked {
+        config: asked.config,
+        asks: asked.asks.get(..place).unwrap_or(asked.asks),
+    };
+    let keeper = kept_by(alloc, &before)?;
     let mut records = copies(alloc, keeper.records())?;
-    add_record(&mut records, alloc, ask.as_bytes())?;
-    tell_records(&mut told, alloc, config, records)?;
+    if let Some(ask) = asked.asks.get(place) {
+        add_record(&mut records, alloc, ask.as_bytes())?;
+    }
+    tell_records(&mut told, alloc, asked.config, records)?;
     Ok(told)
 }
 
@@ -138,30 +142,22 @@ fn spoiled(alloc: Global, records: &[Seq<u8>], place: usize) -> Result<Vec<Seq<u
 }
 
 /// What is reopened from these records with `{}` in the place of one.
-pub fn spoiled_row(
+pub(crate) fn spoiled_row(
     alloc: Global,
-    config: &str,
+    asked: &Asked,
     records: &[Seq<u8>],
     place: usize,
-) -> Result<String, AllocError> {
+) -> Result<String> {
     let mut told = format!(in alloc; "{{}} in place {place}: ")?;
-    tell_records(&mut told, alloc, config, spoiled(alloc, records, place)?)?;
+    let records = spoiled(alloc, records, place)?;
+    tell_records(&mut told, alloc, asked.config, records)?;
     Ok(told)
 }
 
 /// A run over a database in memory.
-pub fn database_row(alloc: Global, config: &str, asks: &[String]) -> Result<String, AllocError> {
+pub(crate) fn database_row(alloc: Global, asked: &Asked) -> Result<String> {
     let mut told = String::from_str(alloc, "a database: ")?;
-    let Ok(connection) = Connection::open_in_memory(alloc) else {
-        told.push_str("not opened")?;
-        return Ok(told);
-    };
-    match SqlKeeper::new(connection) {
-        Ok(keeper) => {
-            let keeper = tell_answered(&mut told, alloc, config, keeper, asks)?;
-            tell_reopened(&mut told, alloc, config, keeper)?;
-        }
-        Err(_) => told.push_str("no table")?,
-    }
+    let keeper = tell_answered(&mut told, alloc, asked, database_in_memory(alloc)?)?;
+    tell_reopened(&mut told, alloc, asked.config, keeper)?;
     Ok(told)
 }

@@ -6,7 +6,7 @@ use rg_script::LineFault;
 use std::alloc::{AllocError, Global};
 
 /// The lines.
-pub const LINES: &str = r#"
+pub(crate) const LINES: &str = r#"
 # kept
 reopen
 reopen 
@@ -23,7 +23,7 @@ admin root {"user":{"name":"eve"},"command":"putUser"}
 admin root  {"command":"deleteTags","id":-7,"name":"x"}"#;
 
 /// What the line asks: the record of an ask, or else a word.
-pub fn line_row(alloc: Global, line: &str) -> Result<String, AllocError> {
+pub(crate) fn line_row(alloc: Global, line: &str) -> Result<String, AllocError> {
     let word = match read_keep_line(alloc, line.as_bytes(), Moment(0)) {
         Ok(KeepLine::Blank) => "blank",
         Ok(KeepLine::Config(_)) => "config",

@@ -1,39 +1,32 @@
 // An administration that is kept in a file.
-use crate::commands::Command;
-use crate::marks::Marks;
-use anyhow::{Error, Result, anyhow};
+mod commands;
+mod marks;
+
+use crate::administration::{answered, reopened};
+use crate::keepers::keeper_over;
+use anyhow::{Context, Error, Result, anyhow};
+use commands::Command;
+use marks::Marks;
 use rg_admin::Admin;
-use rg_ask_wire::read_ask;
-use rg_cmd::Config;
-use rg_cmd_wire::read_config;
-use rg_keep::{KeptAdmin, ReopenFault, Stopped};
+use rg_keep::{KeptAdmin, ReopenFault};
 use rg_keeper::{Keeper, SqlKeeper};
 use sqlite::{Connection, File, FileStore};
 use std::alloc::Global;
+use std::fs;
 
 /// A service with one definition, and an administrator.
 const CONFIG: &str =
     r#"{"admins":["root"],"plugin":"hive1","serviceDefs":[{"name":"hive","resources":[{"name":"database","level":10}],"accessTypes":[{"name":"select"}]}],"services":[{"name":"hive1","type":"hive"}]}"#;
 
-type FileKeeper = SqlKeeper<FileStore<File>>;
+/// The file of a demonstration, and its log.
+const FILE: &str = "small.db";
 
-fn config(alloc: Global) -> Result<Config> {
-    match read_config(alloc, CONFIG.as_bytes()) {
-        Ok(config) => Ok(config),
-        Err(_) => Err(anyhow!("the configuration isn't read")),
-    }
-}
+const LOG: &str = "small.db-wal";
 
 /// The keeper of the file.
-fn keeper(rt: &HostRuntime, path: &str) -> Result<FileKeeper> {
+fn keeper(rt: &HostRuntime, path: &str) -> Result<SqlKeeper<FileStore<File>>> {
     let connection = Connection::open(rt, path)?;
-    match SqlKeeper::new(connection) {
-        Ok(keeper) => Ok(keeper),
-        Err((error, connection)) => {
-            drop(connection);
-            Err(anyhow!("the table isn't made: {error}"))
-        }
-    }
+    keeper_over(connection).context("the table isn't made")
 }
 
 /// Why nothing is reopened.
@@ -43,74 +36,58 @@ fn unopened<P: Keeper + Drop>(fault: ReopenFault<P>) -> Error {
     anyhow!("not reopened: {cause:?}")
 }
 
-/// Why nothing more is asked.
-fn ended<P: Keeper + Drop>(stopped: Stopped<P>) -> Error {
-    let cause = stopped.cause;
-    drop(stopped);
-    anyhow!("stopped: {cause:?}")
-}
-
 /// The administration that the keeper's list makes.
-fn reopened<P: Keeper + Drop>(alloc: Global, keeper: P) -> Result<KeptAdmin<P>> {
-    match config(alloc) {
-        Ok(config) => match KeptAdmin::reopen(alloc, config, keeper) {
-            Ok(desk) => Ok(desk),
-            Err(fault) => Err(unopened(fault)),
-        },
-        Err(error) => {
-            drop(keeper);
-            Err(error)
-        }
+fn opened<P: Keeper + Drop>(alloc: Global, keeper: P) -> Result<KeptAdmin<P>> {
+    match reopened(alloc, CONFIG, keeper)? {
+        Ok(admin) => Ok(admin),
+        Err(fault) => Err(unopened(fault)),
     }
 }
 
 /// Has an ask answered.
-fn ask<P: Keeper + Drop>(alloc: Global, desk: KeptAdmin<P>, text: &str) -> Result<KeptAdmin<P>> {
-    let Ok(ask) = read_ask(alloc, text.as_bytes()) else {
-        drop(desk);
-        return Err(anyhow!("not read: {text}"));
-    };
-    match desk.step(alloc, ask) {
-        Ok((next, reply)) => {
-            drop(reply);
-            Ok(next)
+fn ask<P: Keeper + Drop>(alloc: Global, admin: KeptAdmin<P>, text: &str) -> Result<KeptAdmin<P>> {
+    match answered(alloc, admin, text) {
+        Ok(next) => Ok(next),
+        Err(unanswered) => {
+            let cause = unanswered.cause;
+            drop(unanswered);
+            Err(anyhow!("not answered: {cause:?}: {text}"))
         }
-        Err(stopped) => Err(ended(stopped)),
     }
 }
 
 /// The administration, where so many commands are kept.
-fn with_kept<P: Keeper + Drop>(desk: KeptAdmin<P>, number: u64) -> Result<KeptAdmin<P>> {
-    if desk.kept() == number {
-        return Ok(desk);
+fn with_kept<P: Keeper + Drop>(admin: KeptAdmin<P>, number: u64) -> Result<KeptAdmin<P>> {
+    if admin.kept() == number {
+        return Ok(admin);
     }
-    drop(desk);
+    drop(admin);
     Err(anyhow!("the command {number} isn't kept"))
 }
 
 /// Asks what comes next. Its command is kept then.
 fn ask_next<P: Keeper + Drop>(
     alloc: Global,
-    desk: KeptAdmin<P>,
+    admin: KeptAdmin<P>,
     rows: u64,
 ) -> Result<KeptAdmin<P>> {
-    let number = desk.kept().saturating_add(1);
+    let number = admin.kept().saturating_add(1);
     match (Command { number, rows }).ask(alloc) {
-        Ok(text) => with_kept(ask(alloc, desk, text.as_str())?, number),
+        Ok(text) => with_kept(ask(alloc, admin, text.as_str())?, number),
         Err(error) => {
-            drop(desk);
+            drop(admin);
             Err(error.into())
         }
     }
 }
 
 /// Tells how many commands are kept.
-fn tell_kept<P: Keeper + Drop>(rt: &HostRuntime, desk: KeptAdmin<P>) -> Result<KeptAdmin<P>> {
-    let kept = desk.kept();
+fn tell_kept<P: Keeper + Drop>(rt: &HostRuntime, admin: KeptAdmin<P>) -> Result<KeptAdmin<P>> {
+    let kept = admin.kept();
     match println!(rt; "kept {kept}") {
-        Ok(()) => Ok(desk),
+        Ok(()) => Ok(admin),
         Err(error) => {
-            drop(desk);
+            drop(admin);
             Err(error.into())
         }
     }
@@ -119,16 +96,16 @@ fn tell_kept<P: Keeper + Drop>(rt: &HostRuntime, desk: KeptAdmin<P>) -> Result<K
 /// Asks until so many commands are kept, and tells after each answer how many are.
 fn fill<P: Keeper + Drop>(
     rt: &HostRuntime,
-    desk: KeptAdmin<P>,
+    admin: KeptAdmin<P>,
     count: u64,
     rows: u64,
 ) -> Result<P> {
-    let mut desk = desk;
-    for _ in desk.kept()..count {
-        let next = ask_next(rt.alloc(), desk, rows)?;
-        desk = tell_kept(rt, next)?;
+    let mut admin = admin;
+    for _ in admin.kept()..count {
+        let next = ask_next(rt.alloc(), admin, rows)?;
+        admin = tell_kept(rt, next)?;
     }
-    Ok(desk.into_keeper())
+    Ok(admin.into_keeper())
 }
 
 /// Tells what the commands make.
@@ -152,20 +129,38 @@ fn tell_state(rt: &HostRuntime, admin: &Admin, kept: u64) -> Result<()> {
 
 /// Tells what the keeper's list makes.
 fn tell<P: Keeper + Drop>(rt: &HostRuntime, keeper: P) -> Result<()> {
-    let desk = reopened(rt.alloc(), keeper)?;
-    let told = tell_state(rt, desk.admin(), desk.kept());
-    drop(desk);
+    let admin = opened(rt.alloc(), keeper)?;
+    let told = tell_state(rt, admin.admin(), admin.kept());
+    drop(admin);
     told
 }
 
 /// Keeps commands in the file until there are so many.
 pub(crate) fn append(rt: &HostRuntime, path: &str, count: u64, rows: u64) -> Result<()> {
-    let desk = reopened(rt.alloc(), keeper(rt, path)?)?;
-    fill(rt, desk, count, rows)?.into_connection().close()?;
+    let admin = opened(rt.alloc(), keeper(rt, path)?)?;
+    fill(rt, admin, count, rows)?.into_connection().close()?;
     Ok(())
 }
 
 /// Tells what the commands in the file make. It leaves the log beside the file as it is.
 pub(crate) fn reopen(rt: &HostRuntime, path: &str) -> Result<()> {
     tell(rt, keeper(rt, path)?)
+}
+
+/// Removes what an earlier run may have left.
+fn clear(rt: &HostRuntime) {
+    drop(fs::remove_file(rt, FILE));
+    drop(fs::remove_file(rt, LOG));
+}
+
+/// Keeps a few commands in a file of this folder and reopens them, then some more, and removes the file.
+pub(crate) fn demonstrate(rt: &HostRuntime) -> Result<()> {
+    clear(rt);
+    for count in [7, 38] {
+        append(rt, FILE, count, 4)?;
+        reopen(rt, FILE)?;
+    }
+    fs::remove_file(rt, FILE)?;
+    fs::remove_file(rt, LOG)?;
+    Ok(())
 }
