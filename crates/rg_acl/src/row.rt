@@ -22,6 +22,7 @@ pub struct ReportRow {
     pub verdict: Verdict,
 }
 
+/// Letting it go is one call.
 impl Drop for ReportRow {
     fn drop(self) {
         let Self {

@@ -50,6 +50,7 @@ pub struct Log {
     pub tag_changes: Seq<TagChange>,
 }
 
+/// Letting it go is one call.
 impl Drop for Log {
     fn drop(self) {
         let Self {

@@ -20,6 +20,7 @@ pub struct ServiceRow {
     pub fallback: bool,
 }
 
+/// Letting it go is one call.
 impl Drop for ServiceRow {
     fn drop(self) {
         let Self {
@@ -60,6 +61,7 @@ pub struct State {
     pub role_version: Version,
 }
 
+/// Letting it go is one call.
 impl Drop for State {
     fn drop(self) {
         let Self {

@@ -43,6 +43,7 @@ pub struct PolicySet {
     pub(crate) frame: Snapshot<Frame>,
 }
 
+/// Letting it go is one call.
 impl Drop for PolicySet {
     fn drop(self) {
         let Self {

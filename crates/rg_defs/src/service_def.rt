@@ -37,6 +37,7 @@ pub struct ConditionDef {
     pub options: Seq<Pair>,
 }
 
+/// Letting it go is one call.
 impl Drop for ConditionDef {
     fn drop(self) {
         let Self {
@@ -70,6 +71,7 @@ pub struct ServiceDef {
     pub filter_levels: Seq<Text>,
 }
 
+/// Letting it go is one call.
 impl Drop for ServiceDef {
     fn drop(self) {
         let Self {

@@ -35,6 +35,7 @@ pub struct Engine {
     given: Option<Lists>,
 }
 
+/// Letting it go is one call.
 impl Drop for Engine {
     fn drop(self) {
         let Self {

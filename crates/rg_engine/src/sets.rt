@@ -36,6 +36,7 @@ pub(crate) struct Sets {
     rows: RowSet,
 }
 
+/// Letting it go is one call.
 impl Drop for Sets {
     fn drop(self) {
         let Self {

@@ -45,6 +45,7 @@ pub(crate) struct Setup {
     paths: Paths,
 }
 
+/// Letting it go is one call.
 impl Drop for Setup {
     fn drop(self) {
         let Self {

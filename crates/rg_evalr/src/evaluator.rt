@@ -41,6 +41,7 @@ pub(crate) struct Parts {
     pub filter_items: Seq<CompiledItem>,
 }
 
+/// Letting it go is one call.
 impl Drop for Parts {
     fn drop(self) {
         let Self {
@@ -67,6 +68,7 @@ pub struct Evaluator {
     parts: Parts,
 }
 
+/// Letting it go is one call.
 impl Drop for Evaluator {
     fn drop(self) {
         let Self {

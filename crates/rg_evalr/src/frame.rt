@@ -13,6 +13,7 @@ pub struct Frame {
     pub time_zones: TimeZones,
 }
 
+/// Letting it go is one call.
 impl Drop for Frame {
     fn drop(self) {
         let Self {

@@ -69,6 +69,7 @@ pub struct Decision {
     pub path: Text,
 }
 
+/// Letting it go is one call.
 impl Drop for Decision {
     fn drop(self) {
         let Self {

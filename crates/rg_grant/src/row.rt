@@ -17,6 +17,7 @@ pub struct GrantRow {
     pub delegate: bool,
 }
 
+/// Letting it go is one call.
 impl Drop for GrantRow {
     fn drop(self) {
         let Self {

@@ -29,6 +29,7 @@ pub struct MaskInfo {
     pub value_expr: Text,
 }
 
+/// Letting it go is one call.
 impl Drop for MaskInfo {
     fn drop(self) {
         let Self {
@@ -50,6 +51,7 @@ pub struct ScheduleText {
     pub recurring: bool,
 }
 
+/// Letting it go is one call.
 impl Drop for ScheduleText {
     fn drop(self) {
         let Self {
@@ -83,6 +85,7 @@ pub struct Item {
     pub filter: Option<Text>,
 }
 
+/// Letting it go is one call.
 impl Drop for Item {
     fn drop(self) {
         let Self {
@@ -146,6 +149,7 @@ pub struct Policy {
     pub audited: bool,
 }
 
+/// Letting it go is one call.
 impl Drop for Policy {
     fn drop(self) {
         let Self {

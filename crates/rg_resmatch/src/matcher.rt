@@ -25,6 +25,7 @@ pub struct Matcher {
     reach: Snapshot<Reach>,
 }
 
+/// Letting it go is one call.
 impl Drop for Matcher {
     fn drop(self) {
         let Self {

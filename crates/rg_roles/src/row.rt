@@ -11,6 +11,7 @@ pub struct RoleRow {
     pub roles: Seq<Text>,
 }
 
+/// Letting it go is one call.
 impl Drop for RoleRow {
     fn drop(self) {
         let Self {

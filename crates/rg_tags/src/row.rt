@@ -11,6 +11,7 @@ pub struct TagRow {
     pub tags: Seq<Tag>,
 }
 
+/// Letting it go is one call.
 impl Drop for TagRow {
     fn drop(self) {
         let Self {
