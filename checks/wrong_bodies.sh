@@ -45,20 +45,21 @@ lines_of() {
 
 # Copies a crate without its edits and without what checks left in it.
 copy_crate() {
-  mkdir -p "$room/crates/$1"
+  mkdir -p "$copy/crates/$1"
   for part in "crates/$1"/*; do
     case ${part##*/} in
       out | must-fail) ;;
-      *) cp -r "$part" "$room/crates/$1/" ;;
+      *) cp -r "$part" "$copy/crates/$1/" ;;
     esac
   done
 }
 
 give_edits() {
-  mkdir "$room/crates/$1/must-fail"
+  local to=$copy/crates/$1/must-fail
+  mkdir "$to"
   for edit in $(edits_of "$1"); do
-    [ ! -e "$room/crates/$1/must-fail/${edit##*/}" ] || stop "$1 has two edits ${edit##*/}"
-    cp "$edit" "$room/crates/$1/must-fail/"
+    [ ! -e "$to/${edit##*/}" ] || stop "$1 has two edits ${edit##*/}"
+    cp "$edit" "$to/"
     edits=$((edits + 1))
   done
 }
@@ -84,17 +85,19 @@ while [ $# -gt 0 ]; do
 done
 [ ${#crates[@]} -gt 0 ] || mapfile -t crates < <(with_edits)
 
+# What rt makes for itself lies beside the copy, so that nothing is left however this ends.
 running=
 room=$(mktemp -d) || exit 2
 trap 'kill $running 2> /dev/null; rm -rf "$room"' EXIT
-trap 'exit 2' INT TERM
-edits=0 refused=0 bad=0
-lines_of "${crates[@]}" > "$room/crates.txt"
-cp HANDLES "$room/"
-while read -r crate _; do copy_crate "${crate%:}"; done < "$room/crates.txt"
+trap 'exit 2' HUP INT TERM
+copy=$room/copy edits=0 refused=0 bad=0
+mkdir "$copy" "$room/tmp"
+lines_of "${crates[@]}" > "$copy/crates.txt"
+cp HANDLES "$copy/"
+while read -r crate _; do copy_crate "${crate%:}"; done < "$copy/crates.txt"
 for crate in "${crates[@]}"; do give_edits "$crate"; done
 
-exec 3< <(cd "$room" && exec rt ci "${crates[@]}" 2>&1)
+exec 3< <(cd "$copy" && TMPDIR=$room/tmp exec rt ci "${crates[@]}" 2>&1)
 running=$!
 while IFS= read -r line <&3; do
   case $line in
