@@ -1,4 +1,6 @@
 // Engines that move with deltas, and publications of engines for passes.
+ghost use Rattle.std.specs.Prelude.{◌≡◌};
+
 mod engines;
 
 use crate::administration::request_of;
@@ -109,7 +111,9 @@ fn came_and_went(alloc: Global, user: &str) -> Option<String> {
 }
 
 /// Publishes an engine, which came after so many entries. None where memory is refused.
-fn publish<R: Wait + Drop>(alloc: Global, publisher: &mut Publisher<R>, seq: u64) -> Option<u64> {
+fn publish<R: Wait + Drop>(alloc: Global, publisher: &mut Publisher<R>, seq: u64) -> Option<u64>
+    ensures { publisher.new.book ≡ publisher.old.book }
+{
     let Some(engine) = engine(alloc) else {
         return None;
     };

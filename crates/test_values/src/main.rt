@@ -1,6 +1,6 @@
 // Rows about the libraries that the others stand on: texts and lists, ports, patterns, tries, roles, records, definitions, conditions,
 // schedules and hooks. Each table is a file of its own. A line of it that begins with `#` is a comment; one that begins with `given|` is
-// what the rows below it stand on; each other line is a row, whose first field says what is asked. Printed are the comments, and
+// what the rows stand on; each other line is a row, whose first field says what is asked. Printed are the comments, and
 // each row with its answer.
 #![tactic(auto)]
 
@@ -22,6 +22,9 @@ mod tries;
 
 use rg_base::NoMemory;
 use std::{fs, io};
+
+/// How the line begins that says what the rows stand on.
+const GIVEN: &str = "given|";
 
 #[derive(Clone, Copy)]
 enum Table {
@@ -100,13 +103,22 @@ fn work_line(rt: &HostRuntime, table: Table, given: &str, line: &str) -> io::Res
     }
 }
 
+/// What the rows of a table stand on; nothing where no line says it.
+fn given_in(text: &str) -> &str {
+    for line in text.lines() {
+        if let Some(given) = line.strip_prefix(GIVEN) {
+            return given;
+        }
+    }
+    ""
+}
+
 fn work_table(rt: &HostRuntime, table: Table) -> io::Result<()> {
     let text = fs::read_to_string(rt, file_of(table))?;
-    let mut given = "";
+    let given = given_in(text.as_str());
     for line in text.lines() {
-        match line.strip_prefix("given|") {
-            Some(held) => given = held,
-            None => work_line(rt, table, given, line)?,
+        if !line.starts_with(GIVEN) {
+            work_line(rt, table, given, line)?;
         }
     }
     Ok(())
