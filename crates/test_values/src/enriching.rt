@@ -58,22 +58,6 @@ fn subjects(alloc: Global) -> Result<SubjectPairs, NoMemory> {
     })
 }
 
-/// The hooks of a worker: `early` comes before the pair that it would take up, `late` behind it.
-fn hooks(alloc: Global) -> Result<WorkerHooks, NoMemory> {
-    let mut list: Vec<Box<dyn Enricher + Send>> = Vec::new(alloc);
-    let tier = FixedPair {
-        pair: pair(alloc, "tier", "gold")?,
-    };
-    list.push(Box::new(alloc, second_key(alloc, "tier", "early")?)?)?;
-    list.push(Box::new(alloc, tier)?)?;
-    list.push(Box::new(alloc, subjects(alloc)?)?)?;
-    list.push(Box::new(alloc, second_key(alloc, "team", "late")?)?)?;
-    Ok(WorkerHooks {
-        sinks: AuditFan::new(Vec::new(alloc)),
-        enrichers: Enrichers::new(list),
-    })
-}
-
 /// A request of the user with these groups, which has a pair of its own.
 fn request(alloc: Global, user: &str, groups: &str) -> Result<AccessRequest, NoMemory> {
     let mut context = Seq::new(alloc);
@@ -95,16 +79,39 @@ fn request(alloc: Global, user: &str, groups: &str) -> Result<AccessRequest, NoM
 /// Takes only what may go to another thread.
 fn may_be_sent<T: Send>(_hooks: &T) {}
 
-/// `enrich|USER|GROUPS`: the context of the enriched request.
-fn tell_enriched(alloc: Global, row: &str) -> Result<String, NoMemory> {
-    let mut hooks = hooks(alloc)?;
-    may_be_sent(&hooks);
+/// Adds the context of the request, once it is enriched.
+fn add_enriched(
+    answer: &mut String,
+    alloc: Global,
+    hooks: &mut WorkerHooks,
+    row: &str,
+) -> Result<(), NoMemory> {
+    may_be_sent(hooks);
     let mut request = request(alloc, field(row, 1), field(row, 2))?;
     hooks.enrichers.run(alloc, &mut request)?;
-    let mut answer = String::new(alloc);
     for pair in request.context.as_slice() {
         write!(answer, "{}={} ", pair.key.as_str(), pair.value.as_str())?;
     }
+    Ok(())
+}
+
+/// `enrich|USER|GROUPS`: the context of the enriched request. The enricher `early` comes before the pair that it would take up, `late`
+/// behind it.
+fn tell_enriched(alloc: Global, row: &str) -> Result<String, NoMemory> {
+    let mut list: Vec<Box<dyn Enricher + Send>> = Vec::new(alloc);
+    let tier = FixedPair {
+        pair: pair(alloc, "tier", "gold")?,
+    };
+    list.push(Box::new(alloc, second_key(alloc, "tier", "early")?)?)?;
+    list.push(Box::new(alloc, tier)?)?;
+    list.push(Box::new(alloc, subjects(alloc)?)?)?;
+    list.push(Box::new(alloc, second_key(alloc, "team", "late")?)?)?;
+    let mut hooks = WorkerHooks {
+        sinks: AuditFan::new(Vec::new(alloc)),
+        enrichers: Enrichers::new(list),
+    };
+    let mut answer = String::new(alloc);
+    add_enriched(&mut answer, alloc, &mut hooks, row)?;
     Ok(answer)
 }
 
