@@ -22,7 +22,6 @@ pub struct ReportRow {
     pub verdict: Verdict,
 }
 
-/// Letting it go is one call.
 impl Drop for ReportRow {
     fn drop(self) {
         let Self {

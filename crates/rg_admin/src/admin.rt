@@ -43,7 +43,6 @@ pub struct Admin {
     counts: MapCounts,
 }
 
-/// Letting it go is one call.
 impl Drop for Admin {
     fn drop(self) {
         let Self { held: _, counts: _ } = self;

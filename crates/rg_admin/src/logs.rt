@@ -20,7 +20,6 @@ pub struct ServiceLog {
     tags_due: Touch<TagChange>,
 }
 
-/// Letting it go is one call.
 impl Drop for ServiceLog {
     fn drop(self) {
         let Self {

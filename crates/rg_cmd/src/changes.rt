@@ -50,7 +50,6 @@ pub struct Log {
     pub tag_changes: Seq<TagChange>,
 }
 
-/// Letting it go is one call.
 impl Drop for Log {
     fn drop(self) {
         let Self {

@@ -27,7 +27,6 @@ pub struct PolicyDelta {
     pub zones: Option<Seq<ZoneRow>>,
 }
 
-/// Letting it go is one call.
 impl Drop for PolicyDelta {
     fn drop(self) {
         let Self {

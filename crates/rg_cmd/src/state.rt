@@ -20,7 +20,6 @@ pub struct ServiceRow {
     pub fallback: bool,
 }
 
-/// Letting it go is one call.
 impl Drop for ServiceRow {
     fn drop(self) {
         let Self {
@@ -61,7 +60,6 @@ pub struct State {
     pub role_version: Version,
 }
 
-/// Letting it go is one call.
 impl Drop for State {
     fn drop(self) {
         let Self {

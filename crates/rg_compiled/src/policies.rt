@@ -43,7 +43,6 @@ pub struct PolicySet {
     pub(crate) frame: Snapshot<Frame>,
 }
 
-/// Letting it go is one call.
 impl Drop for PolicySet {
     fn drop(self) {
         let Self {

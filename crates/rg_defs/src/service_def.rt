@@ -37,7 +37,6 @@ pub struct ConditionDef {
     pub options: Seq<Pair>,
 }
 
-/// Letting it go is one call.
 impl Drop for ConditionDef {
     fn drop(self) {
         let Self {
@@ -71,7 +70,6 @@ pub struct ServiceDef {
     pub filter_levels: Seq<Text>,
 }
 
-/// Letting it go is one call.
 impl Drop for ServiceDef {
     fn drop(self) {
         let Self {

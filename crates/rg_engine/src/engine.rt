@@ -35,7 +35,6 @@ pub struct Engine {
     given: Option<Lists>,
 }
 
-/// Letting it go is one call.
 impl Drop for Engine {
     fn drop(self) {
         let Self {

@@ -36,7 +36,6 @@ pub(crate) struct Sets {
     rows: RowSet,
 }
 
-/// Letting it go is one call.
 impl Drop for Sets {
     fn drop(self) {
         let Self {

@@ -45,7 +45,6 @@ pub(crate) struct Setup {
     paths: Paths,
 }
 
-/// Letting it go is one call.
 impl Drop for Setup {
     fn drop(self) {
         let Self {

@@ -41,7 +41,6 @@ pub(crate) struct Parts {
     pub filter_items: Seq<CompiledItem>,
 }
 
-/// Letting it go is one call.
 impl Drop for Parts {
     fn drop(self) {
         let Self {
@@ -68,7 +67,6 @@ pub struct Evaluator {
     parts: Parts,
 }
 
-/// Letting it go is one call.
 impl Drop for Evaluator {
     fn drop(self) {
         let Self {

@@ -13,7 +13,6 @@ pub struct Frame {
     pub time_zones: TimeZones,
 }
 
-/// Letting it go is one call.
 impl Drop for Frame {
     fn drop(self) {
         let Self {

@@ -42,7 +42,6 @@ pub(crate) struct CompiledItem {
     pub conditions: Seq<Condition>,
 }
 
-/// Letting it go is one call.
 impl Drop for CompiledItem {
     fn drop(self) {
         let Self {

@@ -69,7 +69,6 @@ pub struct Decision {
     pub path: Text,
 }
 
-/// Letting it go is one call.
 impl Drop for Decision {
     fn drop(self) {
         let Self {

@@ -17,7 +17,6 @@ pub struct GrantRow {
     pub delegate: bool,
 }
 
-/// Letting it go is one call.
 impl Drop for GrantRow {
     fn drop(self) {
         let Self {

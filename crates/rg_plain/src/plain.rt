@@ -30,7 +30,6 @@ pub(crate) struct Compiled {
     pub row_matchers: Seq<Matcher>,
 }
 
-/// Letting it go is one call.
 impl Drop for Compiled {
     fn drop(self) {
         let Self {
@@ -50,7 +49,6 @@ pub struct Plain {
     compiled: Compiled,
 }
 
-/// Letting it go is one call.
 impl Drop for Plain {
     fn drop(self) {
         let Self {

@@ -29,7 +29,6 @@ pub struct MaskInfo {
     pub value_expr: Text,
 }
 
-/// Letting it go is one call.
 impl Drop for MaskInfo {
     fn drop(self) {
         let Self {
@@ -51,7 +50,6 @@ pub struct ScheduleText {
     pub recurring: bool,
 }
 
-/// Letting it go is one call.
 impl Drop for ScheduleText {
     fn drop(self) {
         let Self {
@@ -85,7 +83,6 @@ pub struct Item {
     pub filter: Option<Text>,
 }
 
-/// Letting it go is one call.
 impl Drop for Item {
     fn drop(self) {
         let Self {
@@ -149,7 +146,6 @@ pub struct Policy {
     pub audited: bool,
 }
 
-/// Letting it go is one call.
 impl Drop for Policy {
     fn drop(self) {
         let Self {

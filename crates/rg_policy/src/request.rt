@@ -31,7 +31,6 @@ pub struct AccessRequest {
     pub context: Seq<Pair>,
 }
 
-/// Letting it go is one call.
 impl Drop for AccessRequest {
     fn drop(self) {
         let Self {

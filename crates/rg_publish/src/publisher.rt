@@ -186,7 +186,6 @@ impl<R: Wait + Drop> Publisher<R> {
     }
 }
 
-/// Letting it go is one call.
 impl<R: Wait + Drop> Drop for Publisher<R> {
     fn drop(self) {
         let Self {

@@ -25,7 +25,6 @@ pub(crate) struct CompiledMap {
     pub(crate) written: Snapshot<Seq<PolicyResource>>,
 }
 
-/// Letting it go is one call.
 impl Drop for CompiledMap {
     fn drop(self) {
         let Self {

@@ -25,7 +25,6 @@ pub struct Matcher {
     reach: Snapshot<Reach>,
 }
 
-/// Letting it go is one call.
 impl Drop for Matcher {
     fn drop(self) {
         let Self {

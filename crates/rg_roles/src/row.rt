@@ -11,7 +11,6 @@ pub struct RoleRow {
     pub roles: Seq<Text>,
 }
 
-/// Letting it go is one call.
 impl Drop for RoleRow {
     fn drop(self) {
         let Self {

@@ -29,7 +29,6 @@ pub struct Running<R: Wait + Drop> {
     pass: Pass,
 }
 
-/// Letting it go is one call.
 impl<R: Wait + Drop> Drop for Running<R> {
     fn drop(self) {
         let Self {

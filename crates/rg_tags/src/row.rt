@@ -11,7 +11,6 @@ pub struct TagRow {
     pub tags: Seq<Tag>,
 }
 
-/// Letting it go is one call.
 impl Drop for TagRow {
     fn drop(self) {
         let Self {

@@ -44,7 +44,6 @@ pub struct ZoneMap {
     def: Snapshot<ServiceDef>,
 }
 
-/// Letting it go is one call.
 impl Drop for ZoneMap {
     fn drop(self) {
         let Self {

@@ -24,7 +24,6 @@ pub struct Subjects {
     pub roles: Seq<Text>,
 }
 
-/// Letting it go is one call.
 impl Drop for Subjects {
     fn drop(self) {
         let Self {
@@ -45,7 +44,6 @@ pub struct ZoneRow {
     pub auditors: Subjects,
 }
 
-/// Letting it go is one call.
 impl Drop for ZoneRow {
     fn drop(self) {
         let Self {

@@ -5,7 +5,7 @@ use crate::administration::request_of;
 use crate::lists::both;
 use crate::printing::print_row;
 use anyhow::Result;
-use engines::{deltas, engine, moved};
+use engines::{engine, moved, three_changes};
 use rg_base::Steps;
 use rg_cmd::Part;
 use rg_engine::{ApplyFault, Engine};
@@ -34,7 +34,7 @@ fn told_of_versions(alloc: Global, engine: &Engine) -> Result<String, AllocError
 /// Versions before and after deltas.
 fn versions(alloc: Global) -> Option<String> {
     let before = engine(alloc)?;
-    let Ok(after) = moved(alloc, &before, &deltas(alloc)?) else {
+    let Ok(after) = moved(alloc, &before, &three_changes(alloc)?) else {
         return None;
     };
     let old = told_of_versions(alloc, &before).ok()?;
@@ -68,7 +68,7 @@ fn told_of_fault(alloc: Global, fault: ApplyFault) -> Option<String> {
 
 /// The same deltas twice.
 fn deltas_again(alloc: Global) -> Option<String> {
-    let deltas = deltas(alloc)?;
+    let deltas = three_changes(alloc)?;
     let first = engine(alloc)?;
     let Ok(second) = moved(alloc, &first, &deltas) else {
         return None;
@@ -98,7 +98,7 @@ fn told_of_decision(alloc: Global, engine: &Engine, request: &AccessRequest) -> 
 fn came_and_went(alloc: Global, user: &str) -> Option<String> {
     let request = request_of(alloc, user)?;
     let before = engine(alloc)?;
-    let Ok(after) = moved(alloc, &before, &deltas(alloc)?) else {
+    let Ok(after) = moved(alloc, &before, &three_changes(alloc)?) else {
         return None;
     };
     let verdict = before.verdict(&request, &mut Steps::silent());

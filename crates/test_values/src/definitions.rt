@@ -1,5 +1,8 @@
 // Rows about definitions. What is given is a definition in JSON; in the row `KIND|A|B|OLD|NEW|..` each OLD of it gives way to the NEW
 // behind it.
+ghost use Rattle.std.specs.Prelude.{◌≡◌, None};
+ghost use Rattle.rg_defs.specs.Rules.{def_fault};
+
 use crate::rows::{add_names, field, names, number, spread, told, yes_or_no};
 use rg_base::{NoMemory, Seq, Text};
 use rg_defs::{
@@ -89,7 +92,9 @@ fn tell_both(alloc: Global, kept: &Paths, row: &str) -> Result<String, NoMemory>
 }
 
 /// `expand|ACCESS`: the access types that it brings along.
-fn tell_expanded(alloc: Global, def: &ServiceDef, row: &str) -> Result<String, NoMemory> {
+fn tell_expanded(alloc: Global, def: &ServiceDef, row: &str) -> Result<String, NoMemory>
+    requires { def_fault def.now ≡ None }
+{
     let list = expand(alloc, def, field(row, 1))?;
     let mut answer = String::new(alloc);
     add_names(&mut answer, list.as_slice())?;

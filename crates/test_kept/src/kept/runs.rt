@@ -51,7 +51,7 @@ struct Ports {
     net: MemListener,
 }
 
-fn ports(alloc: Global, script: Vec<u8>, moments: Vec<Moment>) -> Ports
+fn ports_of(alloc: Global, script: Vec<u8>, moments: Vec<Moment>) -> Ports
     requires moments { 0 < length moments.items }
 {
     Ports {
@@ -136,7 +136,7 @@ pub(crate) fn tell_run<R: Threads + Wait + Sync>(
     let words = words_of(alloc)?;
     let script = Vec::from_slice(alloc, script.as_bytes())?;
     let moments = Vec::from_slice(alloc, &[Moment(0)])?;
-    let ports = ports(alloc, script, moments);
+    let ports = ports_of(alloc, script, moments);
     let workers = one_worker(alloc)?;
     let outcome = run_over(rt, alloc, words.as_slice(), ports, workers, keeper);
     drop(words);

@@ -94,7 +94,7 @@ fn changes(alloc: Global) -> Option<Seq<PolicyChange>> {
 }
 
 /// Three changes of policy 7, which lead from version 5 to version 8, and none of tags and roles. None where memory is refused.
-pub(crate) fn deltas(alloc: Global) -> Option<Deltas> {
+pub(crate) fn three_changes(alloc: Global) -> Option<Deltas> {
     let changes = changes(alloc)?;
     let policies = PolicyDelta {
         from: Version(5),

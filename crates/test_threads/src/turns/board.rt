@@ -59,7 +59,7 @@ fn posting(alloc: Global, line: &str, mark: &str) -> Result<Post, NoMemory> {
 }
 
 /// Posts a line with a mark, and appends what is replied.
-fn post<R: Wait>(
+fn post_and_tell<R: Wait>(
     told: &mut String,
     rt: &R,
     alloc: Global,
@@ -87,8 +87,8 @@ pub(crate) fn two_posts<R: Wait>(rt: &R, alloc: Global) -> Option<String> {
     };
     let mut seat = seats.pop()?;
     let mut told = String::new(alloc);
-    post(&mut told, rt, alloc, &turn, &mut seat, ("one", "x")).ok()?;
-    post(&mut told, rt, alloc, &turn, &mut seat, ("two", "y")).ok()?;
+    post_and_tell(&mut told, rt, alloc, &turn, &mut seat, ("one", "x")).ok()?;
+    post_and_tell(&mut told, rt, alloc, &turn, &mut seat, ("two", "y")).ok()?;
     if seats.push(seat).is_err() {
         return None;
     }
