@@ -90,7 +90,7 @@ running=
 room=$(mktemp -d) || exit 2
 trap 'kill $running 2> /dev/null; rm -rf "$room"' EXIT
 trap 'exit 2' HUP INT TERM
-copy=$room/copy edits=0 refused=0 bad=0
+copy=$room/copy edits=0 tried=0 refused=0 bad=0
 mkdir "$copy" "$room/tmp"
 lines_of "${crates[@]}" > "$copy/crates.txt"
 cp HANDLES "$copy/"
@@ -100,14 +100,20 @@ for crate in "${crates[@]}"; do give_edits "$crate"; done
 exec 3< <(cd "$copy" && TMPDIR=$room/tmp exec rt ci "${crates[@]}" 2>&1)
 running=$!
 while IFS= read -r line <&3; do
-  case $line in
-    "rt: must-fail "*) echo "${line#rt: must-fail }" ;;
-    *) echo "$line" >&2 ;;
-  esac
-  case $line in
-    "rt: must-fail "*.edit:\ refused*) refused=$((refused + 1)) ;;
-    "rt: must-fail "*.edit:\ BAD\ EDIT*) bad=$((bad + 1)) ;;
+  told=${line#rt: must-fail }
+  if [ "$told" = "$line" ]; then
+    echo "$line" >&2
+    continue
+  fi
+  echo "$told"
+  tried=$((tried + 1))
+  case ${told#*.edit: } in
+    refused*) refused=$((refused + 1)) ;;
+    "BAD EDIT"*) bad=$((bad + 1)) ;;
   esac
 done
+wait "$running"
+ended=$? running=
+[ "$tried" -eq "$edits" ] || echo "wrong_bodies: $((edits - tried)) edits were not tried: rt ended with status $ended" >&2
 echo "$refused refused, $((edits - refused - bad)) not refused, $bad bad"
 [ "$refused" -eq "$edits" ]
