@@ -79,20 +79,12 @@ fn request(alloc: Global, user: &str, groups: &str) -> Result<AccessRequest, NoM
 /// Takes only what may go to another thread.
 fn may_be_sent<T: Send>(_hooks: &T) {}
 
-/// Adds the context of the request, once it is enriched.
-fn add_enriched(
-    answer: &mut String,
-    alloc: Global,
-    hooks: &mut WorkerHooks,
-    row: &str,
-) -> Result<(), NoMemory> {
-    may_be_sent(hooks);
-    let mut request = request(alloc, field(row, 1), field(row, 2))?;
-    hooks.enrichers.run(alloc, &mut request)?;
-    for pair in request.context.as_slice() {
+fn told_context(alloc: Global, context: &[Pair]) -> Result<String, NoMemory> {
+    let mut answer = String::new(alloc);
+    for pair in context {
         write!(answer, "{}={} ", pair.key.as_str(), pair.value.as_str())?;
     }
-    Ok(())
+    Ok(answer)
 }
 
 /// `enrich|USER|GROUPS`: the context of the enriched request. The enricher `early` comes before the pair that it would take up, `late`
@@ -110,9 +102,10 @@ fn tell_enriched(alloc: Global, row: &str) -> Result<String, NoMemory> {
         sinks: AuditFan::new(Vec::new(alloc)),
         enrichers: Enrichers::new(list),
     };
-    let mut answer = String::new(alloc);
-    add_enriched(&mut answer, alloc, &mut hooks, row)?;
-    Ok(answer)
+    may_be_sent(&hooks);
+    let mut request = request(alloc, field(row, 1), field(row, 2))?;
+    hooks.enrichers.run(alloc, &mut request)?;
+    told_context(alloc, request.context.as_slice())
 }
 
 pub(crate) fn answer(alloc: Global, row: &str) -> Result<String, NoMemory> {
