@@ -2,6 +2,7 @@
 use Rattle.std.specs.Prelude.{ℕ, ◌==◌, List, ◌++◌, codes, decimal, Option, Some, None, if◌then◌else◌}
 use Rattle.std.specs.Fmt.{signed_decimal}
 use Rattle.std.specs.Str.{encode_utf8_all}
+use Rattle.json.specs.Print.{escape}
 use Rattle.rg_base.specs.Texts.{is_empty}
 use Rattle.rg_cmd.specs.RuleNames.{rule_name}
 use Rattle.rg_cmd.specs.declared.rule.Rule.{Rule}
@@ -33,9 +34,9 @@ wire_name wire.Mistyped = codes "type"
 wire_name wire.Missing = codes "missing"
 wire_name wire.Range = codes "range"
 
--- the path of the fault, or a word for the whole JSON, and the kind
+-- the path of the fault as a JSON string spells it, so that no key breaks the line, or a word for the whole JSON, and the kind
 unfoldable pub json_text : List ℕ → WireKind → List ℕ
-json_text path kind = (if is_empty path then codes "JSON" else encode_utf8_all path) ++ (codes ": " ++ wire_name kind)
+json_text path kind = (if is_empty path then codes "JSON" else escape (encode_utf8_all path)) ++ (codes ": " ++ wire_name kind)
 
 -- ---- a line out of place
 

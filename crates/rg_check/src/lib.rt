@@ -6,6 +6,7 @@ mod kind;
 mod laws;
 mod meanings;
 mod program;
+mod spelling;
 mod words;
 
 pub use laws::replays_end_at_first;

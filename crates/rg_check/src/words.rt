@@ -9,6 +9,7 @@ ghost use Rattle.rg_check.specs.Causes.{at_place, broken_text, cause_text, json_
 
 use crate::kind::LineKind;
 use crate::meanings::meaning;
+use crate::spelling::spelled;
 use rg_base::{Moment, NoMemory, PolicyId, Text, is_empty};
 use rg_cmd::Rule;
 use rg_roles::RoleFault;
@@ -18,7 +19,7 @@ use rg_wire::WireKind;
 use std::alloc::Global;
 
 /// The text, in memory of its own.
-fn owned(alloc: Global, text: &str) -> Result<String, NoMemory>
+pub(crate) fn owned(alloc: Global, text: &str) -> Result<String, NoMemory>
     ensures { IfOk result (λ s. string_bytes s ≡ text.now) }
 {
     Ok(String::from_str(alloc, text)?)
@@ -56,6 +57,8 @@ fn json_words(alloc: Global, path: &Text, kind: WireKind) -> Result<String, NoMe
     if is_empty(path) {
         return Ok(format!(in alloc; "JSON: {kind}")?);
     }
+    let path = spelled(alloc, path)?;
+    let path = path.as_str();
     Ok(format!(in alloc; "{path}: {kind}")?)
 }
 
