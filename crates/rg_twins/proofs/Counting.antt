@@ -7,7 +7,7 @@ use Rattle.std.proofs.lemmas.List.Sums.{sum_by-append}
 use Rattle.rg_base.proofs.Lists.{Contains-cases, Contains-none}
 use Rattle.rg_policy.specs.Maps.{maps_of}
 use Rattle.rg_policy.specs.declared.policy.Policy.{Policy}
-use Rattle.rg_twins.specs.Counts.{IsCounted, count_of, has_print, lowered, lowered_at, raised, raised_at}
+use Rattle.rg_twins.specs.Counts.{IsCounted, count_of, has_print, lost, lowered, lowered_at, raised, raised_at}
 use Rattle.rg_twins.specs.Prints.{print_of}
 
 -- ---- what they tell
@@ -63,17 +63,17 @@ pub counted_none : (counts : List ℕ) → IsCounted counts []
 unfolding IsCounted
 counted_none counts k few = omega arith
 
-raising : (b : Bool) (n m c d : ℕ) → m ≡ n + cond b 1 0 → d ≡ cond b (raised c) c → (c < 255 → n ≤ c) → d < 255 → m ≤ d
-raising true n m c d sum is most few = let low : c < 255 = omega (arith, is, few) in let held = most low in omega (arith, sum, is, held, few)
+raising : (b : Bool) (n m c d : ℕ) → m ≡ n + cond b 1 0 → d ≡ cond b (raised c) c → (c < lost → n ≤ c) → d < lost → m ≤ d
+raising true n m c d sum is most few = let low : c < lost = omega (arith, is, few) in let held = most low in omega (arith, sum, is, held, few)
 raising false n m c d sum is most few = let held = most (omega (arith, is, few)) in omega (arith, sum, is, held)
 
-lowering : (b : Bool) (n m c d : ℕ) → m + cond b 1 0 ≡ n → d ≡ cond b (lowered c) c → (c < 255 → n ≤ c) → d < 255 → m ≤ d
-lowering true n m c d sum is most few = at (c == 255) refl
+lowering : (b : Bool) (n m c d : ℕ) → m + cond b 1 0 ≡ n → d ≡ cond b (lowered c) c → (c < lost → n ≤ c) → d < lost → m ≤ d
+lowering true n m c d sum is most few = at (c == lost) refl
   where
-    at : (lost : Bool) → (c == 255) ≡ lost → m ≤ d
-    at true e = let all : d ≡ 255 = is ∙ ap (λ b. cond b 255 (c - 1)) e in absurd (omega (arith, all, few))
+    at : (b : Bool) → (c == lost) ≡ b → m ≤ d
+    at true e = let all : d ≡ lost = is ∙ ap (λ b. cond b lost (c - 1)) e in absurd (omega (arith, all, few))
     at false e =
-        let less : d ≡ c - 1 = is ∙ ap (λ b. cond b 255 (c - 1)) e in
+        let less : d ≡ c - 1 = is ∙ ap (λ b. cond b lost (c - 1)) e in
         let held = most (grind (arith, nat_tests, e, less, few)) in
         omega (arith, less, held, sum)
 lowering false n m c d sum is most few = let held = most (omega (arith, is, few)) in omega (arith, sum, is, held)
@@ -89,16 +89,16 @@ both_more true k n e = grind (arith, nat_tests, e)
 both_more false k n e = grind (arith, nat_tests, e)
 
 -- a count is changed at its print alone
-changed : (f : ℕ → ℕ) (counts : List ℕ) (print k : ℕ) → f 255 ≡ 255 → count_of (slice_set counts print (f (count_of counts print))) k ≡ cond (k == print) (f (count_of counts k)) (count_of counts k)
-changed f [] print k lost = sym (at (k == print))
+changed : (f : ℕ → ℕ) (counts : List ℕ) (print k : ℕ) → f lost ≡ lost → count_of (slice_set counts print (f (count_of counts print))) k ≡ cond (k == print) (f (count_of counts k)) (count_of counts k)
+changed f [] print k ends = sym (at (k == print))
   where
-    at : (b : Bool) → cond b (f 255) 255 ≡ 255
-    at true = lost
+    at : (b : Bool) → cond b (f lost) lost ≡ lost
+    at true = ends
     at false = refl
-changed f (n ∷ counts) zero zero lost = refl
-changed f (n ∷ counts) zero (suc k) lost = ap (λ b. cond b (f (count_of counts k)) (count_of counts k)) (sym (some_not k))
-changed f (n ∷ counts) (suc print) zero lost = ap (λ b. cond b (f n) n) (sym (none_not print))
-changed f (n ∷ counts) (suc print) (suc k) lost = changed f counts print k lost ∙ ap (λ b. cond b (f (count_of counts k)) (count_of counts k)) (sym (both_more (k == print) k print refl))
+changed f (n ∷ counts) zero zero ends = refl
+changed f (n ∷ counts) zero (suc k) ends = ap (λ b. cond b (f (count_of counts k)) (count_of counts k)) (sym (some_not k))
+changed f (n ∷ counts) (suc print) zero ends = ap (λ b. cond b (f n) n) (sym (none_not print))
+changed f (n ∷ counts) (suc print) (suc k) ends = changed f counts print k ends ∙ ap (λ b. cond b (f (count_of counts k)) (count_of counts k)) (sym (both_more (k == print) k print refl))
 
 -- one more policy
 pub counted_more : (p : Policy) (ps qs : List Policy) (counts : List ℕ) → ((k : ℕ) → sum_by (has_print k) qs ≡ sum_by (has_print k) ps + has_print k p)

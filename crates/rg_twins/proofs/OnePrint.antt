@@ -1,106 +1,136 @@
 -- Maps that are the same have the same print.
-use Rattle.std.proofs.Common.{◌≡◌, ◌++◌, ◌*◌, ◌/◌, ◌%◌, ◌^◌, ◌⊎◌, ℕ, true, List, [], ◌∷◌, flat_map, bit_or, Contains, arith, refl, ap, sym, ◌∙◌, inl, inr}
-use Rattle.std.specs.Int.Bits.{or_self, or_step, or_zero_l, or_zero_r}
+use Rattle.std.proofs.Common.{◌≡◌, ◌++◌, ◌/◌, ◌^◌, ◌⊎◌, ℕ, zero, suc, true, List, [], ◌∷◌, flat_map, map, max, Contains, arith, refl, ap, sym, ◌∙◌, inl, inr}
 use Rattle.std.specs.List.{list_any}
 use Rattle.std.specs.Str.{bytes_eq}
-use Rattle.std.proofs.Math.Arith.{bin_ind}
 use Rattle.std.proofs.lemmas.Bool.{and_parts}
-use Rattle.std.proofs.lemmas.Nat.{or_comm, or_shr}
-use Rattle.rg_base.proofs.Lists.{Contains-cases, Contains-first, Contains-flat_map, Contains-flat_mapped, Contains-later, Contains-none, all_holds, among_holds, any_holds}
+use Rattle.std.proofs.lemmas.Slice.Eq.{bytes_eq-Decides}
+use Rattle.rg_base.proofs.Lists.{Contains-cases, Contains-first, Contains-flat_map, Contains-flat_mapped, Contains-later, Contains-map, Contains-mapped, Contains-none, Contains-same, all_holds, among_holds, any_holds}
 use Rattle.rg_base.specs.Texts.{is_among}
 use Rattle.rg_policy.specs.declared.policy.PolicyResource.{PolicyResource}
 use Rattle.rg_policy.specs.declared.policy.ResourceMap.{ResourceMap}
-use Rattle.rg_twins.specs.Prints.{print_of, spread, text_marks, with_levels, with_maps, with_texts}
+use Rattle.rg_twins.specs.Prints.{hash_from, marked, no_marks, print_of, raised_mark, with_levels, with_maps, with_texts}
 use Rattle.rg_twins.specs.Twins.{each_among, each_map_in, each_resource_in, has_map, same_flag, same_levels, same_maps, same_resource}
 
--- ---- bits
+-- ---- marks
 
-or_assoc : (c a b : ℕ) → bit_or (bit_or a b) c ≡ bit_or a (bit_or b c)
-or_assoc =
-    bin_ind (λ (c : ℕ). (a b : ℕ) → bit_or (bit_or a b) c ≡ bit_or a (bit_or b c)) (λ a b. or_zero_r (bit_or a b) ∙ sym (ap (bit_or a) (or_zero_r b)))
-    (λ c half a b.
-    let halves : bit_or (bit_or a b / 2) (c / 2) ≡ bit_or (a / 2) (bit_or b c / 2) = ap (λ x. bit_or x (c / 2)) (or_shr a b 1) ∙ half (a / 2) (b / 2) ∙ sym (ap (bit_or (a / 2)) (or_shr b c 1)) in
-    omega (arith, halves, or_step (bit_or a b) c, or_step a (bit_or b c), or_step a b, or_step b c))
+max_twice : (n h : ℕ) → max (max n h) h ≡ max n h
+max_twice n h = omega arith
 
--- ---- texts
+max_either : (n a b : ℕ) → max (max n a) b ≡ max (max n b) a
+max_either n a b = omega arith
 
-abbrev marks_in : List (List ℕ) → ℕ
-marks_in texts = with_texts 0 texts
+raised_twice : (marks : List ℕ) (place hash : ℕ) → raised_mark (raised_mark marks place hash) place hash ≡ raised_mark marks place hash
+raised_twice [] place hash = refl
+raised_twice (n ∷ marks) zero hash = ap (λ m. m ∷ marks) (max_twice n hash)
+raised_twice (n ∷ marks) (suc place) hash = ap (λ ms. n ∷ ms) (raised_twice marks place hash)
 
-joined : (marks : ℕ) (texts : List (List ℕ)) → with_texts marks texts ≡ bit_or marks (marks_in texts)
-joined marks [] = sym (or_zero_r marks)
-joined marks (t ∷ texts) =
-    let m = text_marks t in
-    joined (bit_or marks m) texts ∙ or_assoc (marks_in texts) marks m
-    ∙ sym (ap (bit_or marks) (ap (λ n. with_texts n texts) (or_zero_l m) ∙ joined m texts))
+either_first : (marks : List ℕ) (p q a b : ℕ) → raised_mark (raised_mark marks p a) q b ≡ raised_mark (raised_mark marks q b) p a
+either_first [] p q a b = refl
+either_first (n ∷ marks) zero zero a b = ap (λ m. m ∷ marks) (max_either n a b)
+either_first (n ∷ marks) zero (suc q) a b = refl
+either_first (n ∷ marks) (suc p) zero a b = refl
+either_first (n ∷ marks) (suc p) (suc q) a b = ap (λ ms. n ∷ ms) (either_first marks p q a b)
 
--- what is among the texts adds nothing
-one_added : (texts : List (List ℕ)) (t : List ℕ) → Contains texts t → bit_or (marks_in texts) (text_marks t) ≡ marks_in texts
-one_added [] t here = absurd (Contains-none t here)
-one_added (x ∷ texts) t here = at (Contains-cases x texts t here) (one_added texts t)
+marked_twice : (marks : List ℕ) (a : ℕ) → marked (marked marks a) a ≡ marked marks a
+unfolding marked
+marked_twice marks a = raised_twice marks (a / 2 ^ 55) a
+
+marked_both : (marks : List ℕ) (a b : ℕ) → marked (marked marks a) b ≡ marked (marked marks b) a
+unfolding marked
+marked_both marks a b = either_first marks (a / 2 ^ 55) (b / 2 ^ 55) a b
+
+-- ---- hashes
+
+abbrev with_hashes : List ℕ → List ℕ → List ℕ
+with_hashes marks [] = marks
+with_hashes marks (h ∷ hashes) = with_hashes (marked marks h) hashes
+
+both_hashes : (marks hashes others : List ℕ) → with_hashes (with_hashes marks hashes) others ≡ with_hashes marks (hashes ++ others)
+both_hashes marks [] others = refl
+both_hashes marks (h ∷ hashes) others = both_hashes (marked marks h) hashes others
+
+-- one more hash may come first
+one_first : (marks hashes : List ℕ) (h : ℕ) → marked (with_hashes marks hashes) h ≡ with_hashes (marked marks h) hashes
+one_first marks [] h = refl
+one_first marks (g ∷ hashes) h = one_first (marked marks g) hashes h ∙ ap (λ ms. with_hashes ms hashes) (marked_both marks g h)
+
+all_first : (marks hashes others : List ℕ) → with_hashes (with_hashes marks hashes) others ≡ with_hashes (with_hashes marks others) hashes
+all_first marks hashes [] = refl
+all_first marks hashes (h ∷ others) = ap (λ ms. with_hashes ms others) (one_first marks hashes h) ∙ all_first (marked marks h) hashes others
+
+-- what is among the hashes adds nothing
+one_added : (marks hashes : List ℕ) (h : ℕ) → Contains hashes h → marked (with_hashes marks hashes) h ≡ with_hashes marks hashes
+one_added marks [] h here = absurd (Contains-none h here)
+one_added marks (g ∷ hashes) h here = at (Contains-cases g hashes h here) (one_added (marked marks g) hashes h)
   where
-    whole : marks_in (x ∷ texts) ≡ bit_or (text_marks x) (marks_in texts)
-    whole = ap (λ n. with_texts n texts) (or_zero_l (text_marks x)) ∙ joined (text_marks x) texts
-
-    at : (x ≡ t) ⊎ Contains texts t → (Contains texts t → bit_or (marks_in texts) (text_marks t) ≡ marks_in texts) → bit_or (marks_in (x ∷ texts)) (text_marks t) ≡ marks_in (x ∷ texts)
+    at : (g ≡ h) ⊎ Contains hashes h → (Contains hashes h → marked (with_hashes (marked marks g) hashes) h ≡ with_hashes (marked marks g) hashes)
+        → marked (with_hashes (marked marks g) hashes) h ≡ with_hashes (marked marks g) hashes
     at (inl is) rest =
-        ap (λ n. bit_or n (text_marks t)) (whole ∙ or_comm (text_marks x) (marks_in texts)) ∙ or_assoc (text_marks t) (marks_in texts) (text_marks x)
-        ∙ ap (bit_or (marks_in texts)) (ap (λ y. bit_or (text_marks x) (text_marks y)) (sym is) ∙ or_self (text_marks x)) ∙ or_comm (marks_in texts) (text_marks x) ∙ sym whole
-    at (inr later) rest = ap (λ n. bit_or n (text_marks t)) whole ∙ or_assoc (text_marks t) (text_marks x) (marks_in texts) ∙ ap (bit_or (text_marks x)) (rest later) ∙ sym whole
+        one_first (marked marks g) hashes h
+        ∙ ap (λ x. with_hashes (marked (marked marks g) x) hashes) (sym is)
+        ∙ ap (λ ms. with_hashes ms hashes) (marked_twice marks g)
+    at (inr later) rest = rest later
 
-all_added : (texts others : List (List ℕ)) → ((t : List ℕ) → Contains others t → Contains texts t) → with_texts (marks_in texts) others ≡ marks_in texts
-all_added texts [] within = refl
-all_added texts (t ∷ others) within =
-    ap (λ n. with_texts n others) (one_added texts t (within t (Contains-first t others))) ∙ all_added texts others (λ x there. within x (Contains-later t others x there))
+all_added : (marks hashes others : List ℕ) → ((h : ℕ) → Contains others h → Contains hashes h) → with_hashes (with_hashes marks hashes) others ≡ with_hashes marks hashes
+all_added marks hashes [] within = refl
+all_added marks hashes (h ∷ others) within =
+    ap (λ ms. with_hashes ms others) (one_added marks hashes h (within h (Contains-first h others)))
+    ∙ all_added marks hashes others (λ x there. within x (Contains-later h others x there))
 
-one_set : (texts others : List (List ℕ)) → ((t : List ℕ) → Contains texts t → Contains others t) → ((t : List ℕ) → Contains others t → Contains texts t) → marks_in texts ≡ marks_in others
-one_set texts others forth back =
-    sym (all_added texts others back) ∙ joined (marks_in texts) others ∙ or_comm (marks_in texts) (marks_in others)
-    ∙ sym (joined (marks_in others) texts) ∙ all_added others texts forth
+one_set : (marks hashes others : List ℕ) → ((h : ℕ) → Contains hashes h → Contains others h) → ((h : ℕ) → Contains others h → Contains hashes h) → with_hashes marks hashes ≡ with_hashes marks others
+one_set marks hashes others forth back = sym (all_added marks hashes others back) ∙ all_first marks hashes others ∙ all_added marks others hashes forth
 
 -- ---- maps
 
-abbrev values_of : PolicyResource → List (List ℕ)
-values_of r = r.values.items
+abbrev hashes_of : PolicyResource → List ℕ
+hashes_of r = map (hash_from (hash_from 1 r.level)) r.values.items
 
-abbrev texts_in : ResourceMap → List (List ℕ)
-texts_in m = flat_map values_of m.levels.items
+abbrev hashes_in : ResourceMap → List ℕ
+hashes_in m = flat_map hashes_of m.levels.items
 
-abbrev texts_of : List ResourceMap → List (List ℕ)
-texts_of maps = flat_map texts_in maps
+texts_hashes : (seed : ℕ) (marks : List ℕ) (texts : List (List ℕ)) → with_texts seed marks texts ≡ with_hashes marks (map (hash_from seed) texts)
+texts_hashes seed marks [] = refl
+texts_hashes seed marks (t ∷ texts) = texts_hashes seed (marked marks (hash_from seed t)) texts
 
-both_texts : (marks : ℕ) (texts others : List (List ℕ)) → with_texts (with_texts marks texts) others ≡ with_texts marks (texts ++ others)
-both_texts marks [] others = refl
-both_texts marks (t ∷ texts) others = both_texts (bit_or marks (text_marks t)) texts others
+levels_hashes : (marks : List ℕ) (levels : List PolicyResource) → with_levels marks levels ≡ with_hashes marks (flat_map hashes_of levels)
+levels_hashes marks [] = refl
+levels_hashes marks (r ∷ levels) =
+    levels_hashes (with_texts (hash_from 1 r.level) marks r.values.items) levels
+    ∙ ap (λ ms. with_hashes ms (flat_map hashes_of levels)) (texts_hashes (hash_from 1 r.level) marks r.values.items)
+    ∙ both_hashes marks (hashes_of r) (flat_map hashes_of levels)
 
-levels_texts : (marks : ℕ) (levels : List PolicyResource) → with_levels marks levels ≡ with_texts marks (flat_map values_of levels)
-levels_texts marks [] = refl
-levels_texts marks (r ∷ levels) = levels_texts (with_texts marks r.values.items) levels ∙ both_texts marks r.values.items (flat_map values_of levels)
+maps_hashes : (marks : List ℕ) (maps : List ResourceMap) → with_maps marks maps ≡ with_hashes marks (flat_map hashes_in maps)
+maps_hashes marks [] = refl
+maps_hashes marks (m ∷ maps) =
+    maps_hashes (with_levels marks m.levels.items) maps
+    ∙ ap (λ ms. with_hashes ms (flat_map hashes_in maps)) (levels_hashes marks m.levels.items)
+    ∙ both_hashes marks (hashes_in m) (flat_map hashes_in maps)
 
-maps_texts : (marks : ℕ) (maps : List ResourceMap) → with_maps marks maps ≡ with_texts marks (texts_of maps)
-maps_texts marks [] = refl
-maps_texts marks (m ∷ maps) =
-    maps_texts (with_levels marks m.levels.items) maps ∙ ap (λ n. with_texts n (texts_of maps)) (levels_texts marks m.levels.items) ∙ both_texts marks (texts_in m) (texts_of maps)
-
-value_in : (r q : PolicyResource) (t : List ℕ) → same_resource r q ≡ true → Contains r.values.items t → Contains q.values.items t
-value_in r q t same here =
-    let texts = (and_parts (same_flag r.recursive q.recursive) _ (and_parts (same_flag r.excludes q.excludes) _ (and_parts (bytes_eq q.level r.level) _ same).1).1).1 in
+-- resources that are the same have one level, and each text of the one is one of the other
+hash_within : (r q : PolicyResource) (h : ℕ) → same_resource r q ≡ true → Contains (hashes_of r) h → Contains (hashes_of q) h
+hash_within r q h same here =
+    let flags = and_parts (bytes_eq q.level r.level) _ same in
+    let level : q.level ≡ r.level = (bytes_eq-Decides q.level r.level).0 flags.0 in
+    let texts = (and_parts (same_flag r.recursive q.recursive) _ (and_parts (same_flag r.excludes q.excludes) _ flags.1).1).1 in
     let forth = (and_parts (each_among r.values.items q.values.items) (each_among q.values.items r.values.items) texts).0 in
-    among_holds t q.values.items (all_holds (λ u. is_among u q.values.items) r.values.items forth t here)
+    let t = Contains-mapped (hash_from (hash_from 1 r.level)) r.values.items h here in
+    let there = among_holds t.0 q.values.items (all_holds (λ u. is_among u q.values.items) r.values.items forth t.0 t.1) in
+    let its : hash_from (hash_from 1 q.level) t.0 ≡ h = ap (λ l. hash_from (hash_from 1 l) t.0) level ∙ t.2 in
+    Contains-same (hashes_of q) (hash_from (hash_from 1 q.level) t.0) h its (Contains-map (hash_from (hash_from 1 q.level)) q.values.items t.0 there)
 
--- a text of the maps is one of the others
-text_in : (maps others : List ResourceMap) → each_map_in maps others ≡ true → (t : List ℕ) → Contains (texts_of maps) t → Contains (texts_of others) t
-text_in maps others each t here =
-    let m = Contains-flat_mapped texts_in maps t here in
-    let r = Contains-flat_mapped values_of m.0.levels.items t m.2 in
+-- a hash of the maps is one of the others'
+hash_in : (maps others : List ResourceMap) → each_map_in maps others ≡ true → (h : ℕ) → Contains (flat_map hashes_in maps) h → Contains (flat_map hashes_in others) h
+hash_in maps others each h here =
+    let m = Contains-flat_mapped hashes_in maps h here in
+    let r = Contains-flat_mapped hashes_of m.0.levels.items h m.2 in
     let n = any_holds (λ (o : ResourceMap). same_levels m.0.levels.items o.levels.items) others (all_holds (λ (o : ResourceMap). has_map others o.levels.items) maps each m.0 m.1) in
     let forth = (and_parts (each_resource_in m.0.levels.items n.0.levels.items) (each_resource_in n.0.levels.items m.0.levels.items) n.2).0 in
     let q = any_holds (same_resource r.0) n.0.levels.items (all_holds (λ s. list_any (same_resource s) n.0.levels.items) m.0.levels.items forth r.0 r.1) in
-    Contains-flat_map texts_in others n.0 t n.1 (Contains-flat_map values_of n.0.levels.items q.0 t q.1 (value_in r.0 q.0 t q.2 r.2))
+    Contains-flat_map hashes_in others n.0 h n.1 (Contains-flat_map hashes_of n.0.levels.items q.0 h q.1 (hash_within r.0 q.0 h q.2 r.2))
 
 pub one_print : (maps others : List ResourceMap) → same_maps maps others ≡ true → print_of maps ≡ print_of others
 unfolding print_of
 one_print maps others same =
     let both = and_parts (each_map_in maps others) (each_map_in others maps) same in
-    let marks = maps_texts 0 maps ∙ one_set (texts_of maps) (texts_of others) (text_in maps others both.0) (text_in others maps both.1) ∙ sym (maps_texts 0 others) in
-    ap (λ n. (n * spread) % 2 ^ 64 / 2 ^ 46) marks
+    let marks = maps_hashes no_marks maps ∙ one_set no_marks (flat_map hashes_in maps) (flat_map hashes_in others) (hash_in maps others both.0) (hash_in others maps both.1) ∙ sym (maps_hashes no_marks others) in
+    ap (λ (ms : List ℕ). hash_from 1 ms / 2 ^ 46) marks

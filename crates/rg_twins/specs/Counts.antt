@@ -1,19 +1,23 @@
 -- How many policies have each print, where that isn't lost.
-use Rattle.std.specs.Prelude.{ℕ, ◌≤◌, ◌<◌, ◌+◌, ◌-◌, ◌==◌, List, min, get_or, slice_set, if◌then◌else◌}
+use Rattle.std.specs.Prelude.{ℕ, ◌≤◌, ◌<◌, ◌+◌, ◌-◌, ◌==◌, ◌^◌, List, min, get_or, slice_set, if◌then◌else◌}
 use Rattle.std.specs.List.{sum_by}
 use Rattle.rg_policy.specs.Maps.{maps_of}
 use Rattle.rg_policy.specs.declared.policy.Policy.{Policy}
 use Rattle.rg_twins.specs.Prints.{print_of}
 
--- the count of the print; 255 where their number is lost
+-- what stands for a number that is lost
+abbrev pub lost : ℕ
+lost = 2 ^ 32 - 1
+
+-- the count of the print
 abbrev pub count_of : List ℕ → ℕ → ℕ
-count_of counts print = get_or counts print 255
+count_of counts print = get_or counts print lost
 
 abbrev pub raised : ℕ → ℕ
-raised n = min (n + 1) 255
+raised n = min (n + 1) lost
 
 abbrev pub lowered : ℕ → ℕ
-lowered n = if n == 255 then 255 else n - 1
+lowered n = if n == lost then lost else n - 1
 
 -- one more has the print
 abbrev pub raised_at : ℕ → List ℕ → List ℕ
@@ -29,4 +33,4 @@ has_print k p = if k == print_of (maps_of p) then 1 else 0
 
 -- no print has more policies than are counted, but where their number is lost
 unfoldable pub IsCounted : List ℕ → List Policy → Type 0
-IsCounted counts ps = (k : ℕ) → count_of counts k < 255 → sum_by (has_print k) ps ≤ count_of counts k
+IsCounted counts ps = (k : ℕ) → count_of counts k < lost → sum_by (has_print k) ps ≤ count_of counts k

@@ -1,5 +1,5 @@
 -- A number for what resource maps say, by which most maps that differ are told apart.
-use Rattle.std.specs.Prelude.{ℕ, ◌+◌, ◌*◌, ◌/◌, ◌%◌, ◌^◌, List, [], ◌∷◌, bit_or}
+use Rattle.std.specs.Prelude.{ℕ, ◌+◌, ◌*◌, ◌/◌, ◌%◌, ◌^◌, List, [], ◌∷◌, get_or, max, replicate, slice_set}
 use Rattle.rg_policy.specs.declared.policy.PolicyResource.{PolicyResource}
 use Rattle.rg_policy.specs.declared.policy.ResourceMap.{ResourceMap}
 
@@ -17,27 +17,32 @@ abbrev pub hash_from : ℕ → List ℕ → ℕ
 hash_from hash [] = hash
 hash_from hash (c ∷ text) = hash_from (mixed hash c) text
 
--- three of 64 bits, by the high bits of the hash
-abbrev pub marks_of : ℕ → ℕ
-marks_of hash = bit_or (2 ^ (hash / 2 ^ 58)) (bit_or (2 ^ (hash / 2 ^ 52 % 64)) (2 ^ (hash / 2 ^ 46 % 64)))
+-- ---- marks: for each of 512 places the highest hash of those that fall there, whatever their order and repeats
 
-unfoldable pub text_marks : List ℕ → ℕ
-text_marks text = marks_of (hash_from 1 text)
+unfoldable pub no_marks : List ℕ
+no_marks = replicate 512 0
 
--- ---- maps: the bits of all texts among their values, whatever their order and repeats
+abbrev pub raised_mark : List ℕ → ℕ → ℕ → List ℕ
+raised_mark marks place hash = slice_set marks place (max (get_or marks place 0) hash)
 
-abbrev pub with_texts : ℕ → List (List ℕ) → ℕ
-with_texts marks [] = marks
-with_texts marks (text ∷ texts) = with_texts (bit_or marks (text_marks text)) texts
+-- the place of a hash is its highest nine bits
+unfoldable pub marked : List ℕ → ℕ → List ℕ
+marked marks hash = raised_mark marks (hash / 2 ^ 55) hash
 
-abbrev pub with_levels : ℕ → List PolicyResource → ℕ
+-- ---- maps: the marks of all their values, each under the name of its level
+
+abbrev pub with_texts : ℕ → List ℕ → List (List ℕ) → List ℕ
+with_texts seed marks [] = marks
+with_texts seed marks (text ∷ texts) = with_texts seed (marked marks (hash_from seed text)) texts
+
+abbrev pub with_levels : List ℕ → List PolicyResource → List ℕ
 with_levels marks [] = marks
-with_levels marks (r ∷ levels) = with_levels (with_texts marks r.values.items) levels
+with_levels marks (r ∷ levels) = with_levels (with_texts (hash_from 1 r.level) marks r.values.items) levels
 
-abbrev pub with_maps : ℕ → List ResourceMap → ℕ
+abbrev pub with_maps : List ℕ → List ResourceMap → List ℕ
 with_maps marks [] = marks
 with_maps marks (m ∷ maps) = with_maps (with_levels marks m.levels.items) maps
 
 -- 18 bits, as many as there are counts
 unfoldable pub print_of : List ResourceMap → ℕ
-print_of maps = (with_maps 0 maps * spread) % 2 ^ 64 / 2 ^ 46
+print_of maps = hash_from 1 (with_maps no_marks maps) / 2 ^ 46

@@ -9,10 +9,13 @@ use std::marker::Model;
 /// As many as there are prints.
 const PRINTS: usize = 1 << 18;
 
-/// How many policies have each print, up to 254 of them; where there were more, their number is lost. They take 256 KiB.
+/// What stands for a number that is lost.
+const LOST: u32 = u32::MAX;
+
+/// How many policies have each print. They take 1 MiB. A count of 2^32 - 1, which no state reaches within memory, is lost.
 #[derive(Drop)]
 pub struct MapCounts {
-    counts: Vec<u8>,
+    counts: Vec<u32>,
 }
 
 impl Model for MapCounts {
@@ -23,18 +26,18 @@ impl Model for MapCounts {
     ghost view = { λ c. c.counts.items };
 }
 
-fn raised(count: u8) -> u8
+fn raised(count: u32) -> u32
     ensures { result ≡ raised count }
 {
     count.saturating_add(1)
 }
 
 /// A number that was lost stays so.
-fn lowered(count: u8) -> u8
+fn lowered(count: u32) -> u32
     ensures { result ≡ lowered count }
 {
-    if count == 255 {
-        255
+    if count == LOST {
+        LOST
     } else {
         count.saturating_sub(1)
     }
@@ -52,13 +55,13 @@ impl MapCounts {
         Ok(MapCounts { counts })
     }
 
-    /// How many have the print; 255 where their number is lost.
-    pub fn count_of(&self, print: usize) -> u8
+    /// How many have the print; 2^32 - 1 where their number is lost.
+    pub fn count_of(&self, print: usize) -> u32
         ensures { result ≡ count_of self.now print }
     {
         match self.counts.get(print) {
             Some(count) => *count,
-            None => 255,
+            None => LOST,
         }
     }
 

@@ -1,8 +1,8 @@
 // A number for what resource maps say.
-ghost use Rattle.std.specs.Prelude.{◌≡◌, ◌∷◌, []};
+ghost use Rattle.std.specs.Prelude.{◌≡◌, ◌/◌, ◌^◌, ◌∷◌, [], max};
 ghost use Rattle.std.specs.Str.{chars};
 ghost use Rattle.rg_policy.specs.Maps.{maps_of};
-ghost use Rattle.rg_twins.specs.Prints.{hash_from, marks_of, mixed, print_of, text_marks, with_levels, with_maps, with_texts};
+ghost use Rattle.rg_twins.specs.Prints.{hash_from, marked, mixed, no_marks, print_of, raised_mark, with_levels, with_maps, with_texts};
 
 use rg_base::{Seq, Text, split_char};
 use rg_policy::{Policy, PolicyResource, ResourceMap};
@@ -10,79 +10,108 @@ use rg_policy::{Policy, PolicyResource, ResourceMap};
 /// The golden ratio, by which a product's high bits depend on all bits of the factor.
 const SPREAD: u64 = 0x9E37_79B9_7F4A_7C15;
 
+/// As many as nine bits tell apart. Maps of fewer values mostly have each value's hash among the marks.
+const MARKS: usize = 512;
+
 /// The hash of a text to which the character is added.
-fn mixed(hash: u64, c: char) -> u64
+fn mixed(hash: u64, c: u64) -> u64
     ensures { result ≡ mixed hash c }
 {
-    hash.wrapping_add(c as u64).wrapping_mul(SPREAD)
+    hash.wrapping_add(c).wrapping_mul(SPREAD)
 }
 
-/// Three of 64 bits, by the high bits of the hash.
-fn marks_of(hash: u64) -> u64
-    ensures { result ≡ marks_of hash }
+/// The hash of the text behind what the first hash is of.
+fn hash_from(first: u64, text: &str) -> u64
+    ensures { result ≡ hash_from first (chars text.now) }
 {
-    (1 << (hash >> 58)) | ((1 << ((hash >> 52) % 64)) | (1 << ((hash >> 46) % 64)))
-}
-
-fn hash_of(text: &str) -> u64
-    ensures { result ≡ hash_from 1 (chars text.now) }
-{
-    let mut hash = 1;
+    let mut hash = first;
     let mut rest = text;
     'characters: while let Some((c, later)) = split_char(rest) {
-        hash = mixed(hash, c);
+        hash = mixed(hash, c as u64);
         rest = later;
     }
     hash
 }
 
-#[tactic(auto, unfolding(crate::specs::Prints::text_marks))]
-fn text_marks(text: &str) -> u64
-    ensures { result ≡ text_marks (chars text.now) }
+fn hash_of_marks(marks: &[u64]) -> u64
+    ensures { result ≡ hash_from 1 marks.now }
 {
-    marks_of(hash_of(text))
+    let mut hash = 1;
+    for mark in marks {
+        hash = mixed(hash, *mark);
+    }
+    hash
 }
 
-fn with_texts(before: u64, texts: &[Text]) -> u64
-    ensures { result ≡ with_texts before texts.now }
+fn higher(mark: u64, hash: u64) -> u64
+    ensures { result ≡ max mark hash }
 {
-    let mut marks = before;
+    if mark < hash { hash } else { mark }
+}
+
+#[tactic(auto, using(crate::proofs::Marks::set_behind))]
+fn raise_mark(marks: &mut [u64], place: usize, hash: u64)
+    ensures { marks.new ≡ raised_mark marks.old place hash }
+{
+    if place >= marks.len() {
+        return;
+    }
+    marks[place] = higher(marks[place], hash);
+}
+
+/// Takes the hash into its mark.
+#[tactic(auto, unfolding(crate::specs::Prints::marked))]
+fn take_hash(marks: &mut [u64], hash: u64)
+    ensures { marks.new ≡ marked marks.old hash }
+{
+    raise_mark(marks, (hash >> 55) as usize, hash);
+}
+
+fn take_texts(marks: &mut [u64], seed: u64, texts: &[Text])
+    ensures { marks.new ≡ with_texts seed marks.old texts.now }
+{
     for text in texts {
-        marks |= text_marks(text.as_str());
+        take_hash(marks, hash_from(seed, text.as_str()));
     }
-    marks
 }
 
-fn with_levels(before: u64, levels: &[PolicyResource]) -> u64
-    ensures { result ≡ with_levels before levels.now }
+fn take_levels(marks: &mut [u64], levels: &[PolicyResource])
+    ensures { marks.new ≡ with_levels marks.old levels.now }
 {
-    let mut marks = before;
     for resource in levels {
-        marks = with_texts(marks, resource.values.as_slice());
+        let seed = hash_from(1, resource.level.as_str());
+        take_texts(marks, seed, resource.values.as_slice());
     }
-    marks
 }
 
-fn with_maps(before: u64, maps: &[ResourceMap]) -> u64
-    ensures { result ≡ with_maps before maps.now }
+fn take_maps(marks: &mut [u64], maps: &[ResourceMap])
+    ensures { marks.new ≡ with_maps marks.old maps.now }
 {
-    let mut marks = before;
     for map in maps {
-        marks = with_levels(marks, map.levels.as_slice());
+        take_levels(marks, map.levels.as_slice());
     }
-    marks
+}
+
+/// The hash of all marks, begun without any.
+fn hash_of_maps(marks: &mut [u64], levels: &Seq<PolicyResource>, additional: &[ResourceMap]) -> u64
+    ensures { result ≡ hash_from 1 (with_maps marks.old (record { levels = levels.now } ∷ additional.now)) }
+{
+    take_levels(marks, levels.as_slice());
+    take_maps(marks, additional);
+    hash_of_marks(marks)
 }
 
 /// The print of one map and more.
-#[tactic(auto, unfolding(crate::specs::Prints::print_of))]
+#[tactic(auto, unfolding(crate::specs::Prints::print_of, crate::specs::Prints::no_marks))]
 fn print_of_maps(levels: &Seq<PolicyResource>, additional: &[ResourceMap]) -> usize
     ensures { result ≡ print_of (record { levels = levels.now } ∷ additional.now) }
 {
-    let marks = with_maps(with_levels(0, levels.as_slice()), additional);
-    (marks.wrapping_mul(SPREAD) >> 46) as usize
+    let mut marks = [0u64; MARKS];
+    (hash_of_maps(&mut marks, levels, additional) >> 46) as usize
 }
 
-/// The print of the policy's maps. Maps that are the same have the same print.
+/// The print of the policy's maps. Maps that are the same have the same print. The more values maps have in common, the more
+/// often maps that differ have it too: two lists of some hundred values that differ in one seldom do.
 pub fn print_of(policy: &Policy) -> usize
     ensures { result ≡ print_of (maps_of policy.now) }
 {

@@ -46,9 +46,12 @@ fn first_among(texts: &[Text], others: &[Text]) -> bool
 fn same_many_texts(alloc: Global, texts: &[Text], others: &[Text]) -> Result<bool, NoMemory>
     ensures { IfOk result (λ same. same ≡ same_texts texts.now others.now) }
 {
-    let names = NameIndex::build(alloc, texts)?;
     let other_names = NameIndex::build(alloc, others)?;
-    Ok(all_among(&other_names, texts) && all_among(&names, others))
+    if !all_among(&other_names, texts) {
+        return Ok(false);
+    }
+    let names = NameIndex::build(alloc, texts)?;
+    Ok(all_among(&names, others))
 }
 
 /// Whether the lists have the same texts. What differs in its first text takes no memory.

@@ -1,13 +1,14 @@
 -- Whether a role that is put goes in a circle.
-use Rattle.std.proofs.Common.{◌≡◌, ◌↔◌, ℕ, Bool, true, false, not, List, map, Option, Some, None, IsTrue, refl, sym, ap, ◌∙◌}
-use Rattle.std.specs.List.{list_any}
+use Rattle.std.proofs.Common.{arith, ◌≡◌, ◌↔◌, ◌⊎◌, ℕ, suc, Bool, true, false, not, List, [], ◌∷◌, length, ◌==◌, map, Option, Some, None, Contains, IsTrue, refl, sym, ap, ◌∙◌, subst, inl, inr}
+use Rattle.std.specs.List.{list_all, list_any}
 use Rattle.std.specs.Option.{is_none}
 use Rattle.std.specs.Str.{bytes_eq}
-use Rattle.std.proofs.lemmas.Bool.{false_from_ne_true, true≢false}
+use Rattle.std.proofs.lemmas.Bool.{and_parts, false_from_ne_true, true≢false}
+use Rattle.std.proofs.lemmas.Bool.Decides.{nat_tests}
 use Rattle.std.proofs.lemmas.Slice.Eq.{bytes_eq-Decides}
 use Rattle.rg_base.specs.Texts.{all_distinct, is_among}
-use Rattle.rg_base.proofs.Lists.{all_distinct-map, all_holds, among_holds, any_from, any_holds, list_any_agree}
-use Rattle.rg_roles.specs.Chains.{Leads, leads}
+use Rattle.rg_base.proofs.Lists.{Contains-cases, Contains-none, all_distinct-map, all_holds, among_holds, any_from, any_holds, list_any_agree}
+use Rattle.rg_roles.specs.Chains.{Leads, here, leads, there}
 use Rattle.rg_roles.specs.Faults.{AreSound, IsApart, IsPut, NamesThere, fault_of, have_own_names}
 use Rattle.rg_roles.specs.Members.{names_of, names_role}
 use Rattle.rg_roles.specs.declared.fault.RoleFault.{RoleFault}
@@ -53,6 +54,46 @@ module _ (rows : List RoleRow) (row : RoleRow) where
     names = put_names (is_role row.name) row (λ (r : RoleRow). r.name) alike rows;
   }
 
+-- ---- a role that names no other
+
+-- of rows with distinct names one has a name
+one_of_name : (xs : List RoleRow) → have_own_names xs ≡ true → (a b : RoleRow) → Contains xs a → Contains xs b → a.name ≡ b.name → a ≡ b
+one_of_name [] own a b in_a in_b e = absurd (Contains-none a in_a)
+one_of_name (x ∷ xs) own a b in_a in_b e = at (Contains-cases x xs a in_a) (Contains-cases x xs b in_b) (one_of_name xs parts.1 a b)
+  where
+    parts : (not (list_any (λ (r : RoleRow). bytes_eq r.name x.name) xs) ≡ true) × (have_own_names xs ≡ true)
+    parts = and_parts (not (list_any (λ (r : RoleRow). bytes_eq r.name x.name) xs)) (have_own_names xs) own
+
+    again : (r : RoleRow) → Contains xs r → r.name ≡ x.name → ⊥
+    again r later same = true≢false (sym parts.0 ∙ ap not (any_from (λ (r : RoleRow). bytes_eq r.name x.name) xs r later ((bytes_eq-Decides r.name x.name).1 same)))
+
+    at : (x ≡ a) ⊎ Contains xs a → (x ≡ b) ⊎ Contains xs b → (Contains xs a → Contains xs b → a.name ≡ b.name → a ≡ b) → a ≡ b
+    at (inl p) (inl q) rest = sym p ∙ q
+    at (inl p) (inr q) rest = absurd (again b q (sym e ∙ ap (λ (r : RoleRow). r.name) (sym p)))
+    at (inr p) (inl q) rest = absurd (again a p (e ∙ ap (λ (r : RoleRow). r.name) (sym q)))
+    at (inr p) (inr q) rest = rest p q e
+
+module _ (rows : List RoleRow) (row : RoleRow) (own : have_own_names rows ≡ true) (there_too : Contains rows row) (alone : row.roles.items ≡ []) where
+  -- no chain leads from it to a row that names it
+  leads_nowhere : (role : List ℕ) → role ≡ row.name → Leads rows (names_role row.name) role → ⊥
+  leads_nowhere role is (here _ found c same passes) =
+      let it : found ≡ row = one_of_name rows own found row c there_too (same ∙ is) in
+      let none : names_role row.name found ≡ false = ap (λ (r : RoleRow). is_among row.name r.roles.items) it ∙ ap (is_among row.name) alone in
+      true≢false (sym passes ∙ none)
+  leads_nowhere role is (there _ other found c same names rest) =
+      let it : found ≡ row = one_of_name rows own found row c there_too (same ∙ is) in
+      Contains-none other (subst (λ roles. Contains roles other) (ap (λ (r : RoleRow). r.roles.items) it ∙ alone) names)
+
+some_left : (n : ℕ) → (suc n == 0) ≡ false
+some_left n = grind (arith, nat_tests)
+
+pub none_there : {X : Type 0} (xs : List X) → (length xs == 0) ≡ true → xs ≡ []
+none_there [] h = refl
+none_there (x ∷ xs) h = absurd (true≢false (sym h ∙ some_left (length xs)))
+
+pub alone_exist : (s : State) (row : RoleRow) → row.roles.items ≡ [] → member_roles_exist s row ≡ true
+alone_exist s row alone = ap (list_all (λ name. is_among name (names_of (roles_with s row)))) alone
+
 none_of : {X : Type 0} (o : Option X) → is_none o ≡ true → o ≡ None
 none_of None h = refl
 none_of (Some x) h = absurd (true≢false (sym h))
@@ -87,3 +128,17 @@ module _ (decided : (rows : List RoleRow) (test : RoleRow → Bool) (role : List
       some : (o : Option RoleFault) → fault_of (roles_with s row) ≡ o → is_none (fault_of (roles_with s row)) ≡ false
       some None is = absurd (true≢false (sym e ∙ sound_apart (roles_with s row) is))
       some (Some f) is = ap is_none is
+
+  -- a role that names no other may be put, whatever the others are
+  pub alone_apart : (s : State) (row : RoleRow) → is_none (fault_of s.roles.items) ≡ true → row.roles.items ≡ [] → goes_in_no_circle s row ≡ true
+  alone_apart s row valid alone =
+      sym (circle_is s row valid (alone_exist s row alone))
+      ∙ ap is_none (may_be_put s.roles.items (new s.roles.items row) row none (is_put s.roles.items row own)
+      (λ role h. absurd (Contains-none role (subst (λ roles. Contains roles role) alone h)))
+      (leads_nowhere (new s.roles.items row) row (put_distinct s.roles.items row own) (put_has (is_role row.name) row s.roles.items) alone row.name refl))
+    where
+      none : fault_of s.roles.items ≡ None
+      none = none_of (fault_of s.roles.items) valid
+
+      own : have_own_names s.roles.items ≡ true
+      own = ((in_lists s.roles.items).0 none).distinct

@@ -1,10 +1,13 @@
 -- What a valid state says of the definitions of its services.
-use Rattle.std.proofs.Common.{◌≡◌, ℕ, Bool, true, false, List, Option, Some, None, refl, sym, ap, ◌∙◌}
-use Rattle.std.specs.List.{list_any, list_all}
+use Rattle.std.proofs.Common.{◌≡◌, ◌⊎◌, ℕ, Bool, true, false, not, cond, List, [], ◌∷◌, Option, Some, None, Contains, refl, sym, ap, ◌∙◌, inl, inr}
+use Rattle.std.specs.List.{find, list_any, list_all}
 use Rattle.std.specs.Option.{is_none, is_some, option_and_then}
+use Rattle.std.specs.Str.{bytes_eq}
 use Rattle.std.proofs.lemmas.Bool.{and_parts, false≢true}
 use Rattle.std.proofs.lemmas.Option.{none-some}
-use Rattle.rg_base.proofs.Lists.{all_holds, find_contained}
+use Rattle.std.proofs.lemmas.Slice.Eq.{bytes_eq-Decides}
+use Rattle.rg_base.proofs.Lists.{Contains-cases, Contains-none, all_holds, any_from, find_contained}
+use Rattle.rg_base.specs.Texts.{all_distinct}
 use Rattle.rg_defs.specs.Rules.{def_fault}
 use Rattle.rg_defs.specs.declared.service_def.ServiceDef.{ServiceDef}
 use Rattle.rg_cmd.specs.Lookups.{def_at, def_of, is_def, is_service, service_at}
@@ -21,6 +24,33 @@ none_of (Some x) h = absurd (false≢true h)
 some_of : {X : Type 0} (o : Option X) → is_some o ≡ true → (x : X) × (o ≡ Some x)
 some_of None h = absurd (false≢true h)
 some_of (Some x) h = (x, refl)
+
+-- of services with distinct names each is the first of its name
+found_itself : (rows : List ServiceRow) (row : ServiceRow) → all_distinct (λ (a b : ServiceRow). bytes_eq b.name a.name) rows ≡ true
+    → Contains rows row → find (is_service row.name) rows ≡ Some row
+found_itself [] row distinct here = absurd (Contains-none row here)
+found_itself (r ∷ rows) row distinct here = at (Contains-cases r rows row here) (found_itself rows row parts.1)
+  where
+    parts : (not (list_any (λ (b : ServiceRow). bytes_eq b.name r.name) rows) ≡ true) × (all_distinct (λ (a b : ServiceRow). bytes_eq b.name a.name) rows ≡ true)
+    parts = and_parts (not (list_any (λ (b : ServiceRow). bytes_eq b.name r.name) rows)) (all_distinct (λ (a b : ServiceRow). bytes_eq b.name a.name) rows) distinct
+
+    apart : Contains rows row → (b : Bool) → bytes_eq r.name row.name ≡ b → (Contains rows row → find (is_service row.name) rows ≡ Some row)
+        → cond b (Some r) (find (is_service row.name) rows) ≡ Some row
+    apart later false e rest = rest later
+    apart later true e rest =
+        let same : row.name ≡ r.name = sym ((bytes_eq-Decides r.name row.name).0 e) in
+        let twice = any_from (λ (b : ServiceRow). bytes_eq b.name r.name) rows row later ((bytes_eq-Decides row.name r.name).1 same) in
+        absurd (false≢true (sym (ap not twice) ∙ parts.0))
+
+    at : (r ≡ row) ⊎ Contains rows row → (Contains rows row → find (is_service row.name) rows ≡ Some row)
+        → cond (bytes_eq r.name row.name) (Some r) (find (is_service row.name) rows) ≡ Some row
+    at (inl is) rest =
+        ap (λ b. cond b (Some r) (find (is_service row.name) rows)) ((bytes_eq-Decides r.name row.name).1 (ap (λ (x : ServiceRow). x.name) is)) ∙ ap Some is
+    at (inr later) rest = apart later (bytes_eq r.name row.name) refl rest
+
+-- the definition of a service that is there is that of its row
+pub own_def : (s : State) (row : ServiceRow) → IsValid s → Contains s.services.items row → def_of s row.name ≡ def_at s row.def
+own_def s row valid here = ap (option_and_then (λ (r : ServiceRow). def_at s r.def)) (found_itself s.services.items row valid.service_names here)
 
 module _ (s : State) (name : List ℕ) where
   -- the definition is that of the service's row

@@ -5,6 +5,7 @@ ghost use Rattle.rg_twins.specs.Counts.{IsCounted};
 ghost use Rattle.rg_validate.specs.Definitions.{definition_rule, definition_rules};
 ghost use Rattle.rg_validate.specs.Failing.{first_failing};
 ghost use Rattle.rg_validate.specs.Rules.{command_rules};
+ghost use Rattle.rg_validate.specs.Steps.{member_role_rules};
 ghost use Rattle.rg_validate.specs.Valid.{IsValid};
 
 use crate::definitions::definition_suits;
@@ -27,6 +28,7 @@ use rg_cmd::{AdminCommand, Rule, ServiceRow, State};
 use rg_defs::{DefFault, ServiceDef, check_def};
 use rg_policy::Policy;
 use rg_roles::RoleRow;
+use rg_roles::laws::{leads_is_decided, row_may_be_put, sound_in_lists};
 use rg_tags::{TagRow, tags_fit};
 use rg_twins::MapCounts;
 use rg_zones::ZoneRow;
@@ -154,12 +156,20 @@ fn update_policy_fault(
     policy_fault(alloc, state, counts, Some(policy.id), policy, def)
 }
 
-fn put_role_fault(alloc: Global, state: &State, role: &RoleRow) -> Result<Option<Rule>, NoMemory>
+/// The first of O2 and O3 that fails. A role that names no other takes no memory: it goes in no circle, whatever the others are.
+fn member_roles_fault(
+    alloc: Global,
+    state: &State,
+    role: &RoleRow,
+) -> Result<Option<Rule>, NoMemory>
     requires valid { IsValid state.now }
-    ensures { IfOk result (λ fault. fault ≡ first_failing (command_rules state.now (PutRole role.now))) }
+    ensures { IfOk result (λ fault. fault ≡ first_failing (member_role_rules state.now role.now)) }
 {
-    if !is_name(role.name.as_str()) {
-        return Ok(Some(Rule::O1));
+    leads_is_decided();
+    row_may_be_put();
+    sound_in_lists();
+    if role.roles.is_empty() {
+        return Ok(None);
     }
     let rows = roles_with(alloc, state, role)?;
     if !member_roles_exist(alloc, rows.as_slice(), role)? {
@@ -169,6 +179,16 @@ fn put_role_fault(alloc: Global, state: &State, role: &RoleRow) -> Result<Option
         return Ok(Some(Rule::O3));
     }
     Ok(None)
+}
+
+fn put_role_fault(alloc: Global, state: &State, role: &RoleRow) -> Result<Option<Rule>, NoMemory>
+    requires valid { IsValid state.now }
+    ensures { IfOk result (λ fault. fault ≡ first_failing (command_rules state.now (PutRole role.now))) }
+{
+    if !is_name(role.name.as_str()) {
+        return Ok(Some(Rule::O1));
+    }
+    member_roles_fault(alloc, state, role)
 }
 
 fn delete_role_fault(state: &State, name: &Text) -> Option<Rule>

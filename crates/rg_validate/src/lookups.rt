@@ -22,7 +22,8 @@ pub(crate) fn service_at<'a>(state: &'a State, name: &Text) -> Option<&'a Servic
     find_named(state.services.as_slice(), name.as_str())
 }
 
-fn def_at<'a>(state: &'a State, name: &Text) -> Option<&'a ServiceDef>
+/// The definition of this name.
+pub(crate) fn def_at<'a>(state: &'a State, name: &Text) -> Option<&'a ServiceDef>
     ensures { option_map (λ d. d.now) result ≡ def_at state.now name.now }
 {
     find_named(state.defs.as_slice(), name.as_str())

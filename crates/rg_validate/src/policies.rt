@@ -83,14 +83,14 @@ pub fn policy_schedules_read(
     }
 }
 
-fn has_print(print: usize, policy: &Policy) -> u8
+fn has_print(print: usize, policy: &Policy) -> u32
     ensures { result ≡ has_print print policy.now }
 {
     if print == print_of(policy) { 1 } else { 0 }
 }
 
 /// How many of those with the print the old form is.
-fn own_count(old: Option<&Policy>, print: usize) -> u8
+fn own_count(old: Option<&Policy>, print: usize) -> u32
     ensures { result ≡ own_count (option_map (λ p. p.now) old.entry) print }
 {
     match old {

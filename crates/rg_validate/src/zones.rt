@@ -1,5 +1,5 @@
 // The rules of zones.
-ghost use Rattle.std.specs.Prelude.{◌≡◌, ◌&&◌, ◌||◌, IfOk, None, Some, filter, is_none, map, not, true};
+ghost use Rattle.std.specs.Prelude.{◌≡◌, ◌&&◌, ◌||◌, Contains, IfOk, None, Some, filter, is_none, map, not, true};
 ghost use Rattle.std.specs.List.{list_all, list_any};
 ghost use Rattle.std.specs.Str.{bytes_eq};
 ghost use Rattle.rg_base.specs.Texts.{all_distinct};
@@ -8,6 +8,7 @@ ghost use Rattle.rg_policy.specs.declared.policy.Policy.{Policy};
 ghost use Rattle.rg_zones.specs.Overlap.{first_overlap};
 ghost use Rattle.rg_zones.specs.Rules.{all_maps_fit, entry_levels_fit, entry_values_fit, maps_fit};
 ghost use Rattle.rg_zones.specs.declared.row.ZoneRow.{ZoneRow};
+ghost use Rattle.rg_zones.specs.declared.row.ZoneService.{ZoneService};
 ghost use Rattle.rg_cmd.specs.Lists.{put};
 ghost use Rattle.rg_cmd.specs.Lookups.{def_of, is_zone};
 ghost use Rattle.rg_validate.specs.Definitions.{under};
@@ -15,9 +16,9 @@ ghost use Rattle.rg_validate.specs.Valid.{IsValid, definition_valid};
 ghost use Rattle.rg_validate.specs.Zones.{are_apart_for, plain_services, tag_services, zone_is_apart, zone_is_unused, zone_keeps, zone_keeps_policies, zone_levels_suit, zone_services_fit, zone_subjects_exist, zone_values_suit, zones_with};
 
 use crate::definitions::names_with;
-use crate::lookups::{def_of, is_tag, is_tag_service};
+use crate::lookups::{def_at, def_of, is_tag, is_tag_service};
 use rg_base::{NameIndex, NoMemory, Text, TryCopy, place_named, same_text};
-use rg_cmd::State;
+use rg_cmd::{ServiceRow, State};
 use rg_defs::{Paths, ServiceDef, tag_name};
 use rg_policy::Policy;
 use rg_zones::{
@@ -145,26 +146,46 @@ fn is_apart_for(
     alloc: Global,
     state: &State,
     zone: &ZoneRow,
-    service: &Text,
+    row: &ServiceRow,
 ) -> Result<bool, NoMemory>
     requires valid { IsValid state.now }
     requires levels { zone_levels_suit state.now zone.now ≡ true }
     requires values { zone_values_suit zone.now ≡ true }
-    ensures { IfOk result (λ apart. apart ≡ are_apart_for state.now (zones_with state.now zone.now) service.now) }
+    requires row { Contains state.now.services.items row.now }
+    ensures { IfOk result (λ apart. apart ≡ are_apart_for state.now (zones_with state.now zone.now) row.now.name) }
+{
+    let Some(def) = def_at(state, &row.def) else {
+        return Ok(false);
+    };
+    stays_apart(alloc, state.zones.as_slice(), zone, &row.name, def)
+}
+
+/// The same, where these are the names of the services that the zone lists: it overlaps no other for one that it doesn't
+/// list, and nothing is looked up for that.
+fn is_apart_where_listed(
+    alloc: Global,
+    state: &State,
+    zone: &ZoneRow,
+    listed: &NameIndex,
+    row: &ServiceRow,
+) -> Result<bool, NoMemory>
+    requires valid { IsValid state.now }
+    requires levels { zone_levels_suit state.now zone.now ≡ true }
+    requires values { zone_values_suit zone.now ≡ true }
+    requires listed { listed.now ≡ map (λ (e : ZoneService). e.service) zone.now.services.items }
+    requires row { Contains state.now.services.items row.now }
+    ensures { IfOk result (λ apart. apart ≡ are_apart_for state.now (zones_with state.now zone.now) row.now.name) }
 {
     zone_overlap_is_symmetric();
     zones_apart_by_pairs();
-    let Some(def) = def_of(state, service) else {
-        return Ok(false);
-    };
-    if !lists_service(false, service.as_str(), zone) {
+    if !listed.contains(row.name.as_str()) {
         return Ok(true);
     }
-    stays_apart(alloc, state.zones.as_slice(), zone, service, def)
+    is_apart_for(alloc, state, zone, row)
 }
 
 /// Whether no two zones overlap for any service, with this one in its place (rule Z6). The zone is compared with each
-/// of the others once for each service that it lists.
+/// of the others once for each service that it lists. It takes memory for the names of these.
 #[tactic(auto, unfolding(crate::specs::Zones::are_apart))]
 pub fn zone_is_apart(alloc: Global, state: &State, zone: &ZoneRow) -> Result<bool, NoMemory>
     requires valid { IsValid state.now }
@@ -172,8 +193,9 @@ pub fn zone_is_apart(alloc: Global, state: &State, zone: &ZoneRow) -> Result<boo
     requires values { zone_values_suit zone.now ≡ true }
     ensures { IfOk result (λ apart. apart ≡ zone_is_apart state.now zone.now) }
 {
+    let listed = NameIndex::build(alloc, zone.services.as_slice())?;
     for service in state.services.as_slice() {
-        if !is_apart_for(alloc, state, zone, &service.name)? {
+        if !is_apart_where_listed(alloc, state, zone, &listed, service)? {
             return Ok(false);
         }
     }

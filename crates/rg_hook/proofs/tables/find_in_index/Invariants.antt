@@ -1,7 +1,7 @@
 use Rattle.std.proofs.Common.{◌≡◌, drop}
 use Rattle.std.specs.List.{find}
 use Rattle.rg_base.specs.Texts.{is_among}
-use Rattle.rg_hook.proofs.tables.find_group.Given as goal
+use Rattle.rg_hook.proofs.tables.find_in_index.Given as goal
 
 -- what is found is found in the rest
 abbrev pub invariant-loop-row : goal.invariant-loop-row
