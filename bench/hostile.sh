@@ -1,7 +1,9 @@
 #!/usr/bin/env bash
-# One facts line of at most 1 MiB may not hold the program: times the lines that cost each rule of soundness most.
+# One line of at most 1 MiB may not hold the program: times facts lines that cost each rule of soundness most, and
+# administrations with one or two such lines, or of an everyday size, and commands after them.
 # usage: bench/hostile.sh [CASE]..      (all where none is given)
-# Prints for each line its size, the exit status, the seconds that it took and the peak of resident memory.
+# Prints for each script its size, its lines, the exit status, the seconds of a processor that it took and the peak of
+# resident memory.
 set -eu
 cd "$(dirname "$0")/.."
 bin/rangerd replay </dev/null
@@ -82,30 +84,89 @@ LINES = {
 }
 
 
-for number, (name, record) in enumerate(LINES.items()):
-    line = compact(record).encode()
+# ---- administrations
+
+def config(definitions=[DEFINITION], services=[{"name": "s", "type": "d"}], users=()):
+    return b"config " + compact({"admins": ["root"], "plugin": services[0]["name"], "serviceDefs": definitions,
+                                 "services": services, "users": users}).encode()
+
+
+def asked(command, actor="root", **fields):
+    return b"admin " + actor.encode() + b" " + compact({"command": command, **fields}).encode()
+
+
+def administered(name, values, service="s", items=(), **more):
+    return asked("createPolicy", policy={"service": service, "name": name, "resources": at(*values), "policyItems": list(items), **more})
+
+
+def created(count, first=0, values=1, delegate=None):
+    """Each policy has values of its own."""
+    items = [{"users": [delegate], "accesses": SELECT, "delegateAdmin": True}] if delegate else []
+    return [administered("p%d" % n, ["v%d.%d" % (n, m) for m in range(values)], items=items) for n in range(first, first + count)]
+
+
+def zone(name, services, **more):
+    return asked("putZone", zone={"name": name, "services": {s: {"resources": [{"l": ["z" + name]}]} for s in services}, **more})
+
+
+TAG = {"name": "tag", "resources": [{"name": "tag"}], "accessTypes": [{"name": "d:a"}]}
+TAGGED = [DEFINITION, TAG]
+many = lambda count, **more: [{"name": "s%d" % n, "type": "d", **more} for n in range(count)]
+TAG_POLICY = asked("createPolicy", policy={"service": "t", "name": "p", "resources": {"tag": {"values": numbered("v", 2000)}}})
+LISTED = [asked("listPolicies", service="s")]
+
+SCRIPTS = {
+    "36,000 services": [config(services=many(36000))],
+    "36,000 services, then 20 policies": [config(services=many(36000))] + [administered("p%d" % n, ["v%d" % n], "s%d" % n) for n in range(20)],
+    "36,000 services, then a policy changed 20 times": [config(services=many(36000)), administered("p", ["v"], "s35999")]
+    + [asked("updatePolicy", policy={"id": 1, "service": "s35999", "name": "p", "resources": at("w%d" % n)}) for n in range(20)],
+    "36,000 services, then ten zones of one": [config(services=many(36000))] + [zone("z%d" % n, ["s%d" % n]) for n in range(10)],
+    "58,000 users": [config(users=named("u", 58000))],
+    "58,000 users, each name twice": [config(users=named("u", 29000) * 2)],
+    "13,000 definitions of 2,000 names": [config(definitions=[DEFINITION] + [{**DEFINITION, "name": "d%d" % (n % 2000)} for n in range(13000)])],
+    "5,000 roles, one by one": [config()] + [asked("putRole", role={"name": "r%d" % n, "users": ["u%d" % n]}) for n in range(5000)],
+    "1,000 policies, then 20 more": [config()] + created(1000) + created(20, 1000),
+    "10,000 policies, then 20 more": [config()] + created(10000) + created(20, 10000),
+    "100,000 policies, then 20 more": [config()] + created(100000) + created(20, 100000),
+    "20,000 policies": [config()] + created(20000),
+    "20,000 policies, then listed five times": [config()] + created(20000) + LISTED * 5,
+    "2,000 policies of 200 values": [config()] + created(2000, values=200),
+    "a user and a zone of 115,000 groups, then a policy": [config(), asked("putUser", user={"name": "u", "groups": numbered("g", 115000)}),
+        zone("z", ["s"], adminUserGroups=numbered("h", 115000)), administered("p", ["zz"], zoneName="z"), asked("getPolicy", actor="u", id=1)],
+    "two zones of 20,000 services": [config(services=many(20000)), zone("a", numbered("s", 20000)), zone("b", numbered("s", 20000))],
+    "12,000 services that share a tag policy": [config(TAGGED, many(12000, tagService="t") + [{"name": "t", "type": "tag"}]), TAG_POLICY],
+    "5,000 delegating policies, listed by the delegate": [config()] + created(5000, delegate="dan") + [asked("listPolicies", actor="dan", service="s")],
+    "one policy of 60,000 values over one of 60,000": [config(), *created(1, values=60000, delegate="dan"),
+        asked("createPolicy", actor="dan", policy={"service": "s", "name": "q", "resources": at(*("v0.%d" % n for n in range(59999)))})],
+}
+
+
+cases = [(name, [b"facts " + compact(record).encode()]) for name, record in LINES.items()] + list(SCRIPTS.items())
+for number, (name, lines) in enumerate(cases):
     if wanted and not any(word in name for word in wanted):
         continue
-    if len(line) + 6 > 1048576:
-        sys.exit("%s: %d bytes are too long for a line" % (name, len(line)))
+    for line in lines:
+        if len(line) > 1048576:
+            sys.exit("%s: %d bytes are too long for a line" % (name, len(line)))
     with open("%s/%02d %s" % (folder, number, name), "wb") as script:
-        script.write(b"facts " + line + b"\n")
+        script.write(b"\n".join(lines) + b"\n")
 P
 
 # in a process of its own, since a process that is forked counts the memory of the one that made it
 python3 - crates/rangerd/out/rangerd "$folder" <<'P'
-import os, sys, time
+import os, sys
 
 program, folder = sys.argv[1:]
 for name in sorted(os.listdir(folder)):
     path = os.path.join(folder, name)
-    start, child = time.time(), os.fork()
+    child = os.fork()
     if child == 0:
         os.dup2(os.open(path, os.O_RDONLY), 0)
         os.dup2(os.open(os.devnull, os.O_WRONLY), 1)
         os.execv(program, [program, "replay"])
     _, status, used = os.wait4(child, 0)
-    took = time.time() - start
-    print("%-45s %8d bytes  status %d  %5.2f s  %4d MiB" % (
-        name[3:], os.path.getsize(path), os.waitstatus_to_exitcode(status), took, used.ru_maxrss / 1024), flush=True)
+    with open(path, "rb") as script:
+        lines = sum(1 for _ in script)
+    print("%-50s %8d bytes %6d lines  status %d  %5.2f s  %4d MiB" % (name[3:], os.path.getsize(path), lines,
+          os.waitstatus_to_exitcode(status), used.ru_utime + used.ru_stime, used.ru_maxrss / 1024), flush=True)
 P

@@ -1,5 +1,5 @@
 -- For proofs alone: lists of which at most one item passes a test, changed at the first place of one that does.
-use Rattle.std.proofs.Common.{◌≡◌, ◌+◌, ◌∷◌, ◌++◌, ◌||◌, ℕ, ℤ, suc, Bool, true, false, not, cond, List, [], Option, Some, None, option_map, map, position, slice_get, refl, ap, sym, ◌∙◌, arith}
+use Rattle.std.proofs.Common.{◌≡◌, ◌+◌, ◌∷◌, ◌++◌, ◌||◌, ℕ, ℤ, zero, suc, Bool, true, false, not, cond, List, [], Option, Some, None, option_map, map, position, slice_get, refl, ap, sym, ◌∙◌, arith}
 use Rattle.std.specs.List.{find, list_any, position_from}
 use Rattle.std.specs.Option.{option_and_then}
 use Rattle.std.specs.Ordering.{int_eq}
@@ -8,11 +8,12 @@ use Rattle.std.proofs.lemmas.Bool.{and_parts, false≢true}
 use Rattle.std.proofs.lemmas.Bool.Decides.{Decides-int_eq}
 use Rattle.std.proofs.lemmas.Iterator.Adapters.{position_from-zero}
 use Rattle.std.proofs.lemmas.Slice.Eq.{bytes_eq-Decides}
-use Rattle.rg_base.proofs.Lists.{any_from, any_holds}
+use Rattle.std.proofs.lemmas.Option.{none-some, same_Some}
+use Rattle.rg_base.proofs.Lists.{Contains-slice_get, any_from, any_holds}
 use Rattle.rg_base.specs.Texts.{all_distinct}
 use Rattle.rg_admin.specs.InPlace.{put_at, without_at}
 use Rattle.rg_cmd.specs.Lists.{put, without}
-use Rattle.rg_machine.proofs.Lists.{case, not_true, or_false}
+use Rattle.rg_machine.proofs.Lists.{case, none_passes, not_true, or_false}
 
 -- the first place, by recursion
 abbrev place_of : {X : Type 0} → (X → Bool) → List X → Option ℕ
@@ -95,6 +96,17 @@ module _ {X : Type 0} (alike : X → X → Bool) (same : X → Bool) (shared : (
       (λ _ _. ap (λ zs. y ∷ zs) (without_there ys both.1) ∙ taken_later y ys (place_of same ys))
       refl
 
+  -- an item that passes is the one that is found, wherever it stands
+  pub found_here : (xs : List X) (i : ℕ) (x : X) → all_distinct alike xs ≡ true → slice_get xs i ≡ Some x → same x ≡ true → find same xs ≡ Some x
+  found_here [] i x h there is = absurd (none-some x there)
+  found_here (y ∷ ys) zero x h there is = ap (λ b. cond b (Some y) (find same ys)) (ap same (same_Some y x there) ∙ is) ∙ there
+  found_here (y ∷ ys) (suc i) x h there is =
+      let both = and_parts (not (list_any (alike y) ys)) (all_distinct alike ys) h in
+      case (λ b. same y ≡ b → cond b (Some y) (find same ys) ≡ Some x) (same y)
+      (λ _ now. absurd (false≢true (sym (none_passes same ys (none_after y ys now both.0) x (Contains-slice_get ys i x there)) ∙ is)))
+      (λ _ _. found_here ys i x both.1 there is)
+      refl
+
   pub put_first : (x : X) (xs : List X) → all_distinct alike xs ≡ true → put same x xs ≡ put_at (position same xs) x xs
   put_first x xs h = put_there x xs h ∙ ap (λ o. put_at o x xs) (sym (place_is same xs))
 
@@ -114,6 +126,10 @@ module _ {X : Type 0} (named : X → List ℕ) (name : List ℕ) where
   pub without_by_name : (xs : List X) → all_distinct (λ a b. bytes_eq (named b) (named a)) xs ≡ true
       → without (λ y. bytes_eq (named y) name) xs ≡ without_at (position (λ y. bytes_eq (named y) name) xs) xs
   without_by_name = without_first (λ a b. bytes_eq (named b) (named a)) (λ y. bytes_eq (named y) name) shared_name
+
+  pub found_by_name : (xs : List X) (i : ℕ) (x : X) → all_distinct (λ a b. bytes_eq (named b) (named a)) xs ≡ true → slice_get xs i ≡ Some x → bytes_eq (named x) name ≡ true
+      → find (λ y. bytes_eq (named y) name) xs ≡ Some x
+  found_by_name = found_here (λ a b. bytes_eq (named b) (named a)) (λ y. bytes_eq (named y) name) shared_name
 
 -- ---- ids
 

@@ -1,5 +1,6 @@
 pub mod Counted
 pub mod Firsts
+pub mod Looking
 pub mod Placing
 pub mod Putting
 pub mod Reaching

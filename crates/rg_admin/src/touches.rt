@@ -1,16 +1,18 @@
 // What an accepted command does to the logs of a service.
-ghost use Rattle.std.specs.Prelude.{◌≡◌, IfOk};
-ghost use Rattle.rg_cmd.specs.Lookups.{policy_at, tag_row_at, tag_service_of};
+ghost use Rattle.std.specs.Prelude.{◌≡◌, IfOk, option_and_then, option_map};
+ghost use Rattle.rg_cmd.specs.Lookups.{service_at, tag_service_in};
 ghost use Rattle.rg_cmd.specs.declared.changes.LogEntry.TheVariants.{Policy as OfPolicy};
 ghost use Rattle.rg_delta.specs.declared.touch.Touch.TheVariants.{Notes};
 ghost use Rattle.rg_machine.specs.Changes.{stored_row, version_after};
-ghost use Rattle.rg_machine.specs.Touches.{policy_touch, restarts_if, row_touch_of, row_touch_of_old, tag_touch, touch_of, touch_of_old};
+ghost use Rattle.rg_machine.specs.Touches.{policy_touch, put_type, restarts_if, row_touch_of, row_touch_of_old, tag_touch, touch_of, touch_of_old};
+ghost use Rattle.rg_validate.specs.Valid.{IsValid};
+ghost use Rattle.rg_admin.specs.Planning.{policy_named, tag_row_named};
 
-use crate::lookups::{
-    has_def, has_tag_service, policy_at, tag_row_at, tag_service_has_def, tag_service_of,
-};
+use crate::lookups::{has_tag_service, uses_def};
 use rg_base::{NoMemory, PolicyId, Text, TryCopy, Version, same_text};
-use rg_cmd::{AdminCommand, CREATED, DELETED, LogEntry, PolicyChange, State, TagChange, UPDATED};
+use rg_cmd::{
+    AdminCommand, CREATED, DELETED, LogEntry, PolicyChange, ServiceRow, State, TagChange, UPDATED,
+};
 use rg_delta::Touch;
 use rg_policy::Policy;
 use rg_tags::TagRow;
@@ -38,32 +40,32 @@ fn noted(
     })))
 }
 
-/// What a change of the policy, with this id and version, does to the policy log of the service.
+/// What a change of the policy, with this id and version, does to the policy log of the service of this row.
 fn touch_of(
     alloc: Global,
     change_type: u8,
     policy: &Policy,
     id: PolicyId,
     version: Version,
-    state: &State,
+    row: Option<&ServiceRow>,
     service: &Text,
 ) -> Result<Touch<LogEntry>, NoMemory>
-    ensures { IfOk result (λ t. t ≡ touch_of change_type (record policy.now { id = id; version = version }) service.now (tag_service_of state.now service.now)) }
+    ensures { IfOk result (λ t. t ≡ touch_of change_type (record policy.now { id = id; version = version }) service.now (option_and_then tag_service_in (option_map (λ r. r.now) row.entry))) }
 {
     if same_text(policy.service.as_str(), service.as_str()) {
         return noted(alloc, change_type, false, policy, id, version);
     }
-    if has_tag_service(state, &policy.service, service) {
+    if has_tag_service(row, &policy.service) {
         return noted(alloc, change_type, true, policy, id, version);
     }
     Ok(Touch::Leaves)
 }
 
-/// One version more than that of the policy of this id.
-pub(crate) fn version_after(state: &State, id: PolicyId) -> Version
-    ensures { result ≡ version_after (policy_at state.now id.0) }
+/// One version more than that of the policy.
+pub(crate) fn version_after(prior: Option<&Policy>) -> Version
+    ensures { result ≡ version_after (option_map (λ p. p.now) prior.entry) }
 {
-    match policy_at(state, id) {
+    match prior {
         Some(old) => Version(old.version.0.saturating_add(1)),
         None => Version(1),
     }
@@ -71,14 +73,14 @@ pub(crate) fn version_after(state: &State, id: PolicyId) -> Version
 
 fn touch_of_old(
     alloc: Global,
-    state: &State,
-    id: PolicyId,
+    prior: Option<&Policy>,
+    row: Option<&ServiceRow>,
     service: &Text,
 ) -> Result<Touch<LogEntry>, NoMemory>
-    ensures { IfOk result (λ t. t ≡ touch_of_old (policy_at state.now id.0) service.now (tag_service_of state.now service.now)) }
+    ensures { IfOk result (λ t. t ≡ touch_of_old (option_map (λ p. p.now) prior.entry) service.now (option_and_then tag_service_in (option_map (λ r. r.now) row.entry))) }
 {
-    match policy_at(state, id) {
-        Some(old) => touch_of(alloc, DELETED, old, old.id, old.version, state, service),
+    match prior {
+        Some(old) => touch_of(alloc, DELETED, old, old.id, old.version, row, service),
         None => Ok(Touch::Leaves),
     }
 }
@@ -93,32 +95,36 @@ fn restarts_if<C>(restarts: bool) -> Touch<C>
     }
 }
 
-/// What the command, once accepted, does to the policy log of the service.
+/// What the command, once accepted, does to the policy log of the service. The policy that it names and the service's row
+/// are given, so that neither is looked up for each log.
 pub(crate) fn policy_touch(
     alloc: Global,
     state: &State,
     command: &AdminCommand,
+    prior: Option<&Policy>,
+    row: Option<&ServiceRow>,
     service: &Text,
 ) -> Result<Touch<LogEntry>, NoMemory>
+    requires valid { IsValid state.now }
+    requires named { option_map (λ p. p.now) prior ≡ policy_named state.now command.now }
+    requires service { option_map (λ r. r.now) row ≡ service_at state.now service.now }
     ensures { IfOk result (λ t. t ≡ policy_touch state.now command.now service.now) }
 {
     match command {
-        AdminCommand::PutDef { def } => Ok(restarts_if(
-            has_def(state, &def.name, service) || tag_service_has_def(state, &def.name, service),
-        )),
-        AdminCommand::UpdateService { service: row } => Ok(restarts_if(
-            same_text(row.name.as_str(), service.as_str())
-                || has_tag_service(state, &row.name, service),
+        AdminCommand::PutDef { def } => Ok(restarts_if(uses_def(row, &def.name))),
+        AdminCommand::UpdateService { service: changed } => Ok(restarts_if(
+            same_text(changed.name.as_str(), service.as_str())
+                || has_tag_service(row, &changed.name),
         )),
         AdminCommand::CreatePolicy { policy } => {
             let id = PolicyId(state.next_id);
-            touch_of(alloc, CREATED, policy, id, Version(1), state, service)
+            touch_of(alloc, CREATED, policy, id, Version(1), row, service)
         }
         AdminCommand::UpdatePolicy { policy } => {
-            let version = version_after(state, policy.id);
-            touch_of(alloc, UPDATED, policy, policy.id, version, state, service)
+            let version = version_after(prior);
+            touch_of(alloc, UPDATED, policy, policy.id, version, row, service)
         }
-        AdminCommand::DeletePolicy { id } => touch_of_old(alloc, state, *id, service),
+        AdminCommand::DeletePolicy { id: _ } => touch_of_old(alloc, prior, row, service),
         AdminCommand::PutZone { .. } | AdminCommand::DeleteZone { .. } => {
             Ok(Touch::Notes(LogEntry::Zones))
         }
@@ -146,37 +152,58 @@ fn row_touch_of(
 
 fn row_touch_of_old(
     alloc: Global,
-    state: &State,
-    id: i64,
+    prior: Option<&TagRow>,
     service: &Text,
 ) -> Result<Touch<TagChange>, NoMemory>
-    ensures { IfOk result (λ t. t ≡ row_touch_of_old (tag_row_at state.now id) service.now) }
+    ensures { IfOk result (λ t. t ≡ row_touch_of_old (option_map (λ r. r.now) prior.entry) service.now) }
 {
-    match tag_row_at(state, id) {
+    match prior {
         Some(old) => row_touch_of(alloc, DELETED, old, old.id, service),
         None => Ok(Touch::Leaves),
     }
 }
 
-/// What the command, once accepted, does to the tag log of the service.
+/// What kind of change it is to put a row with this id.
+fn put_type(state: &State, id: i64) -> u8
+    ensures { result ≡ put_type state.now id }
+{
+    if tag_row_exists(state, id) {
+        UPDATED
+    } else {
+        CREATED
+    }
+}
+
+/// What it does to the tag log of the service to put the row with this id. The id is looked for where the row is the service's.
+fn put_touch(
+    alloc: Global,
+    state: &State,
+    row: &TagRow,
+    id: i64,
+    service: &Text,
+) -> Result<Touch<TagChange>, NoMemory>
+    ensures { IfOk result (λ t. t ≡ row_touch_of (put_type state.now id) (stored_row id row.now) service.now) }
+{
+    if !same_text(row.service.as_str(), service.as_str()) {
+        return Ok(Touch::Leaves);
+    }
+    row_touch_of(alloc, put_type(state, id), row, id, service)
+}
+
+/// What the command, once accepted, does to the tag log of the service. The tag row that it deletes is given.
 pub(crate) fn tag_touch(
     alloc: Global,
     state: &State,
     command: &AdminCommand,
+    prior: Option<&TagRow>,
     service: &Text,
 ) -> Result<Touch<TagChange>, NoMemory>
+    requires { option_map (λ r. r.now) prior ≡ tag_row_named state.now command.now }
     ensures { IfOk result (λ t. t ≡ tag_touch state.now command.now service.now) }
 {
     match command {
-        AdminCommand::PutTags { id, row } => {
-            let change_type = if tag_row_exists(state, *id) {
-                UPDATED
-            } else {
-                CREATED
-            };
-            row_touch_of(alloc, change_type, row, *id, service)
-        }
-        AdminCommand::DeleteTags { id } => row_touch_of_old(alloc, state, *id, service),
+        AdminCommand::PutTags { id, row } => put_touch(alloc, state, row, *id, service),
+        AdminCommand::DeleteTags { id: _ } => row_touch_of_old(alloc, prior, service),
         _ => Ok(Touch::Leaves),
     }
 }

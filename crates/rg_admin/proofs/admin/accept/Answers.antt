@@ -1,6 +1,9 @@
 use Rattle.rg_admin.proofs.Stepping.{made_on, unmade_on}
 use Rattle.rg_admin.proofs.admin.accept.Goals as goal
 
+pub plan-requires : goal.plan-requires
+plan-requires c = c.requires.kept.valid
+
 pub make-requires-clause-tight : goal.make-requires-clause-tight
 make-requires-clause-tight c = c.kept_is_tight.ensures c.args.held.now.state c.requires.kept c.requires.packed
 
