@@ -1,3 +1,4 @@
+pub mod Entries
 pub mod Knowing
 pub mod Passes
 pub mod Publications

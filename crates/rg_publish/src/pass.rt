@@ -1,9 +1,10 @@
 // What decides: a reader of the publications, with the one that it found or learnt last.
-ghost use Rattle.std.specs.Prelude.{◌≡◌, ◌⊎◌, ◌<◌, ◌≤◌, length, nat_lt, MatchBool, IfOk, IfSome, OnOk, OnErr};
+ghost use Rattle.std.specs.Prelude.{◌≡◌, ◌⊎◌, ◌<◌, ◌≤◌, length, nat_lt, MatchBool, IfOk, Some, OnOk, OnErr};
 ghost use mathlib.Core.List.{IsPrefix};
 ghost use Rattle.left_right.specs.Sides.{view as known_by};
 ghost use Rattle.rg_engine.specs.Bounds.{TriesWithin, bound_on};
 ghost use Rattle.rg_publish.specs.Knowing.{Begins, Knows};
+ghost use Rattle.rg_publish.specs.Entries.{GoesOn, IsNewest};
 ghost use Rattle.rg_publish.specs.Passes.{Ends, HasEntered, answer_of, decision_of, new_pass, risen, seeing};
 ghost use Rattle.rg_publish.specs.Publications.{published};
 
@@ -18,6 +19,17 @@ use std::marker::Model;
 use std::mem;
 
 pub(crate) type Entry = Reader<Shown, Option<Known>, Beginnings>;
+
+/// What an entry finds.
+#[derive(Drop)]
+pub(crate) enum Found {
+    /// Nothing that may be kept: the entry or the copy of the shared pointer is refused, or what is kept is later.
+    Nothing,
+    /// What is kept.
+    Same,
+    /// A later publication.
+    Later(Shown),
+}
 
 /// What the publisher tells a pass: its newest publication, shared. Contracts see its whole list.
 #[derive(Drop)]
@@ -114,10 +126,9 @@ impl Pass {
         };
         let (entry, found) = read(entry, &self.kept);
         self.entry = Some(entry);
-        let Some(shown) = found else {
+        if !keep(&mut self.kept, found) {
             return false;
-        };
-        let _old = mem::replace(&mut self.kept, shown);
+        }
         self.entered = self.entered.saturating_add(1);
         true
     }
@@ -125,6 +136,7 @@ impl Pass {
     /// The written flow over what it keeps.
     fn judge<L: Ledger>(&self, request: &AccessRequest, steps: &mut Steps<L>) -> Answer
         ensures answer { Ends self.now.list (λ p. result ≡ answer_of p request.now) }
+        ensures serial { result.serial.0 ≡ length self.now.list }
         ensures steps { Ends self.now.list (λ p. TriesWithin (bound_on p.facts request.now) steps.old steps.new) }
     {
         let engine = &*self.kept.engine;
@@ -144,7 +156,8 @@ impl Pass {
         request: &AccessRequest,
         steps: &mut Steps<L>,
     ) -> Result<Decision, NoMemory>
-        ensures { Ends self.now.list (λ p. IfOk result (λ d. d ≡ decision_of p request.now) × TriesWithin (bound_on p.facts request.now) steps.old steps.new) }
+        ensures decision { Ends self.now.list (λ p. IfOk result (λ d. d ≡ decision_of p request.now) × TriesWithin (bound_on p.facts request.now) steps.old steps.new) }
+        ensures serial { IfOk result (λ d. d.serial.0 ≡ length self.now.list) }
     {
         let engine = &*self.kept.engine;
         let decision = engine.decide(alloc, request, steps)?;
@@ -157,6 +170,7 @@ impl Pass {
         ensures same { self.new.book ≡ self.old.book }
         ensures begins { IsPrefix self.old.list self.new.list }
         ensures answer { Ends self.new.list (λ p. result ≡ answer_of p request.now) }
+        ensures serial { result.serial.0 ≡ length self.new.list }
         ensures answered { self.new.answered ≡ risen self.old.answered }
         ensures entered { ((self.new.entered ≡ self.old.entered) × (self.new.list ≡ self.old.list)) ⊎ (self.new.entered ≡ risen self.old.entered) }
         ensures steps { Ends self.new.list (λ p. TriesWithin (bound_on p.facts request.now) steps.old steps.new) }
@@ -177,6 +191,7 @@ impl Pass {
         ensures same { self.new.book ≡ self.old.book }
         ensures begins { IsPrefix self.old.list self.new.list }
         ensures decision { Ends self.new.list (λ p. IfOk result (λ d. d ≡ decision_of p request.now)) }
+        ensures serial { IfOk result (λ d. d.serial.0 ≡ length self.new.list) }
         ensures answered { OnOk result (self.new.answered ≡ risen self.old.answered) }
         ensures unanswered { OnErr result (self.new.answered ≡ self.old.answered) }
         ensures entered { ((self.new.entered ≡ self.old.entered) × (self.new.list ≡ self.old.list)) ⊎ (self.new.entered ≡ risen self.old.entered) }
@@ -189,28 +204,52 @@ impl Pass {
     }
 }
 
+/// Keeps what was found, where it is later. False where nothing was found; then nothing changes.
+fn keep(kept: &mut Shown, found: Found) -> bool
+    requires { GoesOn kept.old.known found }
+    ensures { MatchBool result (Begins kept.old.known kept.new.known) (kept.new ≡ kept.old) }
+{
+    match found {
+        Found::Nothing => false,
+        Found::Same => true,
+        Found::Later(shown) => {
+            let _old = mem::replace(kept, shown);
+            true
+        }
+    }
+}
+
 /// Enters, and finds what is shown where it is no earlier than what is kept.
-fn read(entry: Entry, kept: &Shown) -> (Entry, Option<Shown>)
+fn read(entry: Entry, kept: &Shown) -> (Entry, Found)
     requires { Knows (known_by entry.place) kept.now.known }
     ensures entry { Knows (known_by result.0.place) kept.now.known }
-    ensures found { IfSome result.1 (λ s. Begins kept.now.known s.known) }
+    ensures found { GoesOn kept.now.known result.1 }
+    ensures newest { IsNewest (known_by result.0.place) kept.now.known result.1 }
 {
     match entry.enter_as::<Sees>() {
-        Err(entry) => (entry, None),
+        Err(entry) => (entry, Found::Nothing),
         Ok(reading) => {
-            let found = copied(reading.get(), kept);
+            let found = found_in(reading.get(), kept);
             (reading.leave(), found)
         }
     }
 }
 
-/// A copy of what is shown, where it is no earlier than what is kept.
-fn copied(shown: &Shown, kept: &Shown) -> Option<Shown>
+/// What is shown, where it is no earlier than what is kept. Where it is the same no pointer is copied: all passes would
+/// write to the one count of it.
+fn found_in(shown: &Shown, kept: &Shown) -> Found
     requires { shown.now.known.book ≡ kept.now.known.book }
-    ensures { IfSome result (λ s. Begins kept.now.known s.known) }
+    ensures goes_on { GoesOn kept.now.known result }
+    ensures newest { IsNewest (Some shown.now.known) kept.now.known result }
 {
     if shown.is_before(kept) {
-        return None;
+        return Found::Nothing;
     }
-    shown.again().ok()
+    if !kept.is_before(shown) {
+        return Found::Same;
+    }
+    match shown.again() {
+        Ok(shown) => Found::Later(shown),
+        Err(_) => Found::Nothing,
+    }
 }
