@@ -1,4 +1,10 @@
 mod Alls
 mod Bounds
+mod Composing
+mod Counting
+mod Downloading
+mod Gathering
 mod Opening
 mod Sent
+mod Standing
+mod Trailing

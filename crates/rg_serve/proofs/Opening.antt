@@ -1,13 +1,14 @@
 -- What an opening, a call and a refresh make of a service that is held.
-use Rattle.std.proofs.Common.{◌≡◌, ◌∙◌, ℕ, ◌+◌, ◌≤◌, All, List, [], ◌∷◌, ◌++◌, length, length-append, Some, ap, sym, subst, arith, refl, option_map, replicate}
+use Rattle.std.proofs.Common.{◌≡◌, false, ◌∙◌, ℕ, ◌+◌, ◌≤◌, All, List, [], ◌∷◌, ◌++◌, length, length-append, Some, ap, sym, subst, arith, refl, option_map, replicate, take}
+use mathlib.Core.List.{IsPrefix}
 use Rattle.std.proofs.lemmas.List.{length-replicate}
 use Rattle.std.proofs.lemmas.List.Elements.{All-replicate}
 use Rattle.std.proofs.lemmas.Option.{same_Some}
 use Rattle.rg_turn.specs.History.{IsLegal, state_after, state_at}
-use Rattle.rg_turn.specs.Values.{IsCalled, TurnValue, new_seat}
+use Rattle.rg_turn.specs.Values.{IsCalled, TurnName, TurnValue, new_seat}
 use Rattle.rg_turn.specs.View.{entry}
 use Rattle.rg_turn.specs.declared.rule.Entry.{Entry}
-use Rattle.rg_turn.proofs.Histories.{begins_length, begins_whole}
+use Rattle.rg_turn.proofs.Histories.{begins_length, begins_self, begins_whole}
 use Rattle.rg_facts.specs.declared.facts.Facts.{Facts}
 use Rattle.rg_cmd.specs.declared.ask.AdminReply.{AdminReply}
 use Rattle.rg_cmd.specs.declared.ask.AdminReply.TheVariants.{Downloaded}
@@ -24,9 +25,11 @@ use Rattle.rg_publish.specs.declared.history.Publication.{Publication}
 use Rattle.rg_session.specs.Refreshing.{HasDownloaded, HasRefreshed, Publishes}
 use Rattle.rg_session.specs.Right.{AreRightFor}
 use Rattle.rg_session.specs.declared.refresher.Refresh.{Refresh}
-use Rattle.rg_serve.specs.Held.{IsHeld, Seated, held}
+use Rattle.rg_serve.specs.Held.{IsFollowing, IsHeld, begun, held}
 use Rattle.rg_serve.specs.Opened.{IsAsked, IsRefreshed, Opened, opened}
+use Rattle.rg_serve.specs.Trails.{Downloads, Seated}
 use Rattle.rg_serve.proofs.Alls.{all_front, all_last}
+use Rattle.rg_serve.proofs.Downloading.{no_downloads, published_more, same_right}
 
 abbrev H : Type 0
 H = List (Entry Ask AdminReply)
@@ -36,6 +39,20 @@ TurnNow = TurnValue Administration
 
 abbrev made : Administration → H → ℕ → List Publication → ℕ → Opened
 made a h n l w = record { start = a; history = h; calls = n; published = l; workers = w }
+
+-- ---- the passes' beginning
+
+begun_first : (p : Shown) (first : Publication) → p.list ≡ first ∷ [] → begun p ≡ p
+begun_first p first listed = ap (λ (l : List Publication). record { book = p.book; list = l }) (ap (take 1) listed ∙ sym listed)
+
+first_stays : (l more : List Publication) → 1 ≤ length l → take 1 (l ++ more) ≡ take 1 l
+first_stays [] more some = absurd (omega (arith, some))
+first_stays (p ∷ l) more some = refl
+
+begun_stays : (p q : Shown) → 1 ≤ length p.list → q.book ≡ p.book → IsPrefix p.list q.list → begun q ≡ begun p
+begun_stays p q some same more =
+    ap (λ b. record { book = b; list = take 1 q.list }) same
+    ∙ ap (λ (l : List Publication). record { book = p.book; list = l }) (ap (take 1) (sym more.1) ∙ first_stays p.list more.0 some)
 
 -- ---- the opening
 
@@ -53,17 +70,14 @@ module _ (workers : ℕ) (admin : Administration) (turn : TurnNow) (seat : Seate
   seat_unused : seat ≡ unused
   seat_unused = all_last IsUnused rest seat each_unused
 
-  rest_seated : All (λ (s : Seated). s.turn ≡ turn.turn) rest
-  rest_seated k d lt = ap (λ (s : Seated). s.turn) (all_front IsUnused rest seat each_unused k d lt)
-
   pub many : length rest ≡ workers
   many = omega (arith, length-append rest (seat ∷ []), ap length all, length-replicate (workers + 1) unused)
 
   pub opened_held : (service : List ℕ) (p : Shown) (passes : List Seeing) → IsStart admin → (1 ≤ workers) × (workers ≤ 64) → turn.seats ≡ workers + 1 → service ≡ admin.state.plugin
-      → ((h : H) → AreRightFor admin h p.list) → passes ≡ replicate workers (new_pass p) → IsHeld turn seat service p rest passes
-  opened_held service p passes starts some seats serves right passes_are = record {
+      → ((h : H) → AreRightFor admin h p.list) → (first : Publication) → p.list ≡ first ∷ [] → passes ≡ replicate workers (new_pass p) → IsHeld turn seat service p rest passes
+  opened_held service p passes starts some seats serves right first listed passes_are = record {
     seated = ap (λ (s : Seated). s.turn) seat_unused;
-    others = rest_seated;
+    others = all_front IsUnused rest seat each_unused;
     all = omega (arith, many, seats);
     some = omega (arith, many, some.0);
     few = omega (arith, many, some.1);
@@ -72,7 +86,8 @@ module _ (workers : ℕ) (admin : Administration) (turn : TurnNow) (seat : Seate
     starts = subst IsStart (sym start) starts;
     serves = serves ∙ ap (λ (a : Administration). a.state.plugin) (sym start);
     right = subst (λ (a : Administration). AreRightFor a seat.history p.list) (sym start) (right seat.history);
-    reads = subst (All (λ (q : Seeing). q.book ≡ p.book)) (sym passes_are) (All-replicate (λ (q : Seeing). q.book ≡ p.book) workers (new_pass p) refl);
+    first = omega (arith, ap length listed);
+    reads = subst (All (λ (q : Seeing). q ≡ new_pass (begun p))) (sym passes_are) (All-replicate (λ (q : Seeing). q ≡ new_pass (begun p)) workers (new_pass p) (ap new_pass (sym (begun_first p first listed))));
   }
 
   pub opened_is : (list : List Publication) → ((f : Facts) × (view admin admin.state.plugin ≡ Some f) × (list ≡ publication 1 0 f ∷ [])) → opened workers admin ≡ Some (held turn seat list rest)
@@ -171,3 +186,39 @@ module _ (before after : Seated) (service : List ℕ) (list list' : List Publica
     document = d;
     history = whole before after ask (Downloaded d) counted call alone_now ∙ ap (λ (a : Ask). before.history ++ entry a (Downloaded d) ∷ []) same_ask;
   }
+
+  pub refreshed_held : (p p' : Shown) (passes : List Seeing) → p.list ≡ list → p'.list ≡ list' → IsHeld turn before service p seats passes → (after.turn ≡ before.turn) × (p'.book ≡ p.book)
+      → (service' : List ℕ) → service' ≡ service → AreRightFor turn.start after.history p'.list → IsHeld turn after service' p' seats passes
+  refreshed_held p p' passes was is at same service' served right =
+      let more : IsPrefix p.list p'.list = subst (λ (l : List Publication). IsPrefix l p'.list) (sym was) (subst (λ (l : List Publication). IsPrefix list l) (sym is) (published_more n has.present list refresh list' has.list)) in
+      let stays = begun_stays p p' at.first same.1 more in record {
+        seated = same.0 ∙ at.seated;
+        others = at.others;
+        all = at.all;
+        some = at.some;
+        few = at.few;
+        pairs = at.pairs;
+        counted = still_counted before after ask (Downloaded d) counted call;
+        starts = at.starts;
+        serves = served ∙ at.serves;
+        right = right;
+        first = omega (arith, at.first, begins_length p.list p'.list more);
+        reads = subst (λ (b : Shown). All (λ (q : Seeing). q ≡ new_pass b) passes) (sym stays) at.reads;
+      }
+
+-- ---- the names of what is served
+
+-- the refresher as it was held, under the names of the turn and the publisher
+pub first_following : (t : TurnNow) (name : TurnName Administration) (opening p : Shown) (before seat : Seated) (list : List Publication) (service : List ℕ) (seats : List Seated) (passes : List Seeing)
+    → t.turn.start ≡ Some t.start → t.turn ≡ name → opening ≡ begun p → seat ≡ before → p.list ≡ list → IsHeld t seat service p seats passes
+    → IsFollowing name opening.book before list seat service p false
+first_following t name opening p before seat list service seats passes started named opens begins lists at =
+    let from : (x : Administration) → name.start ≡ Some x → Some t.start ≡ Some x = λ x is. sym started ∙ (ap (λ (n : TurnName Administration). n.start) named ∙ is) in record {
+      seated = at.seated ∙ named;
+      published_by = sym (ap (λ (o : Shown). o.book) opens);
+      serves = λ x is. at.serves ∙ ap (λ (a : Administration). a.state.plugin) (same_Some t.start x (from x is));
+      right = λ x is. same_right t.start x seat.history p.list (from x is) at.right;
+      begins = subst (λ (s : Seated). IsPrefix s.history seat.history) begins (begins_self seat.history);
+      more = subst (λ (l : List Publication). IsPrefix l p.list) lists (begins_self p.list);
+      downloads = λ _. subst (λ (s : Seated). Downloads seat.history service s seat) begins (no_downloads seat.history service seat);
+    }

@@ -15,8 +15,11 @@ use Rattle.rg_publish.proofs.Sent.{pass_send, shown_send, shown_sync}
 use Rattle.rg_publish.specs.contracts.publisher.Publisher as U
 use Rattle.rg_publish.specs.contracts.publisher.Publisher.TheInside as UI
 use Rattle.rg_session.specs.contracts.refresher.Refresher as F
+use Rattle.std.specs.declared.sync.ledger.Ledger as ledger
+use Rattle.std.proofs.sync.ledger.Share.TheSendSync as share
 use Rattle.rg_serve.specs.declared.naming.Naming as naming
 use Rattle.rg_serve.specs.contracts.places.Parts as A
+use Rattle.rg_serve.specs.contracts.places.Parts.TheInside as AI
 use Rattle.rg_serve.specs.contracts.following.Following as W
 use Rattle.rg_serve.specs.contracts.following.Following.TheInside as WI
 use Rattle.rg_serve.specs.contracts.following.Follower as L
@@ -31,19 +34,23 @@ module _ (R : RattleType) (s : IsSend R) where
   refresher_send : IsSend (F.the_row R)
   refresher_send = declared_send (F.the_type R) (search (sendable, publisher_send) depth 20, (search (sendable, text.the_send) depth 20, (search sendable depth 20, tt)))
 
-module _ (J : RattleType) (g : naming.Ghosts J.Denot) where
-  -- a worker's seat and pass
-  pub parts_send : IsSend (A.the_row J g)
-  parts_send = declared_send (A.the_type J g) (search (crosses, sendable, seat.the_send, admin.the_send) depth 40, (search (sendable, pass_send) depth 20, (search sendable depth 20, (search sendable depth 20, (search (crosses, sendable) depth 20, tt)))))
+module _ (J : RattleType) (g : naming.Ghosts J.Denot) (l : ledger.Ghosts J.Denot) where
+  parts_inside_send : IsSend (AI.the_row J g l)
+  parts_inside_send = declared_send (AI.the_type J g l) (search (crosses, sendable, seat.the_send, admin.the_send) depth 40, (search (sendable, pass_send) depth 20, (search (sendable, share.the_send) depth 20, (search sendable depth 20, (search sendable depth 20, (search (crosses, sendable) depth 20, tt))))))
 
+  -- a worker's seat and pass, with its share
+  pub parts_send : IsSend (A.the_row J g l)
+  parts_send = search (sendable, parts_inside_send) depth 20
+
+module _ (J : RattleType) (g : naming.Ghosts J.Denot) (l : ledger.Ghosts J.Denot) where
   module _ (R : RattleType) (s : IsSend R) where
-    following_inside_send : IsSend (WI.the_row J R g)
-    following_inside_send = declared_send (WI.the_type J R g) (search (sendable, refresher_send, s) depth 20, (search (crosses, sendable, seat.the_send, admin.the_send) depth 40, (search sendable depth 20, (search (crosses, sendable) depth 20, tt))))
+    following_inside_send : IsSend (WI.the_row J R g l)
+    following_inside_send = declared_send (WI.the_type J R g l) (search (sendable, refresher_send, s) depth 20, (search (crosses, sendable, seat.the_send, admin.the_send) depth 40, (search sendable depth 20, (search (crosses, sendable) depth 20, tt))))
 
     -- a refresher with its seat
-    pub following_send : IsSend (W.the_row J R g)
+    pub following_send : IsSend (W.the_row J R g l)
     following_send = search (sendable, following_inside_send) depth 20
 
     -- what refreshes beside the workers
-    pub follower_sync : (a b d : NamedLft) → IsSync (L.the_row a b d J R g)
-    follower_sync a b d = declared_sync (L.the_type a b d J R g) (search (crosses, sendable) depth 20, (search (sendable, turn.the_sync, admin.the_send) depth 40, (search (sendable, bell.the_sync) depth 20, (search (crosses, sendable, following_send) depth 20, tt))))
+    pub follower_sync : (a b d : NamedLft) → IsSync (L.the_row a b d J R g l)
+    follower_sync a b d = declared_sync (L.the_type a b d J R g l) (search (crosses, sendable) depth 20, (search (sendable, turn.the_sync, admin.the_send) depth 40, (search (sendable, bell.the_sync) depth 20, (search (crosses, sendable, following_send) depth 20, tt))))

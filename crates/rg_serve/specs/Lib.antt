@@ -2,3 +2,4 @@ pub mod Held
 pub mod Names
 pub mod Opened
 pub mod Served
+pub mod Trails

@@ -1,20 +1,25 @@
 // The end of a service that has served its links.
-ghost use Rattle.std.specs.Prelude.{◌≡◌, ◌≤◌, ◌+◌, All, Some, length, IfOk};
+ghost use Rattle.std.specs.Prelude.{◌≡◌, ◌≤◌, ◌+◌, ℕ, Some, length, IfOk, OnOk};
+ghost use mathlib.Core.List.{IsPrefix};
 ghost use Rattle.rg_machine.specs.Starts.{IsStart};
 ghost use Rattle.rg_machine.specs.Steps.{step};
 ghost use Rattle.rg_turn.specs.History.{IsLegal, state_after};
 ghost use Rattle.rg_session.specs.Right.{AreRightFor};
-ghost use Rattle.rg_serve.specs.Served.{ArePublished};
+ghost use Rattle.rg_serve.specs.Held.{AreWorked};
+ghost use Rattle.rg_serve.specs.Served.{IsEnded};
+ghost use Rattle.rg_serve.specs.Trails.{AreServed, Downloads};
 
 use crate::following::Following;
+use crate::given::Counted;
 use crate::naming::Naming;
-use crate::places::{Place, add, parts_of};
+use crate::places::{Place, add};
 use rg_admin::Admin;
 use rg_base::NoMemory;
 use rg_publish::{Pass, Publisher};
 use rg_session::{Totals, close};
 use rg_turn::{Seat, Turn};
 use std::alloc::Global;
+use std::sync::ledger::Share;
 use std::sync::{Mutex, Wait};
 
 /// What a service did.
@@ -26,51 +31,106 @@ pub struct Served {
     pub totals: Totals,
 }
 
-/// Ends the service with the seats of the workers and one more, for whose history what is published is right.
-fn settle<R: Wait + Drop>(
+/// The seats and the passes come back, and the shares go into this one. Refused too where a link met want of memory.
+fn gather<J: Naming>(
+    alloc: Global,
+    places: Vec<Place<J>>,
+    all: &mut Share<J>,
+) -> Result<(Vec<Seat<Admin>>, Vec<Pass>), NoMemory>
+    ensures parts { OnOk result (all.new.parts ≡ all.old.parts + length places.items) }
+    ensures number { IfOk result (λ t. length t.0.items ≡ length places.items) }
+    ensures worked { IfOk result (λ t. (n : ℕ) × (all.new.amount ≡ all.old.amount + n) × AreWorked J.turn J.opening J.plugin t.0.items t.1.items n) }
+{
+    let mut places = places;
+    let mut seats = Vec::new(alloc);
+    let mut passes = Vec::new(alloc);
+    while let Some(place) = places.pop() {
+        let (seat, pass, share) = place.into_inner().into_all()?;
+        all.merge(share);
+        add(&mut seats, seat)?;
+        add(&mut passes, pass)?;
+    }
+    Ok((seats, passes))
+}
+
+/// The same, with all shares in one: there was a session for each link.
+fn gather_all<J: Naming>(
+    alloc: Global,
+    places: Vec<Place<J>>,
+    counted: Counted<J>,
+) -> Result<(Vec<Seat<Admin>>, Vec<Pass>), NoMemory>
+    requires { J.parts ≡ length places.items + 2 }
+    ensures number { IfOk result (λ t. length t.0.items ≡ length places.items) }
+    ensures worked { IfOk result (λ t. AreWorked J.turn J.opening J.plugin t.0.items t.1.items counted.book.total) }
+{
+    let Counted { mut book, mut mine } = counted;
+    let (seats, passes) = gather(alloc, places, &mut mine)?;
+    book.audit(&mut mine);
+    Ok((seats, passes))
+}
+
+/// Ends the service with the seats of the workers and the refresher's, for whose history what is published is right. Refused too
+/// where a pass is ahead, which no clause of a pass excludes.
+fn settle<J: Naming, R: Wait + Drop>(
     alloc: Global,
     turn: Turn<Admin>,
     publisher: Publisher<R>,
     seat: Seat<Admin>,
     seats: Vec<Seat<Admin>>,
     passes: Vec<Pass>,
+    links: u64,
 ) -> Result<Totals, NoMemory>
-    requires turn { (seat.turn ≡ turn.turn) × All (λ s. s.turn ≡ turn.turn) seats.items }
+    requires turn { (turn.turn ≡ J.turn) × (seat.turn ≡ J.turn) × (turn.start.state.plugin ≡ J.plugin) }
+    requires book { publisher.book ≡ J.opening.book }
     requires all { length seats.items + 1 ≡ turn.seats }
-    requires passes { All (λ p. p.book ≡ publisher.book) passes.items }
+    requires worked { AreWorked J.turn J.opening J.plugin seats.items passes.items links }
     requires right { AreRightFor turn.start seat.history publisher.list }
+    requires downloads { Downloads seat.history J.plugin J.before seat }
     ensures legal { IfOk result (λ t. (t.past.start ≡ Some turn.start) × IsLegal step turn.start t.past.history) }
     ensures admin { IfOk result (λ t. t.admin ≡ state_after step turn.start t.past.history) }
-    ensures entries { IfOk result (λ t. length seat.history ≤ length t.past.history) }
-    ensures published { IfOk result (λ t. ArePublished turn.start t.past.history (length publisher.list) t.publications) }
+    ensures begins { IfOk result (λ t. IsPrefix seat.history t.past.history) }
+    ensures right { IfOk result (λ t. AreRightFor turn.start t.past.history publisher.list) }
+    ensures publications { IfOk result (λ t. t.publications ≡ length publisher.list) }
+    ensures served { IfOk result (λ t. AreServed J.turn J.opening J.plugin J.before (length seats.items) links t.past.history publisher.list t.decisions) }
 {
     let mut seats = seats;
     add(&mut seats, seat)?;
     match close(alloc, publisher, passes, turn, seats) {
-        Ok(totals) => Ok(totals),
-        Err(NoMemory) => Err(NoMemory),
+        Ok(totals) => match totals.ahead {
+            None => return Ok(totals),
+            Some(_) => return Err(NoMemory),
+        },
+        Err(NoMemory) => return Err(NoMemory),
     }
 }
 
-/// Refreshes once more, and ends the service. Want of memory that a worker or a refresh met is answered here.
+/// Refreshes once more, and ends the service. Want of memory that a worker or a refresh met is answered here, and it is answered
+/// too where an entry of another seat came after the last download, which no clause of a seat excludes.
 pub(crate) fn end<J: Naming, R: Wait + Drop, W: Wait>(
     rt: &W,
     alloc: Global,
     turn: Turn<Admin>,
     following: Mutex<Following<J, R>>,
     places: Vec<Place<J>>,
+    counted: Counted<J>,
+    links: u64,
 ) -> Result<Totals, NoMemory>
-    requires turn { (turn.turn ≡ J.turn) × IsStart turn.start }
+    requires turn { (turn.turn ≡ J.turn) × IsStart turn.start × (turn.start.state.plugin ≡ J.plugin) }
     requires all { length places.items + 1 ≡ turn.seats }
+    requires parts { J.parts ≡ length places.items + 2 }
+    requires given { counted.book.total ≡ links }
     ensures legal { IfOk result (λ t. (t.past.start ≡ Some turn.start) × IsLegal step turn.start t.past.history) }
     ensures admin { IfOk result (λ t. t.admin ≡ state_after step turn.start t.past.history) }
-    ensures entries { IfOk result (λ t. J.entries + 1 ≤ length t.past.history) }
-    ensures published { IfOk result (λ t. ArePublished turn.start t.past.history J.publications t.publications) }
+    ensures entries { IfOk result (λ t. length J.before.history + 1 ≤ length t.past.history) }
+    ensures begins { IfOk result (λ t. IsPrefix J.before.history t.past.history) }
+    ensures ended { IfOk result (λ t. IsEnded J.turn J.opening J.before J.published turn.start (length places.items) links t.past.history t.publications t.decisions) }
 {
-    let (publisher, seat) = following.into_inner().finish(rt, alloc, &turn)?;
-    let (seats, passes) = parts_of(alloc, places)?;
-    match settle(alloc, turn, publisher, seat, seats, passes) {
-        Ok(totals) => Ok(totals),
-        Err(NoMemory) => Err(NoMemory),
+    let (publisher, seat, entries) = following.into_inner().finish(rt, alloc, &turn)?;
+    let (seats, passes) = gather_all(alloc, places, counted)?;
+    let totals = settle::<J, R>(alloc, turn, publisher, seat, seats, passes, links)?;
+    let all = totals.past.entries();
+    if all == 0 || all - 1 != entries {
+        return Err(NoMemory);
     }
+    Ok(totals)
 }

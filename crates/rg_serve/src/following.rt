@@ -1,8 +1,10 @@
 // What refreshes the publications beside the workers.
-ghost use Rattle.std.specs.Prelude.{◌≡◌, ◌≤◌, ◌+◌, length, IfOk};
+ghost use Rattle.std.specs.Prelude.{◌≡◌, ◌≤◌, ◌+◌, false, length, IfOk};
+ghost use mathlib.Core.List.{IsPrefix};
 ghost use Rattle.rg_machine.specs.Starts.{IsStart};
 ghost use Rattle.rg_session.specs.Right.{AreRightFor};
-ghost use Rattle.rg_serve.specs.Held.{IsFollowing};
+ghost use Rattle.rg_serve.specs.Held.{HasLast, IsFollowing};
+ghost use Rattle.rg_serve.specs.Trails.{Downloads};
 
 use crate::naming::Naming;
 use rg_admin::Admin;
@@ -32,12 +34,12 @@ impl<J: Naming, R: Wait + Drop> Model for Following<J, R> {
 
     ghost view = { λ f. tt };
 
-    ghost invariant = { λ f. IsFollowing J.turn J.book J.entries J.publications f.seat f.refresher.service f.refresher.publisher };
+    ghost invariant = { λ f. IsFollowing J.turn J.opening.book J.before J.published f.seat f.refresher.service f.refresher.publisher f.is_short };
 }
 
 impl<J: Naming, R: Wait + Drop> Following<J, R> {
     pub fn new(refresher: Refresher<R>, seat: Seat<Admin>) -> Following<J, R>
-        requires { IsFollowing J.turn J.book J.entries J.publications seat refresher.service refresher.publisher }
+        requires { IsFollowing J.turn J.opening.book J.before J.published seat refresher.service refresher.publisher false }
     {
         Following {
             refresher,
@@ -62,17 +64,22 @@ impl<J: Naming, R: Wait + Drop> Following<J, R> {
         }
     }
 
-    /// Refreshes once more, and gives the publisher and the seat. Refused too where an earlier refresh met want of memory.
+    /// Refreshes once more, and gives the publisher and the seat, and how many entries came before the last download. Refused too
+    /// where an earlier refresh met want of memory.
     pub fn finish<W: Wait>(
         self,
         rt: &W,
         alloc: Global,
         turn: &Turn<Admin>,
-    ) -> Result<(Publisher<R>, Seat<Admin>), NoMemory>
+    ) -> Result<(Publisher<R>, Seat<Admin>, u64), NoMemory>
         requires { (turn.now.turn ≡ J.turn) × IsStart turn.now.start }
-        ensures same { IfOk result (λ t. (t.1.turn ≡ J.turn) × (t.0.book ≡ J.book)) }
+        ensures same { IfOk result (λ t. (t.1.turn ≡ J.turn) × (t.0.book ≡ J.opening.book)) }
         ensures right { IfOk result (λ t. AreRightFor turn.now.start t.1.history t.0.list) }
-        ensures least { IfOk result (λ t. (J.entries + 1 ≤ length t.1.history) × (J.publications ≤ length t.0.list)) }
+        ensures begins { IfOk result (λ t. IsPrefix J.before.history t.1.history) }
+        ensures longer { IfOk result (λ t. length J.before.history + 1 ≤ length t.1.history) }
+        ensures more { IfOk result (λ t. IsPrefix J.published t.0.list) }
+        ensures downloads { IfOk result (λ t. Downloads t.1.history turn.now.start.state.plugin J.before t.1) }
+        ensures last { IfOk result (λ t. HasLast turn.now.start t.1.history t.0.list t.2) }
     {
         let Following {
             mut refresher,
@@ -92,9 +99,9 @@ impl<J: Naming, R: Wait + Drop> Following<J, R> {
         let Refresher {
             publisher,
             service: _,
-            seq: _,
+            seq,
         } = refresher;
-        Ok((publisher, seat))
+        Ok((publisher, seat, seq))
     }
 }
 

@@ -3,6 +3,7 @@
 
 mod ending;
 mod following;
+mod given;
 mod naming;
 mod opened;
 mod places;

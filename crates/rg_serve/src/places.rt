@@ -1,52 +1,138 @@
 // What each worker has for itself, under locks of its own.
-ghost use Rattle.std.specs.Prelude.{◌≡◌, ◌≤◌, All, ◌++◌, ◌∷◌, [], length, IfOk, OnOk};
+ghost use Rattle.std.specs.Prelude.{◌≡◌, ◌≤◌, ◌<◌, ◌+◌, All, ◌++◌, ◌∷◌, [], length, IfOk, OnOk, MatchBool};
+ghost use Rattle.std.specs.Str.{chars};
+ghost use Rattle.rg_turn.specs.Values.{new_seat};
+ghost use Rattle.rg_publish.specs.Passes.{new_pass};
+ghost use Rattle.rg_serve.specs.Held.{Trail};
 
 use crate::naming::Naming;
+use crate::sessions::Sessions;
 use rg_admin::Admin;
 use rg_base::NoMemory;
+use rg_hook::RequestHooks;
+use rg_ports::{Clock, Gate, Link};
 use rg_publish::Pass;
+use rg_threads::{Queue, Waiting};
 use rg_turn::Seat;
 use std::alloc::Global;
-use std::marker::PhantomData;
-use std::sync::Mutex;
+use std::marker::{Model, PhantomData};
+use std::sync::ledger::Share;
+use std::sync::{Mutex, Wait};
 
-/// The seat and the pass of a worker.
+/// The seat and the pass of a worker. Contracts see nothing of it but the names of its type; it keeps what its sessions did.
 #[derive(Drop)]
 pub(crate) struct Parts<J: Naming> {
-    pub seat: Seat<Admin>,
-    pub pass: Pass,
+    seat: Seat<Admin>,
+    pass: Pass,
+    /// As much as links that it was given.
+    share: Share<J>,
     /// The worker's number, from 0 on.
-    pub number: u32,
+    number: u32,
     /// Whether a link met want of memory.
-    pub is_short: bool,
+    is_short: bool,
     of: PhantomData<J>,
-    pub ghost turn_is: { seat.turn ≡ J.turn },
-    pub ghost book_is: { pass.book ≡ J.book },
+}
+
+impl<J: Naming> Model for Parts<J> {
+    ghost use Rattle.rg_serve.specs.Held.{IsAtWork};
+
+    ghost Value = { Unit {0} };
+
+    ghost view = { λ p. tt };
+
+    ghost invariant = { λ p. IsAtWork J.turn J.opening J.plugin p.seat p.pass p.share.parts p.share.amount p.is_short };
 }
 
 /// Where they lie.
 pub(crate) type Place<J> = Mutex<Parts<J>>;
 
 impl<J: Naming> Parts<J> {
-    fn new(seat: Seat<Admin>, pass: Pass, number: u32) -> Parts<J>
-        requires { (seat.turn ≡ J.turn) × (pass.book ≡ J.book) }
+    fn new(seat: Seat<Admin>, pass: Pass, share: Share<J>, number: u32) -> Parts<J>
+        requires new { (seat ≡ new_seat J.turn) × (pass ≡ new_pass J.opening) }
+        requires share { (share.parts ≡ 1) × (share.amount ≡ 0) }
     {
         Parts {
             seat,
             pass,
+            share,
             number,
             is_short: false,
             of: PhantomData,
         }
     }
 
-    /// The seat and the pass. Refused where a link met want of memory.
-    fn into_pair(self) -> Result<(Seat<Admin>, Pass), NoMemory>
-        ensures { IfOk result (λ t. (t.0.turn ≡ J.turn) × (t.1.book ≡ J.book)) }
+    /// Serves a link of the other's amount.
+    pub fn serve<T: Link + Drop, C: Clock, G: Gate, H: RequestHooks, R: Wait + Sync>(
+        &mut self,
+        rt: &R,
+        sessions: &Sessions<J, C, G>,
+        hooks: &mut H,
+        link: T,
+        mine: &mut Share<J>,
+    )
+        requires turn { sessions.now.turn.now.turn ≡ J.turn }
+        requires plugin { chars sessions.now.plugin.now ≡ J.plugin }
+        requires mine { (0 < mine.old.parts) × (1 ≤ mine.old.amount) }
+        ensures parts { mine.new.parts ≡ mine.old.parts }
+        ensures amount { mine.new.amount + 1 ≡ mine.old.amount }
+    {
+        mine.transfer(&mut self.share, 1);
+        if sessions.serve(rt, &mut self.seat, &mut self.pass, hooks, self.number, link) {
+            self.is_short = true;
+        }
+    }
+
+    /// Serves the next link of the queue. False once the queue is closed and has none.
+    pub fn serve_next<T: Link + Drop, C: Clock, G: Gate, H: RequestHooks, R: Wait + Sync>(
+        &mut self,
+        rt: &R,
+        sessions: &Sessions<J, C, G>,
+        hooks: &mut H,
+        queue: &Queue<J, T>,
+    ) -> bool
+        requires turn { sessions.now.turn.now.turn ≡ J.turn }
+        requires plugin { chars sessions.now.plugin.now ≡ J.plugin }
+    {
+        let Some(link) = queue.take(rt, &mut self.share) else {
+            return false;
+        };
+        if sessions.serve(rt, &mut self.seat, &mut self.pass, hooks, self.number, link) {
+            self.is_short = true;
+        }
+        true
+    }
+
+    /// Serves one of those that are left. False where there is none.
+    pub fn serve_left<T: Link + Drop, C: Clock, G: Gate, H: RequestHooks, R: Wait + Sync>(
+        &mut self,
+        rt: &R,
+        sessions: &Sessions<J, C, G>,
+        hooks: &mut H,
+        left: &mut Waiting<J, T>,
+    ) -> bool
+        requires turn { sessions.now.turn.now.turn ≡ J.turn }
+        requires plugin { chars sessions.now.plugin.now ≡ J.plugin }
+        ensures { MatchBool result (left.new.share.amount + 1 ≡ left.old.share.amount) (left.new.share.amount ≡ 0) }
+    {
+        let Some(link) = left.pop(&mut self.share) else {
+            return false;
+        };
+        if sessions.serve(rt, &mut self.seat, &mut self.pass, hooks, self.number, link) {
+            self.is_short = true;
+        }
+        true
+    }
+
+    /// The seat, the pass and the share. Refused where a link met want of memory.
+    pub fn into_all(self) -> Result<(Seat<Admin>, Pass, Share<J>), NoMemory>
+        ensures seated { IfOk result (λ t. (t.0.turn ≡ J.turn) × (t.1.book ≡ J.opening.book)) }
+        ensures part { IfOk result (λ t. t.2.parts ≡ 1) }
+        ensures trail { IfOk result (λ t. Trail J.turn J.opening J.plugin t.0 t.1 t.2.amount) }
     {
         let Parts {
             seat,
             pass,
+            share,
             number: _,
             is_short,
             of: _,
@@ -54,7 +140,7 @@ impl<J: Naming> Parts<J> {
         if is_short {
             return Err(NoMemory);
         }
-        Ok((seat, pass))
+        Ok((seat, pass, share))
     }
 }
 
@@ -68,16 +154,19 @@ pub(crate) fn add<T: Drop>(all: &mut Vec<T>, x: T) -> Result<(), NoMemory>
     }
 }
 
-/// A place for each seat, with a pass. The last comes first.
+/// A place for each seat, with a pass and a part of the share. The last comes first.
 pub(crate) fn places_of<J: Naming>(
     alloc: Global,
     seats: Vec<Seat<Admin>>,
     passes: Vec<Pass>,
+    share: &mut Share<J>,
 ) -> Result<Vec<Place<J>>, NoMemory>
-    requires seats { All (λ s. s.turn ≡ J.turn) seats.items }
+    requires seats { All (λ s. s ≡ new_seat J.turn) seats.items }
+    requires passes { All (λ p. p ≡ new_pass J.opening) passes.items }
     requires few { length seats.items ≤ 64 }
-    requires passes { All (λ p. p.book ≡ J.book) passes.items }
-    ensures { IfOk result (λ v. length v.items ≡ length seats.items) }
+    requires share { (share.old.amount ≡ 0) × (share.old.parts ≡ length seats.items + 1) }
+    ensures number { IfOk result (λ v. length v.items ≡ length seats.items) }
+    ensures share { OnOk result ((share.new.amount ≡ 0) × (share.new.parts ≡ 1)) }
 {
     let mut seats = seats;
     let mut passes = passes;
@@ -87,28 +176,13 @@ pub(crate) fn places_of<J: Naming>(
             return Err(NoMemory);
         };
         let number = seats.len() as u32;
-        add(&mut places, Mutex::new(Parts::new(seat, pass, number)))?;
+        let part = share.split_off(1, 0);
+        add(
+            &mut places,
+            Mutex::new(Parts::new(seat, pass, part, number)),
+        )?;
     }
     Ok(places)
-}
-
-/// The seats and the passes come back. Refused too where a link met want of memory.
-pub(crate) fn parts_of<J: Naming>(
-    alloc: Global,
-    places: Vec<Place<J>>,
-) -> Result<(Vec<Seat<Admin>>, Vec<Pass>), NoMemory>
-    ensures seats { IfOk result (λ t. All (λ s. s.turn ≡ J.turn) t.0.items × (length t.0.items ≡ length places.items)) }
-    ensures passes { IfOk result (λ t. All (λ p. p.book ≡ J.book) t.1.items) }
-{
-    let mut places = places;
-    let mut seats = Vec::new(alloc);
-    let mut passes = Vec::new(alloc);
-    while let Some(place) = places.pop() {
-        let (seat, pass) = place.into_inner().into_pair()?;
-        add(&mut seats, seat)?;
-        add(&mut passes, pass)?;
-    }
-    Ok((seats, passes))
 }
 
 /// Each of them under a lock of its own. The last comes first.

@@ -1,18 +1,21 @@
 // Links served by threads.
 ghost use Rattle.std.specs.Prelude.{◌≡◌, ◌⊎◌, ◌≤◌, ◌<◌, ◌+◌, true, Some, length, IfOk, OnOk, OnErr, MatchResult};
+ghost use Rattle.std.specs.Str.{chars};
+ghost use mathlib.Core.List.{IsPrefix};
 ghost use Rattle.rg_machine.specs.Starts.{IsStart};
 ghost use Rattle.rg_machine.specs.Steps.{step};
 ghost use Rattle.rg_turn.specs.History.{IsLegal, state_after};
-ghost use Rattle.rg_serve.specs.Held.{IsHeld};
-ghost use Rattle.rg_serve.specs.Served.{ArePublished, Counts};
+ghost use Rattle.rg_serve.specs.Held.{IsHeld, begun};
+ghost use Rattle.rg_serve.specs.Served.{ArePublished, Counts, HasServed, IsEnded};
 
 use crate::ending::{Served, end};
 use crate::following::{Follower, Following};
+use crate::given::{Counted, Given};
 use crate::naming::Naming;
 use crate::opened::Opened;
 use crate::places::{Place, places_of, under_locks};
 use crate::sessions::Sessions;
-use crate::threads::serve_links;
+use crate::threads::{serve_links, serve_rest};
 use rg_admin::Admin;
 use rg_base::{Failed, NoMemory, Text, TryCopy};
 use rg_hook::RequestHooks;
@@ -23,6 +26,7 @@ use rg_threads::Queue;
 use rg_turn::{Seat, Turn};
 use std::alloc::Global;
 use std::marker::{Brand, PhantomData};
+use std::sync::ledger::Blank;
 use std::sync::{Mutex, Wait};
 use std::thread::Threads;
 
@@ -56,7 +60,8 @@ impl From<Failed> for ServeFault {
     }
 }
 
-/// The threads, each with what it is lent: the workers, and what refreshes beside them. Gives how many links were given.
+/// The threads, each with what it is lent: the workers, and what refreshes beside them. Then what is left in the queue is served.
+/// Gives how many links were given.
 fn attend<
     J: Naming + Send + Sync,
     N: Listener,
@@ -72,19 +77,23 @@ fn attend<
     following: &Mutex<Following<J, Q>>,
     places: &[Place<J>],
     hooks: &[Mutex<H>],
-    queue: &Queue<N::Link>,
+    queue: Queue<J, N::Link>,
+    given: Given<J>,
     net: &mut N,
     clock: &Mutex<&mut C>,
     gate: &G,
     plugin: &str,
     most: u64,
-) -> Result<u64, Failed>
+) -> (Result<u64, Failed>, Counted<J>)
     requires turn { (turn.now.turn ≡ J.turn) × IsStart turn.now.start }
+    requires plugin { chars plugin.now ≡ J.plugin }
     requires some { (0 < length places.now) × (0 < length hooks.now) }
-    ensures given { IfOk result (λ n. N.given net.new ≡ N.given net.old + n) }
-    ensures all { IfOk result (λ n. (n ≤ most) × ((n ≡ most) ⊎ (N.ended net.new ≡ true))) }
-    ensures kept { OnOk result (N.faults net.new ≡ N.faults net.old) }
-    ensures failed { OnErr result (N.faults net.old < N.faults net.new) }
+    requires none { given.book.total ≡ 0 }
+    ensures counted { IfOk result.0 (λ n. result.1.book.total ≡ n) }
+    ensures given { IfOk result.0 (λ n. N.given net.new ≡ N.given net.old + n) }
+    ensures all { IfOk result.0 (λ n. (n ≤ most) × ((n ≡ most) ⊎ (N.ended net.new ≡ true))) }
+    ensures kept { OnOk result.0 (N.faults net.new ≡ N.faults net.old) }
+    ensures failed { OnErr result.0 (N.faults net.old < N.faults net.new) }
 {
     let bell = Bell::new();
     let sessions: Sessions<J, C, G> = Sessions {
@@ -102,7 +111,12 @@ fn attend<
         bell: &bell,
         following,
     };
-    serve_links(rt, net, most, queue, &sessions, places, hooks, &follower)
+    let (accepted, given) = serve_links(
+        rt, net, most, &queue, &sessions, places, hooks, &follower, given,
+    );
+    let mut left = queue.into_rest();
+    serve_rest(rt, &sessions, &mut left, &places[0], &hooks[0]);
+    (accepted, given.settle(left))
 }
 
 /// The same from start to end, under names for the turn and the publisher that no type of a parameter has.
@@ -117,6 +131,7 @@ fn serve_named<
 >(
     rt: &R,
     alloc: Global,
+    blank: Blank,
     turn: Turn<Admin>,
     seat: Seat<Admin>,
     refresher: Refresher<Q>,
@@ -129,40 +144,46 @@ fn serve_named<
     gate: &G,
     most: u64,
 ) -> Result<Served, ServeFault>
-    requires names { (turn.turn ≡ J.turn) × (refresher.publisher.book ≡ J.book) }
-    requires least { (length seat.history ≡ J.entries) × (length refresher.publisher.list ≡ J.publications) }
+    requires ledger { (blank.name ≡ J.name) × (blank.parts ≡ J.parts) × (J.parts ≡ length seats.items + 2) }
+    requires names { (turn.turn ≡ J.turn) × (J.opening ≡ begun refresher.publisher) × (refresher.service ≡ J.plugin) }
+    requires before { (seat ≡ J.before) × (refresher.publisher.list ≡ J.published) }
     requires held { IsHeld turn seat refresher.service refresher.publisher seats.items passes.items }
     requires workers { length hooks.items ≡ length seats.items }
     ensures given { IfOk result (λ s. N.given net.new ≡ N.given net.old + s.links) }
     ensures all { IfOk result (λ s. (s.links ≤ most) × ((s.links ≡ most) ⊎ (N.ended net.new ≡ true))) }
     ensures legal { IfOk result (λ s. (s.totals.past.start ≡ Some turn.start) × IsLegal step turn.start s.totals.past.history) }
     ensures admin { IfOk result (λ s. s.totals.admin ≡ state_after step turn.start s.totals.past.history) }
-    ensures entries { IfOk result (λ s. length seat.history + 1 ≤ length s.totals.past.history) }
-    ensures published { IfOk result (λ s. ArePublished turn.start s.totals.past.history (length refresher.publisher.list) s.totals.publications) }
+    ensures entries { IfOk result (λ s. length J.before.history + 1 ≤ length s.totals.past.history) }
+    ensures begins { IfOk result (λ s. IsPrefix J.before.history s.totals.past.history) }
+    ensures ended { IfOk result (λ s. IsEnded J.turn J.opening J.before J.published turn.start (length seats.items) s.links s.totals.past.history s.totals.publications s.totals.decisions) }
     ensures faults { MatchResult result (λ _. N.faults net.new ≡ N.faults net.old) (λ f. Counts f (N.faults net.old) (N.faults net.new)) }
 {
-    let queue = Queue::new(alloc)?;
+    let (book, mut mine) = blank.open::<J>();
+    let waiting = mine.split_off(1, 0);
+    let queue = Queue::new(alloc, waiting)?;
     let plugin = refresher.service.try_copy(alloc)?;
-    let places = places_of::<J>(alloc, seats, passes)?;
+    let places = places_of::<J>(alloc, seats, passes, &mut mine)?;
     let own = under_locks(alloc, hooks)?;
     net.listen(address.as_str())?;
     let following = Mutex::new(Following::new(refresher, seat));
     let clock = Mutex::new(clock);
-    let links = attend(
+    let (accepted, counted) = attend(
         rt,
         alloc,
         &turn,
         &following,
         places.as_slice(),
         own.as_slice(),
-        &queue,
+        queue,
+        Given { book, mine },
         net,
         &clock,
         gate,
         plugin.as_str(),
         most,
-    )?;
-    let totals = end(rt, alloc, turn, following, places)?;
+    );
+    let links = accepted?;
+    let totals = end(rt, alloc, turn, following, places, counted, links)?;
     Ok(Served { links, totals })
 }
 
@@ -172,7 +193,8 @@ fn serve_named<
 ///
 /// A fault of a link ends that link alone. Where `accept` fails the links taken before are served too. Want of memory that a
 /// worker or a refresh meets is answered when all are served. The work of a worker whose thread can't be started is done by the
-/// others, or by the calling thread.
+/// others, or by the calling thread. Want of memory is answered too where a pass has seen more than was published, or an entry came
+/// after the last download: neither should ever come, but no clause excludes it.
 pub fn serve<
     N: Listener,
     C: Clock,
@@ -199,8 +221,11 @@ pub fn serve<
     ensures legal { IfOk result (λ s. (s.totals.past.start ≡ Some opened.start) × IsLegal step opened.start s.totals.past.history) }
     ensures admin { IfOk result (λ s. s.totals.admin ≡ state_after step opened.start s.totals.past.history) }
     ensures entries { IfOk result (λ s. length opened.history + 1 ≤ length s.totals.past.history) }
+    ensures begins { IfOk result (λ s. IsPrefix opened.history s.totals.past.history) }
     // What was published is right for it.
     ensures published { IfOk result (λ s. ArePublished opened.start s.totals.past.history (length opened.published) s.totals.publications) }
+    // Each link had one session, each entry is one call, each decision is by one publication, and the newest publication is current.
+    ensures served { IfOk result (λ s. HasServed opened s.links s.totals.past.history s.totals.publications s.totals.decisions) }
     ensures faults { MatchResult result (λ _. N.faults net.new ≡ N.faults net.old) (λ f. Counts f (N.faults net.old) (N.faults net.new)) }
 {
     let Opened {
@@ -210,7 +235,24 @@ pub fn serve<
         seats,
         passes,
     } = opened;
-    serve_named::<Brand, N, C, G, H, Q, R>(
-        rt, alloc, turn, seat, refresher, seats, passes, hooks, net, address, clock, gate, most,
-    )
+    let parts = seats.len() as u64 + 2;
+    match serve_named::<Brand, N, C, G, H, Q, R>(
+        rt,
+        alloc,
+        Blank::new(parts),
+        turn,
+        seat,
+        refresher,
+        seats,
+        passes,
+        hooks,
+        net,
+        address,
+        clock,
+        gate,
+        most,
+    ) {
+        Ok(served) => return Ok(served),
+        Err(fault) => return Err(fault),
+    }
 }

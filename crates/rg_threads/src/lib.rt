@@ -5,6 +5,6 @@ mod queue;
 mod shared_clock;
 mod watcher;
 
-pub use queue::Queue;
+pub use queue::{Queue, Waiting};
 pub use shared_clock::SharedClock;
 pub use watcher::Watcher;

@@ -1,4 +1,6 @@
 // What threads share: a bell, a queue and a clock.
+ghost use Rattle.std.specs.Prelude.{◌≡◌};
+
 use crate::printing::print_row;
 use anyhow::Result;
 use rg_base::{Moment, Seq};
@@ -6,6 +8,8 @@ use rg_ports::{Clock, ListClock};
 use rg_session::Bell;
 use rg_threads::{Queue, SharedClock};
 use std::alloc::{AllocError, Global};
+use std::marker::Brand;
+use std::sync::ledger::{Blank, Book, Ledger, Share};
 use std::sync::{Mutex, Wait};
 
 /// So many rings are kept as one, and a bell that is shut keeps nobody waiting.
@@ -20,38 +24,64 @@ fn rung<R: Wait>(rt: &R, alloc: Global, rings: u32) -> Option<String> {
     format!(in alloc; "{rung}, then {shut}").ok()
 }
 
-fn tell_push<R: Wait>(
-    told: &mut String,
-    rt: &R,
-    queue: &Queue<u32>,
-    item: u32,
-) -> Result<(), AllocError> {
-    match queue.push(rt, item) {
-        Ok(()) => write!(told, "push {item} taken, "),
-        Err(back) => write!(told, "push {item} gives {back} back, "),
-    }
+/// What gives items to a queue and takes them from it. Each item is one of the amount of a ledger.
+#[derive(Drop)]
+struct Hands<L: Ledger> {
+    book: Book<L>,
+    mine: Share<L>,
+    ghost part: { mine.parts ≡ 1 },
 }
 
-fn tell_take<R: Wait>(told: &mut String, rt: &R, queue: &Queue<u32>) -> Result<(), AllocError> {
-    match queue.take(rt) {
-        Some(item) => write!(told, "take {item}, "),
-        None => told.push_str("take none"),
+impl<L: Ledger> Hands<L> {
+    fn push<R: Wait>(&mut self, rt: &R, queue: &Queue<L, u32>, item: u32) -> Result<(), u32> {
+        let Hands { book, mine } = self;
+        book.add(mine, 1);
+        queue.push(rt, item, mine)
+    }
+
+    fn tell_push<R: Wait>(
+        &mut self,
+        told: &mut String,
+        rt: &R,
+        queue: &Queue<L, u32>,
+        item: u32,
+    ) -> Result<(), AllocError> {
+        match self.push(rt, queue, item) {
+            Ok(()) => write!(told, "push {item} taken, "),
+            Err(back) => write!(told, "push {item} gives {back} back, "),
+        }
+    }
+
+    fn tell_take<R: Wait>(
+        &mut self,
+        told: &mut String,
+        rt: &R,
+        queue: &Queue<L, u32>,
+    ) -> Result<(), AllocError> {
+        match queue.take(rt, &mut self.mine) {
+            Some(item) => write!(told, "take {item}, "),
+            None => told.push_str("take none"),
+        }
     }
 }
 
 /// Items come in order until the queue is closed.
-fn queued<R: Wait>(rt: &R, alloc: Global) -> Option<String> {
-    let Ok(queue) = Queue::new(alloc) else {
+fn queued<L: Ledger, R: Wait>(rt: &R, alloc: Global, blank: Blank) -> Option<String>
+    requires { (blank.name ≡ L.name) × (blank.parts ≡ L.parts) × (L.parts ≡ 2) }
+{
+    let (book, mut mine) = blank.open::<L>();
+    let Ok(queue) = Queue::new(alloc, mine.split_off(1, 0)) else {
         return None;
     };
+    let mut hands = Hands { book, mine };
     let mut told = String::new(alloc);
-    tell_push(&mut told, rt, &queue, 1).ok()?;
-    tell_push(&mut told, rt, &queue, 2).ok()?;
+    hands.tell_push(&mut told, rt, &queue, 1).ok()?;
+    hands.tell_push(&mut told, rt, &queue, 2).ok()?;
     queue.close(rt);
     told.push_str("closed, ").ok()?;
-    tell_push(&mut told, rt, &queue, 3).ok()?;
+    hands.tell_push(&mut told, rt, &queue, 3).ok()?;
     for _ in 0..3 {
-        tell_take(&mut told, rt, &queue).ok()?;
+        hands.tell_take(&mut told, rt, &queue).ok()?;
     }
     Some(told)
 }
@@ -70,7 +100,7 @@ fn shared_clock<R: Wait + Sync>(rt: &R, alloc: Global) -> Option<String> {
 pub(crate) fn print<R: Print + Wait + Sync>(rt: &R, alloc: Global) -> Result<()> {
     print_row(rt, "bell", rung(rt, alloc, 1))?;
     print_row(rt, "bell rung twice", rung(rt, alloc, 2))?;
-    print_row(rt, "queue", queued(rt, alloc))?;
+    print_row(rt, "queue", queued::<Brand, R>(rt, alloc, Blank::new(2)))?;
     print_row(rt, "shared clock", shared_clock(rt, alloc))?;
     Ok(())
 }

@@ -1,5 +1,14 @@
-use Rattle.std.proofs.Common.{length}
+use Rattle.rg_serve.specs.Held.{begun}
 use Rattle.rg_serve.proofs.serving.serve.Given as goal
 
-abbrev pub ghosts-serve_named : goal.ghosts-serve_named
-ghosts-serve_named g a = record { turn = a.turn.turn; book = a.refresher.publisher.book; entries = length a.seat.history; publications = length a.refresher.publisher.list }
+abbrev pub ghosts-serve_named-J-Naming : goal.ghosts-serve_named-J-Naming
+ghosts-serve_named-J-Naming g a = record {
+  turn = a.turn.turn;
+  opening = begun a.refresher.publisher;
+  plugin = a.refresher.service;
+  before = a.seat;
+  published = a.refresher.publisher.list;
+}
+
+abbrev pub ghosts-serve_named-J-Ledger : goal.ghosts-serve_named-J-Ledger
+ghosts-serve_named-J-Ledger g a = record { name = a.blank.name; parts = a.blank.parts }

@@ -1,5 +1,6 @@
 use Rattle.std.proofs.Common.{◌≡◌, ◌+◌}
 use Rattle.rg_serve.proofs.threads.accept_all.Given as goal
 
-abbrev pub invariant-loop-given : goal.invariant-loop-given
-invariant-loop-given g l = (g.N.Listener.given l.net ≡ g.N.Listener.given l.initial.net + l.given) × (g.N.Listener.faults l.net ≡ g.N.Listener.faults l.initial.net)
+abbrev pub invariant-loop-accepted : goal.invariant-loop-accepted
+invariant-loop-accepted g l =
+    (g.N.Listener.given l.net ≡ g.N.Listener.given l.initial.net + l.accepted) × (g.N.Listener.faults l.net ≡ g.N.Listener.faults l.initial.net) × (l.given.book.total ≡ l.accepted)

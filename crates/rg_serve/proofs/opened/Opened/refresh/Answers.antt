@@ -1,8 +1,8 @@
-use Rattle.std.proofs.Common.{◌≡◌, arith, length, subst}
+use Rattle.std.proofs.Common.{◌≡◌, arith, length, refl, subst}
 use Rattle.std.proofs.lemmas.Bool.Decides.{nat_tests}
 use Rattle.rg_serve.specs.Held.{held}
 use Rattle.rg_serve.specs.Opened.{IsRefreshed, Opened}
-use Rattle.rg_serve.proofs.Opening.{refreshed}
+use Rattle.rg_serve.proofs.Opening.{refreshed, refreshed_held}
 use Rattle.rg_serve.proofs.opened.Opened.refresh.Goals as goal
 
 pub returns-in-Ok : goal.returns-in-Ok
@@ -15,3 +15,13 @@ returns-in-Ok g c =
     subst (λ (o : Opened). IsRefreshed o c.in-Ok.refresh (held turn c.refresh.new.seat list seats)) c.self.view_is
     (refreshed c.self.inside.seat c.refresh.new.seat refresher.service refresher.publisher.list list c.refresh.new.self.seq c.in-Ok.refresh turn seats
     c.self.invariant.counted c.self.invariant.serves first c.in-Ok.ensures.downloaded c.in-Ok.ensures.refreshed)
+
+pub invariant_of-opened : goal.invariant_of-opened
+invariant_of-opened g c =
+    let refresher = c.self.inside.refresher in
+    let now = c.refresh.new.self in
+    let e = c.in-Ok.ensures in
+    let first : now.seq ≡ length c.self.inside.seat.calls = grind (arith, nat_tests) in
+    refreshed_held c.self.inside.seat c.refresh.new.seat refresher.service refresher.publisher.list now.publisher.list now.seq c.in-Ok.refresh c.self.inside.turn c.self.inside.seats.items
+    c.self.invariant.counted c.self.invariant.serves first e.downloaded e.refreshed
+    refresher.publisher now.publisher c.self.inside.passes.items refl refl c.self.invariant (e.same.0, e.same.1) now.service e.same.2 e.right

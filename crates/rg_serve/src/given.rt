@@ -1,0 +1,72 @@
+// How many links were given.
+ghost use Rattle.std.specs.Prelude.{◌≡◌, ◌+◌};
+ghost use Rattle.std.specs.Str.{chars};
+
+use crate::naming::Naming;
+use crate::places::Place;
+use crate::sessions::Sessions;
+use rg_hook::RequestHooks;
+use rg_ports::{Clock, Gate, Link};
+use rg_threads::{Queue, Waiting};
+use std::sync::ledger::{Book, Share};
+use std::sync::{Mutex, Wait};
+
+/// The book of the links, and the share of what gives them: nothing of it is in its hands between two links.
+#[derive(Drop)]
+pub(crate) struct Given<J: Naming> {
+    pub book: Book<J>,
+    pub mine: Share<J>,
+    pub ghost part: { mine.parts ≡ 1 },
+    pub ghost none: { mine.amount ≡ 0 },
+}
+
+/// The book of the links, with the parts of what gave them and of the queue, when all links were served.
+#[derive(Drop)]
+pub(crate) struct Counted<J: Naming> {
+    pub book: Book<J>,
+    pub mine: Share<J>,
+    pub ghost parts: { mine.parts ≡ 2 },
+    pub ghost none: { mine.amount ≡ 0 },
+}
+
+impl<J: Naming> Given<J> {
+    /// Puts one link more into the queue. Where the queue is closed the link is served with the things of the worker.
+    pub fn hand<T: Link + Drop, C: Clock, G: Gate, H: RequestHooks, R: Wait + Sync>(
+        &mut self,
+        rt: &R,
+        sessions: &Sessions<J, C, G>,
+        queue: &Queue<J, T>,
+        first: (&Place<J>, &Mutex<H>),
+        link: T,
+    )
+        requires turn { sessions.now.turn.now.turn ≡ J.turn }
+        requires plugin { chars sessions.now.plugin.now ≡ J.plugin }
+        ensures { self.new.book.total ≡ self.old.book.total + 1 }
+    {
+        let Given { book, mine } = self;
+        book.add(mine, 1);
+        match queue.push(rt, link, mine) {
+            Ok(()) => {}
+            Err(link) => {
+                let mut parts = first.0.lock(rt);
+                let mut hooks = first.1.lock(rt);
+                parts.serve(rt, sessions, &mut *hooks, link, mine);
+            }
+        }
+    }
+
+    /// With the share of a queue in which nothing is left.
+    pub fn settle<T: Drop>(self, left: Waiting<J, T>) -> Counted<J>
+        requires { left.share.amount ≡ 0 }
+        ensures { result.book.total ≡ self.book.total }
+    {
+        let Given { book, mut mine } = self;
+        let Waiting {
+            items: _,
+            is_closed: _,
+            share,
+        } = left;
+        mine.merge(share);
+        Counted { book, mine }
+    }
+}
