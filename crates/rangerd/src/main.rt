@@ -1,10 +1,21 @@
 // rangerd: Apache Ranger's policy administration and its enforcing plugin in one program.
 #![tactic(auto)]
 
+use std::io::ErrorKind;
 use std::process::ExitCode;
 use std::{env, io};
 
-fn main(rt: HostRuntime) -> io::Result<ExitCode> {
-    let words: Vec<String> = env::args(&rt)?.skip(1).collect(rt.alloc())?;
-    rg_run::start(&rt, &rt, words.as_slice())
+/// The words behind the program's name.
+fn words_of(rt: &HostRuntime) -> io::Result<Vec<String>> {
+    let words = env::args(rt)?.skip(1).collect(rt.alloc())?;
+    Ok(words)
+}
+
+fn main(rt: HostRuntime) -> ExitCode {
+    match words_of(&rt) {
+        Ok(words) => rg_run::start(&rt, &rt, words.as_slice()),
+        // A word that isn't UTF-8 asks for no command.
+        Err(error) if error.kind() == ErrorKind::InvalidData => rg_run::start(&rt, &rt, &[]),
+        Err(_) => rg_run::out_of_memory(),
+    }
 }

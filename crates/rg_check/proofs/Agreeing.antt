@@ -77,7 +77,7 @@ refresh_agrees r None p e h = cc
 refresh_agrees r (Some q) p e h = (refl, refl, still_published r.published (refresh_publishes r q) h)
 
 decide_agrees : (r : Running) (q : AccessRequest) (o : Option Publication) (p : Publication) → o ≡ Some p → 0 < length r.published
-    → Agrees (state.Config r) (Some (line.Decide q)) None (option_map (deciding (state.Config r) q) (option_map (λ p. decision_of p q) o))
+    → Agrees (state.Config r) (Some (line.Decide q)) None (option_map (deciding (state.Config r) r.plugin q) (option_map (λ p. decision_of p q) o))
 decide_agrees r q None p e h = cc
 decide_agrees r q (Some b) p e h = (refl, refl, h)
 

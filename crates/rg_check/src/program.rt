@@ -1,5 +1,5 @@
 // From the bytes of a script to the text that names its bad lines.
-ghost use Rattle.std.specs.Prelude.{◌≡◌, IfOk};
+ghost use Rattle.std.specs.Prelude.{◌≡◌};
 ghost use Rattle.std.specs.Process.{exit_status};
 ghost use Rattle.rg_work.specs.Ports.{ports};
 ghost use Rattle.rg_work.specs.Runs.{IsRun, OfStatus, Stands};
@@ -15,7 +15,6 @@ use rg_sound::sound_without_cause;
 use rg_work::{Status, work_script};
 use rg_zones::zones_apart_by_pairs;
 use std::alloc::Global;
-use std::io;
 use std::process::ExitCode;
 
 /// The status of a check: a script with a bad line isn't done.
@@ -54,12 +53,12 @@ pub fn check<S: Source, K: Sink, C: Clock>(
 }
 
 /// Checks standard input, and names its bad lines on standard output. The answer is what `main` ends with.
-pub fn start(rt: &HostRuntime) -> io::Result<ExitCode>
-    ensures { IfOk result (λ code. IsEnd (exit_status code)) }
+pub fn start(rt: &HostRuntime) -> ExitCode
+    ensures { IsEnd (exit_status result) }
 {
     let mut source = StdSource::new(rt.stdin());
     let mut sink = StdSink::new(rt.stdout());
-    let mut clock = WallClock(rt.clone()?);
+    let mut clock = WallClock(*rt);
     let status = check(rt.alloc(), &mut source, &mut sink, &mut clock);
-    Ok(ExitCode::from(status))
+    ExitCode::from(status)
 }

@@ -27,7 +27,7 @@ fn unquoted(string: &str) -> Option<&str>
     before_quote(past_quote(string)?)
 }
 
-/// The text as a JSON string spells it (RFC 8259, section 7), so that no control in it breaks a line or reaches a terminal.
+/// The text as a JSON string spells it (RFC 8259, section 7), so that no control below U+0020 breaks a line or reaches a terminal.
 pub(crate) fn spelled(alloc: Global, text: &str) -> Result<String, NoMemory>
     ensures { IfOk result (λ s. string_bytes s ≡ escape text.now) }
 {

@@ -101,10 +101,10 @@ reopen_adds (Some o) records w e =
     opened_adds (record { config = o.config; admin = replayed o.config records }) records records (Some o) (kept_line (length records)) w (grows_none records) e
 
 decided_adds : (decision : Option Decision) (o : Opened) (records : List (List ℕ)) (q : AccessRequest) (w : Work State)
-    → option_map (deciding (at (Some o) records) q) decision ≡ Some w → OnlyAdds (Some o) records w
+    → option_map (deciding (at (Some o) records) o.admin.state.plugin q) decision ≡ Some w → OnlyAdds (Some o) records w
 decided_adds None o records q w e = absurd (cc e)
 decided_adds (Some d) o records q w e =
-    adds_so (Some o) records (deciding (at (Some o) records) q d) w e (record { grows = grows_none records; unopened = λ none. absurd (cc none) })
+    adds_so (Some o) records (deciding (at (Some o) records) o.admin.state.plugin q d) w e (record { grows = grows_none records; unopened = λ none. absurd (cc none) })
 
 decide_adds : (o : Option Opened) (records : List (List ℕ)) (q : AccessRequest) (w : Work State) → decide_work o records q ≡ Some w → OnlyAdds o records w
 unfolding decide_work

@@ -239,7 +239,7 @@ decided_makes : (told : Option (List (List ℕ))) (o : Opened) (q : AccessReques
     → Makes told (λ records. decide_work (Some o) records q) told (Some o) (decision_line d)
 unfolding decide_work
 decided_makes None o q d is = refl
-decided_makes (Some records) o q d is = (deciding (at (Some o) records) q d, ap (option_map (deciding (at (Some o) records) q)) is, refl, refl, refl)
+decided_makes (Some records) o q d is = (deciding (at (Some o) records) o.admin.state.plugin q d, ap (option_map (deciding (at (Some o) records) o.admin.state.plugin q)) is, refl, refl, refl)
 
 pub decided_goes : (told : Option (List (List ℕ))) (o : Opened) (q : AccessRequest) (d : Decision) (old new : List ℕ) → decision_now o.admin q ≡ Some d → new ≡ old ++ decision_line d
     → Goes told (λ records. decide_work (Some o) records q) told (Some o) old new

@@ -76,9 +76,14 @@ unfoldable pub reopen_work : Option Opened → List (List ℕ) → Option (Work 
 reopen_work None records = None
 reopen_work (Some o) records = Some (prints (kept_line (length records)) (at (Some (record { config = o.config; admin = replayed o.config records })) records))
 
+-- the service that requests go to
+abbrev pub service_of : Option Opened → List ℕ
+service_of None = []
+service_of (Some o) = o.admin.state.plugin
+
 -- and requests are decided over what the plugin sees then
 unfoldable pub decide_work : Option Opened → List (List ℕ) → AccessRequest → Option (Work State)
-decide_work o records q = option_map (deciding (at o records) q) (option_and_then (λ (opened : Opened). decision_now opened.admin q) o)
+decide_work o records q = option_map (deciding (at o records) (service_of o) q) (option_and_then (λ (opened : Opened). decision_now opened.admin q) o)
 
 abbrev pub line_work : Option Opened → List (List ℕ) → Option KeepLine → Option (Work State)
 line_work o records None = None

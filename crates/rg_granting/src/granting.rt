@@ -1,7 +1,6 @@
 // An administration with grants, and what its plugin decides.
-ghost use Rattle.std.specs.Prelude.{◌≡◌, Some, IfOk, OnErr};
+ghost use Rattle.std.specs.Prelude.{◌≡◌, IfOk, OnErr};
 ghost use Rattle.rg_admin.specs.Starting.{start_fault, started_unless};
-ghost use Rattle.rg_current.specs.Current.{decision_now};
 ghost use Rattle.rg_grant.specs.Steps.{granted};
 
 use rg_admin::{Admin, StartFault};
@@ -11,6 +10,7 @@ use rg_current::decide_now;
 use rg_facts::Decision;
 use rg_grant::{GrantAsk, GrantDesk};
 use rg_policy::AccessRequest;
+use rg_work::Decider;
 use std::alloc::Global;
 use std::marker::Model;
 
@@ -49,12 +49,22 @@ impl Granting {
     {
         self.desk.step(alloc, ask)
     }
+}
+
+impl Decider for Granting {
+    ghost use Rattle.rg_current.specs.Current.{decision_now};
+
+    ghost served = { λ a. a.state.plugin };
+
+    ghost decides = { decision_now };
+
+    fn service(&self) -> &str {
+        self.desk.admin.state().plugin.as_str()
+    }
 
     /// Decides the request over what the plugin sees now. Nothing is published, so the serial is 0. Want of memory is also
     /// answered once `2^62` entries are counted.
-    pub fn decide(&self, alloc: Global, request: &AccessRequest) -> Result<Decision, NoMemory>
-        ensures { IfOk result (λ d. decision_now self.now request.now ≡ Some d) }
-    {
+    fn decide(&mut self, alloc: Global, request: &AccessRequest) -> Result<Decision, NoMemory> {
         decide_now(alloc, &self.desk.admin, request)
     }
 }

@@ -18,6 +18,7 @@ use Rattle.rg_work.specs.Follow.{IsWorked}
 use Rattle.rg_replay.specs.Grants.{ask_work}
 use Rattle.rg_replay.specs.Replay.{admin_work, published_facts, refresh_line, refresh_work, refreshed_from}
 use Rattle.rg_work.specs.Printed.{reply_line}
+use Rattle.rg_work.proofs.Hooks.{carried, carried_silent, carries_bad, carries_hooks, judged_audited, judged_worked}
 
 pub asked_work : (r later : Running) (ask : Ask) (reply : AdminReply) (text text' : List ℕ) → later ≡ asked r ask → reply ≡ (step r.admin ask).1 → text' ≡ text ++ reply_line reply
     → IsWorked (admin_work (state.Config r) ask) (state.Config later) text text'
@@ -41,6 +42,12 @@ refreshed_work r later serial text text' (p, last, is) printed =
 -- a decision by the newest publication
 pub decided_last : (r : Running) (q : AccessRequest) (d : Decision) → Ends r.published (λ p. d ≡ decision_of p q) → Some d ≡ option_map (λ p. decision_of p q) (newest r)
 decided_last r q d (p, last, is) = subst (λ o. Some d ≡ option_map (λ p. decision_of p q) o) (sym last) (ap Some is)
+
+-- a request that was judged
+pub ruleset judging = (judged_worked, judged_audited)
+
+-- a line that decides nothing, with hooks
+pub ruleset carrying = (carried, carried_silent, carries_hooks, carries_bad)
 
 -- what holds where the line is written
 pub written_so : {A E : Type 0} (result : Result A E) (P Q : Type 0) → (P → Q) → OnOk result P → OnOk result Q

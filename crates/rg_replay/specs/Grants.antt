@@ -1,5 +1,5 @@
 -- The command `grants`: a script of an administration with grants, and of what its plugin decides.
-use Rattle.std.specs.Prelude.{ℕ, List, [], Option, Some, None, option_map, option_and_then}
+use Rattle.std.specs.Prelude.{ℕ, List, [], Option, Some, None, option_map}
 use Rattle.rg_base.specs.declared.numbers.Moment.{Moment}
 use Rattle.rg_policy.specs.declared.request.AccessRequest.{AccessRequest}
 use Rattle.rg_cmd.specs.declared.ask.AdminReply.{AdminReply}
@@ -12,8 +12,10 @@ use Rattle.rg_current.specs.Current.{decision_now}
 use Rattle.rg_granting.specs.Lines.{grant_line_of}
 use Rattle.rg_granting.specs.declared.line.GrantLine.{GrantLine}
 use Rattle.rg_granting.specs.declared.line.GrantLine.TheVariants as line
+use Rattle.rg_hook.specs.Enriching.{EnricherState}
 use Rattle.rg_work.specs.Follow.{Output, Work, worked}
-use Rattle.rg_work.specs.Printed.{deciding, quiet, reply_line}
+use Rattle.rg_work.specs.Hooked.{Hooked, carrying, hooked, judged, with_enrichers}
+use Rattle.rg_work.specs.Printed.{quiet, reply_line}
 
 -- the administration; None before the configuration
 abbrev pub State : Type 0
@@ -35,23 +37,25 @@ unfoldable pub ask_work : State → GrantAsk → Option (Work State)
 ask_work (Some a) ask = Some (replied (granted a ask))
 ask_work None ask = None
 
--- and requests are decided over what the plugin sees then
-unfoldable pub decide_work : State → AccessRequest → Option (Work State)
-decide_work s q = option_map (deciding s q) (option_and_then (λ a. decision_now a q) s)
+-- and requests are enriched, and decided over what the plugin sees then
+unfoldable pub judge_work : State → List EnricherState → AccessRequest → Option (Work (Hooked State))
+judge_work None es q = None
+judge_work (Some a) es q = judged (Some a) a.state.plugin es (decision_now a) q
 
-abbrev pub line_work : State → Option GrantLine → Option (Work State)
-line_work s None = None
-line_work s (Some line.Blank) = Some (quiet s)
-line_work s (Some (line.Config config)) = start_work s config
-line_work s (Some (line.Ask ask)) = ask_work s ask
-line_work s (Some (line.Decide q)) = decide_work s q
+-- the other lines leave the enrichers alone
+abbrev pub line_work : State → List EnricherState → Option GrantLine → Option (Work (Hooked State))
+line_work s es None = None
+line_work s es (Some line.Blank) = Some (carrying es (quiet s))
+line_work s es (Some (line.Config config)) = option_map (carrying es) (start_work s config)
+line_work s es (Some (line.Ask ask)) = option_map (carrying es) (ask_work s ask)
+line_work s es (Some (line.Decide q)) = judge_work s es q
 
 -- ---- the script
 
--- a line in a state at its moment
-abbrev pub grants_step : State → List ℕ → Moment → Option (Work State)
-grants_step s bytes now = line_work s (grant_line_of bytes now)
+-- a line in a state and with these enrichers, at its moment
+abbrev pub grants_step : State → List EnricherState → List ℕ → Moment → Option (Work (Hooked State))
+grants_step s es bytes now = line_work s es (grant_line_of bytes now)
 
--- what the lines come to, each read and worked at its moment
-abbrev pub grants : List (List ℕ) → List Moment → Option (Output State)
-grants = worked grants_step None 1
+-- what the lines come to with these enrichers, each read and worked at its moment
+abbrev pub grants : List EnricherState → List (List ℕ) → List Moment → Option (Output (Hooked State))
+grants es = worked (with_enrichers grants_step) (hooked None es) 1

@@ -19,7 +19,9 @@ use Rattle.rg_script.specs.declared.line.Line.TheVariants as line
 use Rattle.rg_script.specs.Line.{line_of}
 use Rattle.rg_replay.specs.declared.replay.Stage.{Stage}
 use Rattle.rg_replay.specs.declared.replay.Stage.TheVariants as state
+use Rattle.rg_hook.specs.Enriching.{EnricherState}
 use Rattle.rg_work.specs.Follow.{Output, Work, worked}
+use Rattle.rg_work.specs.Hooked.{Hooked, carrying, hooked, judged, with_enrichers}
 use Rattle.rg_work.specs.Printed.{deciding, quiet, reply_line}
 
 -- how far a script has come: only blank lines, facts that are published, or an administration that is running
@@ -73,8 +75,19 @@ newest_of (state.Config r) = newest r
 abbrev pub decision_by_newest : State → AccessRequest → Option Decision
 decision_by_newest s q = option_map (λ p. decision_of p q) (newest_of s)
 
+-- the service that they go to
+abbrev pub service_of : State → List ℕ
+service_of state.Empty = []
+service_of (state.Facts facts) = facts.service
+service_of (state.Config r) = r.plugin
+
+-- without enrichers
 unfoldable pub decide_work : State → AccessRequest → Option (Work State)
-decide_work s q = option_map (deciding s q) (decision_by_newest s q)
+decide_work s q = option_map (deciding s (service_of s) q) (decision_by_newest s q)
+
+-- and with them
+unfoldable pub judge_work : State → List EnricherState → AccessRequest → Option (Work (Hooked State))
+judge_work s es q = judged s (service_of s) es (decision_by_newest s) q
 
 abbrev pub line_work : State → Option Line → Option (Work State)
 line_work s None = None
@@ -87,10 +100,22 @@ line_work s (Some (line.Decide q)) = decide_work s q
 
 -- ---- the script
 
--- a line in a state at its moment
+-- a line in a state at its moment, without enrichers
 abbrev pub replay_step : State → List ℕ → Moment → Option (Work State)
 replay_step s bytes now = line_work s (line_of bytes now)
 
--- what the lines come to, each read and worked at its moment
+-- what the lines come to without enrichers, each read and worked at its moment
 abbrev pub replayed : List (List ℕ) → List Moment → Option (Output State)
 replayed = worked replay_step state.Empty 1
+
+-- with enrichers, which leave all lines alone but those that decide
+abbrev pub line_work_with : State → List EnricherState → Option Line → Option (Work (Hooked State))
+line_work_with s es (Some (line.Decide q)) = judge_work s es q
+line_work_with s es read = option_map (carrying es) (line_work s read)
+
+abbrev pub replay_step_with : State → List EnricherState → List ℕ → Moment → Option (Work (Hooked State))
+replay_step_with s es bytes now = line_work_with s es (line_of bytes now)
+
+-- what the lines come to with these enrichers
+abbrev pub replayed_with : List EnricherState → List (List ℕ) → List Moment → Option (Output (Hooked State))
+replayed_with es = worked (with_enrichers replay_step_with) (hooked state.Empty es) 1

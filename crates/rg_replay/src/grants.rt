@@ -1,17 +1,17 @@
 // The command `grants`: a script of an administration with grants, and of what its plugin decides.
-ghost use Rattle.std.specs.Prelude.{◌≡◌, [], Err, None, Some, IfOk, OnOk, option_and_then, string_bytes};
-ghost use Rattle.rg_current.specs.Current.{decision_now};
+ghost use Rattle.std.specs.Prelude.{◌≡◌, [], Err, None, Some, OnErr, OnOk, string_bytes};
 ghost use Rattle.rg_work.specs.Follow.{IsWorked};
-ghost use Rattle.rg_replay.specs.Grants.{ask_work, decide_work, start_work};
+ghost use Rattle.rg_work.specs.Hooked.{HaveRunOn, IsAudited, hooked, hooks_of};
+ghost use Rattle.rg_replay.specs.Grants.{ask_work, judge_work, start_work};
 
 use rg_base::{Moment, NoMemory};
 use rg_cmd::Config;
-use rg_facts::Decision;
 use rg_grant::GrantAsk;
 use rg_granting::{GrantLine, Granting, read_grant_line};
+use rg_hook::RequestHooks;
 use rg_policy::AccessRequest;
 use rg_script::LineFault;
-use rg_work::{Worker, add_decision, add_reply};
+use rg_work::{HookedWorker, add_reply, judge};
 use std::alloc::Global;
 use std::marker::Model;
 use std::mem;
@@ -94,56 +94,52 @@ impl Grants {
         }
     }
 
-    /// The decision over what the plugin sees now; None before the configuration.
-    fn decided(&self, alloc: Global, request: &AccessRequest) -> Result<Option<Decision>, NoMemory>
-        ensures { IfOk result (λ d. d ≡ option_and_then (λ a. decision_now a request.now) self.now) }
-    {
-        match &self.granting {
-            Some(granting) => Ok(Some(granting.decide(alloc, request)?)),
-            None => Ok(None),
-        }
-    }
-
-    /// Prints the decision over what the plugin sees now.
-    #[tactic(auto, unfolding(crate::specs::Grants::decide_work))]
-    fn decide(
-        &self,
+    /// Decides the request over what the plugin sees now, prints the decision, and audits it.
+    #[tactic(auto, using(crate::proofs::Working::judging), unfolding(crate::specs::Grants::judge_work))]
+    fn decide<H: RequestHooks>(
+        &mut self,
         alloc: Global,
-        request: &AccessRequest,
+        request: &mut AccessRequest,
         text: &mut String,
+        hooks: &mut H,
     ) -> Result<(), LineFault>
-        ensures worked { OnOk result (IsWorked (decide_work self.now request.now) self.now (string_bytes text.old) (string_bytes text.new)) }
-        ensures bad { result ≡ Err LineFault.Bad → (decide_work self.now request.now ≡ None) × (string_bytes text.new ≡ string_bytes text.old) }
+        ensures same { self.new ≡ self.old }
+        ensures worked { OnOk result (IsWorked (judge_work self.old (H.enrichers hooks.old) request.old) (hooked self.old (H.enrichers hooks.new)) (string_bytes text.old) (string_bytes text.new)) }
+        ensures audited { OnOk result (IsAudited (judge_work self.old (H.enrichers hooks.old) request.old) (hooks_of (H.sinks hooks.old) (H.enrichers hooks.old)) (hooks_of (H.sinks hooks.new) (H.enrichers hooks.new))) }
+        ensures bad { result ≡ Err LineFault.Bad → judge_work self.old (H.enrichers hooks.old) request.old ≡ None }
+        ensures unchanged { result ≡ Err LineFault.Bad → (string_bytes text.new ≡ string_bytes text.old) × (H.enrichers hooks.new ≡ H.enrichers hooks.old) }
+        ensures unheard { OnErr result (H.sinks hooks.new ≡ H.sinks hooks.old) }
+        ensures in_part { OnErr result (HaveRunOn (H.enrichers hooks.old) (H.enrichers hooks.new)) }
     {
-        let decision = match self.decided(alloc, request) {
-            Ok(Some(decision)) => decision,
-            Ok(None) => return Err(LineFault::Bad),
-            Err(_) => return Err(LineFault::NoMemory),
-        };
-        match add_decision(alloc, text, &decision) {
-            Ok(()) => Ok(()),
-            Err(_) => Err(LineFault::NoMemory),
+        match &mut self.granting {
+            None => Err(LineFault::Bad),
+            Some(granting) => match judge(alloc, granting, request, text, hooks) {
+                Ok(()) => Ok(()),
+                Err(_) => Err(LineFault::NoMemory),
+            },
         }
     }
 }
 
-impl Worker for Grants {
+impl HookedWorker for Grants {
     ghost use Rattle.rg_replay.specs.Grants.{grants_step};
 
-    ghost step = { grants_step };
+    ghost hooked_step = { grants_step };
 
-    fn work(
+    #[tactic(auto, using(crate::proofs::Working::carrying))]
+    fn work_hooked<H: RequestHooks>(
         &mut self,
         alloc: Global,
         line: &[u8],
         now: Moment,
         text: &mut String,
+        hooks: &mut H,
     ) -> Result<(), LineFault> {
         match read_grant_line(alloc, line, now) {
             Ok(GrantLine::Blank) => Ok(()),
             Ok(GrantLine::Config(config)) => self.start(alloc, config),
             Ok(GrantLine::Ask(ask)) => self.ask(alloc, ask, text),
-            Ok(GrantLine::Decide(request)) => self.decide(alloc, &request, text),
+            Ok(GrantLine::Decide(mut request)) => self.decide(alloc, &mut request, text, hooks),
             Err(fault) => Err(fault),
         }
     }

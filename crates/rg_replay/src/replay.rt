@@ -1,39 +1,45 @@
 // The command `replay`: a script of facts, or of an administration and its plugin.
-ghost use Rattle.std.specs.Prelude.{◌≡◌, ◌++◌, [], Err, None, Some, true, IfOk, OnOk, string_bytes};
+ghost use Rattle.std.specs.Prelude.{◌≡◌, ◌++◌, [], Err, None, Some, true, IfOk, OnErr, OnOk, string_bytes};
 ghost use Rattle.rg_facts.specs.Sound.{sound};
 ghost use Rattle.rg_admin.specs.Starting.{start_fault};
 ghost use Rattle.rg_running.specs.Running.{opened_unless};
 ghost use Rattle.rg_work.specs.Follow.{IsWorked};
-ghost use Rattle.rg_replay.specs.Replay.{admin_work, config_work, decide_work, decision_by_newest, facts_work, published_facts, refresh_line, refresh_work};
+ghost use Rattle.rg_work.specs.Hooked.{HaveRunOn, IsAudited, hooked, hooks_of};
+ghost use Rattle.rg_replay.specs.Replay.{admin_work, config_work, facts_work, judge_work, published_facts, refresh_line, refresh_work};
 ghost use Rattle.rg_replay.specs.Report.{AreSound};
 
-use rg_base::{Moment, NoMemory, Serial, Steps};
+use rg_base::{Moment, NoMemory, Serial, Steps, Text, TryCopy};
 use rg_cmd::{Ask, Config};
 use rg_engine::{Engine, numbered};
 use rg_facts::{Decision, Facts};
+use rg_hook::RequestHooks;
 use rg_policy::AccessRequest;
 use rg_running::Running;
 use rg_script::{Line, LineFault, read_line};
 use rg_sound::facts_fault;
-use rg_work::{Worker, add_decision, add_reply};
+use rg_work::{Decider, HookedWorker, add_reply, judge};
 use std::alloc::Global;
 use std::marker::Model;
 use std::mem;
 use std::sync::{Arc, Wait};
 
-/// The engine over the facts of a script. Contracts see the facts.
+/// The engine over the facts of a script, and the name of their service. Contracts see the facts.
 #[derive(Drop)]
 pub struct Published {
+    service: Text,
     engine: Arc<Engine>,
 }
 
 impl Model for Published {
+    ghost use Rattle.std.specs.Prelude.{◌≡◌};
     ghost use Rattle.std.specs.Arc.{arc_value};
     ghost use Rattle.rg_facts.specs.declared.facts.Facts.{Facts};
 
     ghost Value = { Facts };
 
     ghost view = { λ p. arc_value p.engine };
+
+    ghost invariant = { λ p. p.service ≡ (arc_value p.engine).service };
 }
 
 impl Published {
@@ -42,6 +48,26 @@ impl Published {
         ensures { result.now ≡ self.now }
     {
         &self.engine
+    }
+}
+
+impl Decider for Published {
+    ghost use Rattle.std.specs.Prelude.{Some};
+    ghost use Rattle.rg_publish.specs.Passes.{decision_of};
+    ghost use Rattle.rg_publish.specs.Publications.{publication};
+
+    ghost served = { λ facts. facts.service };
+
+    ghost decides = { λ facts q. Some (decision_of (publication 1 0 facts) q) };
+
+    fn service(&self) -> &str {
+        self.service.as_str()
+    }
+
+    fn decide(&mut self, alloc: Global, request: &AccessRequest) -> Result<Decision, NoMemory> {
+        let engine = &*self.engine;
+        let decision = engine.decide(alloc, request, &mut Steps::silent())?;
+        Ok(numbered(decision, Serial(1)))
     }
 }
 
@@ -58,6 +84,24 @@ impl<'a, R: Wait> Model for Administered<'a, R> {
     ghost Value = { the.Running };
 
     ghost view = { λ a. box_value a.running };
+}
+
+impl<'a, R: Wait> Decider for Administered<'a, R> {
+    ghost use Rattle.std.specs.Prelude.{option_map};
+    ghost use Rattle.rg_publish.specs.Passes.{decision_of};
+    ghost use Rattle.rg_running.specs.Running.{newest};
+
+    ghost served = { λ r. r.plugin };
+
+    ghost decides = { λ r q. option_map (λ p. decision_of p q) (newest r) };
+
+    fn service(&self) -> &str {
+        self.running.plugin()
+    }
+
+    fn decide(&mut self, alloc: Global, request: &AccessRequest) -> Result<Decision, NoMemory> {
+        self.running.decide(alloc, request, &mut Steps::silent())
+    }
 }
 
 /// How far a script has come.
@@ -108,9 +152,16 @@ fn build(alloc: Global, facts: Facts) -> Result<Option<Published>, NoMemory>
     requires { sound facts ≡ true }
     ensures { IfOk result (λ engine. engine ≡ Some facts) }
 {
+    let service = match facts.service.try_copy(alloc) {
+        Ok(service) => service,
+        Err(refused) => {
+            drop(facts);
+            return Err(refused);
+        }
+    };
     let engine = Engine::build(alloc, facts, &mut Steps::silent())?;
     let engine = Arc::new(alloc, engine)?;
-    Ok(Some(Published { engine }))
+    Ok(Some(Published { service, engine }))
 }
 
 /// The engine over facts that are sound; None for facts that aren't.
@@ -276,60 +327,50 @@ impl<'a, R: Wait> Replay<'a, R> {
         }
     }
 
-    /// The decision by what is published last; None before anything is.
-    fn decided(
+    /// Decides the request by what is published last, prints the decision, and audits it.
+    #[tactic(auto, using(crate::proofs::Working::judging), unfolding(crate::specs::Replay::judge_work))]
+    fn decide<H: RequestHooks>(
         &mut self,
         alloc: Global,
-        request: &AccessRequest,
-    ) -> Result<Option<Decision>, NoMemory>
+        request: &mut AccessRequest,
+        text: &mut String,
+        hooks: &mut H,
+    ) -> Result<(), LineFault>
         ensures same { self.new ≡ self.old }
-        ensures decision { IfOk result (λ d. d ≡ decision_by_newest self.old request.now) }
+        ensures worked { OnOk result (IsWorked (judge_work self.old (H.enrichers hooks.old) request.old) (hooked self.old (H.enrichers hooks.new)) (string_bytes text.old) (string_bytes text.new)) }
+        ensures audited { OnOk result (IsAudited (judge_work self.old (H.enrichers hooks.old) request.old) (hooks_of (H.sinks hooks.old) (H.enrichers hooks.old)) (hooks_of (H.sinks hooks.new) (H.enrichers hooks.new))) }
+        ensures bad { result ≡ Err LineFault.Bad → judge_work self.old (H.enrichers hooks.old) request.old ≡ None }
+        ensures unchanged { result ≡ Err LineFault.Bad → (string_bytes text.new ≡ string_bytes text.old) × (H.enrichers hooks.new ≡ H.enrichers hooks.old) }
+        ensures unheard { OnErr result (H.sinks hooks.new ≡ H.sinks hooks.old) }
+        ensures in_part { OnErr result (HaveRunOn (H.enrichers hooks.old) (H.enrichers hooks.new)) }
     {
         match &mut self.stage {
-            Stage::Empty => Ok(None),
-            Stage::Facts(published) => {
-                let engine = &*published.engine;
-                let decision = engine.decide(alloc, request, &mut Steps::silent())?;
-                Ok(Some(numbered(decision, Serial(1))))
-            }
-            Stage::Config(a) => Ok(Some(a.running.decide(alloc, request, &mut Steps::silent())?)),
-        }
-    }
-
-    /// Prints the decision by what is published last.
-    #[tactic(auto, unfolding(crate::specs::Replay::decide_work))]
-    fn decide(
-        &mut self,
-        alloc: Global,
-        request: &AccessRequest,
-        text: &mut String,
-    ) -> Result<(), LineFault>
-        ensures worked { OnOk result (IsWorked (decide_work self.old request.now) self.new (string_bytes text.old) (string_bytes text.new)) }
-        ensures bad { result ≡ Err LineFault.Bad → (decide_work self.old request.now ≡ None) × (self.new ≡ self.old) × (string_bytes text.new ≡ string_bytes text.old) }
-    {
-        let decision = match self.decided(alloc, request) {
-            Ok(Some(decision)) => decision,
-            Ok(None) => return Err(LineFault::Bad),
-            Err(_) => return Err(LineFault::NoMemory),
-        };
-        match add_decision(alloc, text, &decision) {
-            Ok(()) => Ok(()),
-            Err(_) => Err(LineFault::NoMemory),
+            Stage::Empty => Err(LineFault::Bad),
+            Stage::Facts(published) => match judge(alloc, published, request, text, hooks) {
+                Ok(()) => Ok(()),
+                Err(_) => Err(LineFault::NoMemory),
+            },
+            Stage::Config(administered) => match judge(alloc, administered, request, text, hooks) {
+                Ok(()) => Ok(()),
+                Err(_) => Err(LineFault::NoMemory),
+            },
         }
     }
 }
 
-impl<'a, R: Wait> Worker for Replay<'a, R> {
-    ghost use Rattle.rg_replay.specs.Replay.{replay_step};
+impl<'a, R: Wait> HookedWorker for Replay<'a, R> {
+    ghost use Rattle.rg_replay.specs.Replay.{replay_step_with};
 
-    ghost step = { replay_step };
+    ghost hooked_step = { replay_step_with };
 
-    fn work(
+    #[tactic(auto, using(crate::proofs::Working::carrying))]
+    fn work_hooked<H: RequestHooks>(
         &mut self,
         alloc: Global,
         line: &[u8],
         now: Moment,
         text: &mut String,
+        hooks: &mut H,
     ) -> Result<(), LineFault> {
         match read_line(alloc, line, now) {
             Ok(Line::Blank) => Ok(()),
@@ -337,7 +378,7 @@ impl<'a, R: Wait> Worker for Replay<'a, R> {
             Ok(Line::Config(config)) => self.start(alloc, config),
             Ok(Line::Admin(ask)) => self.ask(alloc, ask, text),
             Ok(Line::Refresh) => self.refresh(alloc, text),
-            Ok(Line::Decide(request)) => self.decide(alloc, &request, text),
+            Ok(Line::Decide(mut request)) => self.decide(alloc, &mut request, text, hooks),
             Err(fault) => Err(fault),
         }
     }

@@ -1,3 +1,4 @@
+pub mod Hooks
 pub mod CommandLine
 pub mod Numbers
 pub mod Runs

@@ -1,22 +1,25 @@
 -- From a run of each command to the whole.
-use Rattle.std.proofs.Common.{◌≡◌, ◌⊎◌, arith, ℕ, List, Bool, true, false, Option, Some, None, inl, inr, refl, sym, subst}
+use Rattle.std.proofs.Common.{◌≡◌, ◌⊎◌, arith, ℕ, List, [], Bool, true, false, Option, Some, None, inl, inr, refl, sym, subst}
 use Rattle.rg_work.specs.declared.status.Status.{Status}
 use Rattle.rg_work.specs.declared.status.Status.TheVariants.{Done, Usage, BadLine, ReadFault, WriteFault, NetFault, TooLong, KeepFault, NoMemory, BadRecord}
 use Rattle.rg_work.specs.Limits.{is_too_long}
-use Rattle.rg_work.specs.Ports.{Ports}
-use Rattle.rg_work.specs.Runs.{IsRun, Overran}
+use Rattle.rg_work.specs.Ports.{Ports, ports}
+use Rattle.rg_work.specs.Runs.{IsRun, Overran, StandsHooked}
 use Rattle.rg_work.specs.Statuses.{number_of}
+use Rattle.rg_work.proofs.HookedRuns.{run_alone}
 use Rattle.rg_work.proofs.Runs.{completes, in_limits}
-use Rattle.rg_replay.specs.Grants.{grants}
-use Rattle.rg_replay.specs.Replay.{replayed}
+use Rattle.rg_work.specs.Follow.{worked}
+use Rattle.rg_work.specs.Hooked.{Hooked, hooked, hooks_of, with_enrichers}
+use Rattle.rg_replay.specs.Grants.{State, grants, grants_step}
+use Rattle.rg_replay.specs.Replay.{replayed_with}
 use Rattle.rg_replay.specs.Report.{reported}
-use Rattle.rg_service.specs.Serve.{Door}
+use Rattle.rg_service.specs.Serve.{Door, door}
 use Rattle.rg_service.specs.Serves.{ServesLinks}
-use Rattle.rg_custody.specs.Custody.{ByRecords, Keeps, Shelf}
+use Rattle.rg_custody.specs.Custody.{ByRecords, Keeps, Shelf, shelf}
 use Rattle.rg_run.specs.declared.command.Command.{Command}
 use Rattle.rg_run.specs.declared.command.Command.TheVariants.{Replay, Serve, Drill, Grants, Report, Keep}
 use Rattle.rg_run.specs.Commands.{takes_keeper}
-use Rattle.rg_run.specs.Runs.{Answers, Around, IsEndOf}
+use Rattle.rg_run.specs.Runs.{Answers, Around, IsEndOf, around}
 
 -- ---- the keeper's records
 
@@ -42,10 +45,10 @@ no_links (Some found) now p q by = by.2
 -- memory was refused before anything was done
 pub undone : (a : Around) (command : Option Command) (p : Ports) → IsRun (Answers a a command) p p NoMemory
 undone a None p = record { stands = refl; reads = refl; writes = refl }
-undone a (Some Replay) p = record { stands = (refl, inl refl); reads = refl; writes = refl }
+undone a (Some Replay) p = record { stands = (refl, inl (refl, refl)); reads = refl; writes = refl }
 undone a (Some (Serve address links)) p = record { stands = (inl (refl, refl), refl); reads = refl; writes = refl }
 undone a (Some (Drill seed policies requests)) p = record { stands = refl; reads = refl; writes = refl }
-undone a (Some Grants) p = record { stands = (refl, inl refl); reads = refl; writes = refl }
+undone a (Some Grants) p = record { stands = (refl, inl (refl, refl)); reads = refl; writes = refl }
 undone a (Some Report) p = record { stands = (refl, inl refl); reads = refl; writes = refl }
 undone a (Some Keep) p = record { stands = (unkept a.shelf.records p, omega arith); reads = refl; writes = refl }
 
@@ -103,8 +106,10 @@ module _ (p q : Ports) (n : ℕ) (bytes : List ℕ) (reads : q.read_faults ≡ p
   -- for each command
   pub completed : (a b : Around) (asked : Option Command) (command : Command) (status : Status) → asked ≡ Some command → n ≡ number_of status
       → IsRun (Answers a b asked) p q status → b.door.faults ≡ a.door.faults → b.shelf.faults ≡ a.shelf.faults → Ends (takes_keeper asked) n
-  completed a b (Some Replay) command status named is run links keeper = any_ends false n (completes replayed p q n status bytes is run reads writes told within)
-  completed a b (Some Grants) command status named is run links keeper = any_ends false n (completes grants p q n status bytes is run reads writes told within)
+  completed a b (Some Replay) command status named is run links keeper = any_ends false n
+      (completes (replayed_with a.hooks.enrichers) p q n status bytes is (run_alone (replayed_with a.hooks.enrichers) a.hooks b.hooks p q status run) reads writes told within)
+  completed a b (Some Grants) command status named is run links keeper = any_ends false n
+      (completes (grants a.hooks.enrichers) p q n status bytes is (run_alone (grants a.hooks.enrichers) a.hooks b.hooks p q status run) reads writes told within)
   completed a b (Some Report) command status named is run links keeper = any_ends false n (completes reported p q n status bytes is run reads writes told within)
   completed a b (Some (Serve address most)) command status named is run links keeper = served false most a.door b.door status is run links
   completed a b (Some (Drill seed policies requests)) command status named is run links keeper = drilled false a b seed policies requests p q n status is run writes
@@ -113,3 +118,21 @@ module _ (p q : Ports) (n : ℕ) (bytes : List ℕ) (reads : q.read_faults ≡ p
 
 pub ended_so : (command : Option Command) (n m : ℕ) → m ≡ n → IsEndOf command n → IsEndOf command m
 ended_so command n m same is = subst (IsEndOf command) (sym same) is
+
+-- memory was refused before the command began
+pub never_begun : (command : Option Command) (n : ℕ) → n ≡ 9 → IsEndOf command n
+never_begun command n is = (nobody, nobody, idle, idle, (NoMemory, is, undone nobody command idle)) where
+  nobody : Around
+  nobody = around (door 0 false 0) (shelf None 0) (hooks_of [] [])
+
+  idle : Ports
+  idle = ports None false 0 None None 0
+
+-- a run from the state that grants begin in
+pub by_grants : (a b : Around) (command : Option Command) (s : State) (p q : Ports) (status : Status)
+    → command ≡ Some Grants → s ≡ None
+    → IsRun (StandsHooked (Hooked State) (worked (with_enrichers grants_step) (hooked s a.hooks.enrichers) 1) a.hooks b.hooks) p q status
+    → IsRun (Answers a b command) p q status
+by_grants a b command s p q status is first run =
+    subst (λ (c : Option Command). IsRun (Answers a b c) p q status) (sym is)
+    (subst (λ (v : State). IsRun (StandsHooked (Hooked State) (worked (with_enrichers grants_step) (hooked v a.hooks.enrichers) 1) a.hooks b.hooks) p q status) first run)

@@ -94,3 +94,9 @@ serves _ = false
 abbrev pub takes_keeper : Option Command → Bool
 takes_keeper (Some Keep) = true
 takes_keeper _ = false
+
+-- the commands that enrich and audit by the hooks of worker 0, and leave them there
+abbrev pub judges : Option Command → Bool
+judges (Some Replay) = true
+judges (Some Grants) = true
+judges _ = false

@@ -1,15 +1,18 @@
 -- What stands after a command, by the status. To be read after Runs of rg_work.
-use Rattle.std.specs.Prelude.{◌≡◌, ℕ, List, codes, Option, Some, None}
+use Rattle.std.specs.Prelude.{◌≡◌, ℕ, List, [], ◌∷◌, codes, Option, Some, None}
 use Rattle.rg_workload.specs.Drill.{IsCarriedOut}
 use Rattle.rg_workload.specs.Report.{report_text}
 use Rattle.rg_workload.specs.declared.totals.Totals.{Totals}
 use Rattle.rg_work.specs.declared.status.Status.{Status}
 use Rattle.rg_work.specs.declared.status.Status.TheVariants.{Done, Usage, WriteFault, NoMemory}
+use Rattle.rg_hook.specs.Enriching.{EnricherState}
+use Rattle.rg_hook.specs.Told.{SinkState}
+use Rattle.rg_work.specs.Hooked.{Hooks, hooks_of}
 use Rattle.rg_work.specs.Ports.{Ports}
-use Rattle.rg_work.specs.Runs.{IsRun, OfStatus, Stands}
+use Rattle.rg_work.specs.Runs.{IsRun, OfStatus, Stands, StandsHooked}
 use Rattle.rg_work.specs.Streams.{Wrote, WrotePrefix}
 use Rattle.rg_replay.specs.Grants.{grants}
-use Rattle.rg_replay.specs.Replay.{replayed}
+use Rattle.rg_replay.specs.Replay.{replayed_with}
 use Rattle.rg_replay.specs.Report.{reported}
 use Rattle.rg_service.specs.Serve.{Door}
 use Rattle.rg_service.specs.Serves.{ServesLinks}
@@ -39,20 +42,26 @@ abbrev pub shelf_of : {K : Type 0} → (K → Option (List (List ℕ))) → (K �
 shelf_of kept faults None = shelf None 0
 shelf_of kept faults (Some keeper) = shelf (kept keeper) (faults keeper)
 
--- what a run sees beside its ports: the listener and the keeper
+-- what the hooks of worker 0 tell
+abbrev pub first_hooks : {H : Type 0} → (H → List (SinkState × ℕ)) → (H → List EnricherState) → List H → Hooks
+first_hooks sinks enrichers [] = hooks_of [] []
+first_hooks sinks enrichers (h ∷ hs) = hooks_of (sinks h) (enrichers h)
+
+-- what a run sees beside its ports: the listener, the keeper, and the hooks of worker 0
 pub record Around : Type 0 where
   pub door : Door
   pub shelf : Shelf
+  pub hooks : Hooks
 
-abbrev pub around : Door → Shelf → Around
-around d s = record { door = d; shelf = s }
+abbrev pub around : Door → Shelf → Hooks → Around
+around d s h = record { door = d; shelf = s; hooks = h }
 
 -- what stands after the command, None for words that ask for none
 abbrev pub Answers : Around → Around → Option Command → Ports → Ports → Status → Type 0
-Answers a b (Some Replay) p q status = Stands _ replayed p q status
+Answers a b (Some Replay) p q status = StandsHooked _ (replayed_with a.hooks.enrichers) a.hooks b.hooks p q status
 Answers a b (Some (Serve address links)) p q status = ServesLinks links a.door b.door p q status
 Answers a b (Some (Drill seed policies requests)) p q status = Drilled seed policies requests p.held q.held status
-Answers a b (Some Grants) p q status = Stands _ grants p q status
+Answers a b (Some Grants) p q status = StandsHooked _ (grants a.hooks.enrichers) a.hooks b.hooks p q status
 Answers a b (Some Report) p q status = Stands _ reported p q status
 Answers a b (Some Keep) p q status = Keeps a.shelf b.shelf p q status
 Answers a b None p q status = IsTold p q status

@@ -6,5 +6,5 @@ mod machine;
 mod program;
 
 pub use command::Command;
-pub use machine::start;
+pub use machine::{out_of_memory, start};
 pub use program::run;

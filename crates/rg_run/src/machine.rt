@@ -1,16 +1,19 @@
 // The program over the machine.
-ghost use Rattle.std.specs.Prelude.{◌≡◌, ◌≤◌, IfOk, IsSome, length, map, string_bytes};
+ghost use Rattle.std.specs.Prelude.{◌≡◌, ◌≤◌, true, IfOk, IsSome, Option, length, map, string_bytes};
 ghost use Rattle.std.specs.Process.{exit_status};
-ghost use Rattle.rg_run.specs.Commands.{command_of};
+ghost use Rattle.rg_run.specs.declared.command.Command as the;
+ghost use Rattle.rg_run.specs.Commands.{command_of, takes_keeper};
 ghost use Rattle.rg_run.specs.Runs.{IsEndOf};
 
+use crate::command::{Command, command_of};
 use crate::program::run;
+use rg_base::NoMemory;
 use rg_hook::{AuditFan, Enrichers, WorkerHooks};
 use rg_keeper::{Keeper, SqlKeeper};
 use rg_ports::{Clock, FreeGate, Listener, Sink, Source, StdSink, StdSource, TcpNet, WallClock};
+use rg_work::Status;
 use sqlite::{Connection, MemStore};
-use std::alloc::{AllocError, Global};
-use std::io;
+use std::alloc::Global;
 use std::process::ExitCode;
 use std::sync::Wait;
 use std::thread::Threads;
@@ -19,7 +22,7 @@ use std::thread::Threads;
 const WORKERS: u32 = 64;
 
 /// Workers without sinks and enrichers.
-fn plain_workers(alloc: Global) -> Result<Vec<WorkerHooks>, AllocError>
+fn plain_workers(alloc: Global) -> Result<Vec<WorkerHooks>, NoMemory>
     ensures { IfOk result (λ hooks. length hooks.items ≡ 64) }
 {
     let mut workers = Vec::new(alloc);
@@ -32,15 +35,27 @@ fn plain_workers(alloc: Global) -> Result<Vec<WorkerHooks>, AllocError>
     Ok(workers)
 }
 
-/// A keeper over a database in memory, which lasts as long as the program.
-fn keeper_in_memory(alloc: Global) -> io::Result<SqlKeeper<MemStore>> {
-    let connection = Connection::open_in_memory(alloc)?;
+/// A keeper over a database in memory, which lasts as long as the program. Such a database refuses nothing but memory.
+fn keeper_in_memory(alloc: Global) -> Result<SqlKeeper<MemStore>, NoMemory> {
+    let Ok(connection) = Connection::open_in_memory(alloc) else {
+        return Err(NoMemory);
+    };
     match SqlKeeper::new(connection) {
         Ok(keeper) => Ok(keeper),
         Err((_error, connection)) => {
             drop(connection);
-            Err(io::Error::other("the database refuses the table of records"))
+            Err(NoMemory)
         }
+    }
+}
+
+/// The keeper of `keep`. No other command has one.
+fn keeper_for(alloc: Global, words: &[String]) -> Result<Option<SqlKeeper<MemStore>>, NoMemory>
+    ensures { IfOk result (λ keeper. takes_keeper (command_of (map string_bytes words.now)) ≡ true → IsSome keeper) }
+{
+    match command_of(alloc, words)? {
+        Some(Command::Keep) => Ok(Some(keeper_in_memory(alloc)?)),
+        _ => Ok(None),
     }
 }
 
@@ -57,7 +72,7 @@ fn run_plain<S: Source, K: Sink, C: Clock, N: Listener, P: Keeper + Drop>(
     keeper: &mut Option<P>,
 ) -> u8
     requires workers { (1 ≤ length workers.old.items) × (length workers.old.items ≤ 64) }
-    requires keeper { IsSome keeper.old }
+    requires keeper { takes_keeper (command_of (map string_bytes words.now)) ≡ true → IsSome keeper.old }
     ensures { IsEndOf (command_of (map string_bytes words.now)) result }
 {
     run(
@@ -65,21 +80,20 @@ fn run_plain<S: Source, K: Sink, C: Clock, N: Listener, P: Keeper + Drop>(
     )
 }
 
-/// Runs over standard input and output, the machine's clock and its network, and a keeper in memory, and starts its threads by
-/// `threads`. The answer is what `main` ends with.
-pub fn start(
+/// Runs over what the machine has, and answers the number of the status.
+fn run_on_machine(
     rt: &HostRuntime,
     threads: &(impl Threads + Wait + Sync),
     words: &[String],
-) -> io::Result<ExitCode>
-    ensures { IfOk result (λ code. IsEndOf (command_of (map string_bytes words.now)) (exit_status code)) }
+) -> Result<u8, NoMemory>
+    ensures { IfOk result (λ status. IsEndOf (command_of (map string_bytes words.now)) status) }
 {
     let mut source = StdSource::new(rt.stdin());
     let mut sink = StdSink::new(rt.stdout());
-    let mut clock = WallClock(rt.clone()?);
-    let mut net = TcpNet::new(rt.clone()?);
+    let mut clock = WallClock(*rt);
+    let mut net = TcpNet::new(*rt);
     let mut workers = plain_workers(rt.alloc())?;
-    let mut keeper = Some(keeper_in_memory(rt.alloc())?);
+    let mut keeper = keeper_for(rt.alloc(), words)?;
     let status = run_plain(
         threads,
         rt.alloc(),
@@ -91,5 +105,23 @@ pub fn start(
         &mut workers,
         &mut keeper,
     );
-    Ok(ExitCode::from(status))
+    Ok(status)
+}
+
+/// What `main` ends with where memory is refused before a command begins.
+pub fn out_of_memory() -> ExitCode
+    ensures { (command : Option the.Command) → IsEndOf command (exit_status result) }
+{
+    ExitCode::from(Status::NoMemory.number())
+}
+
+/// Runs over standard input and output, the machine's clock and its network, and starts its threads by `threads`. `keep` has a
+/// keeper in memory. The answer is what `main` ends with.
+pub fn start(rt: &HostRuntime, threads: &(impl Threads + Wait + Sync), words: &[String]) -> ExitCode
+    ensures { IsEndOf (command_of (map string_bytes words.now)) (exit_status result) }
+{
+    match run_on_machine(rt, threads, words) {
+        Ok(status) => ExitCode::from(status),
+        Err(_) => out_of_memory(),
+    }
 }

@@ -1,12 +1,13 @@
 // From words and bytes to bytes and a status.
-ghost use Rattle.std.specs.Prelude.{◌≡◌, ◌⊎◌, ◌≤◌, ℕ, List, Some, None, IsSome, true, false, length, map, string_bytes};
+ghost use Rattle.std.specs.Prelude.{◌≡◌, ◌⊎◌, ◌≤◌, ℕ, List, [], Some, None, IsSome, true, false, drop, length, map, string_bytes};
 ghost use Rattle.rg_run.specs.declared.command.Command.{Command};
-ghost use Rattle.rg_run.specs.Commands.{command_of, reads, serves, takes_keeper};
+ghost use Rattle.rg_run.specs.Commands.{command_of, judges, reads, serves, takes_keeper};
 ghost use Rattle.rg_work.specs.Limits.{is_too_long};
 ghost use Rattle.rg_work.specs.Ports.{ports};
-ghost use Rattle.rg_run.specs.Runs.{Answers, Drilled, around, shelf_of};
+ghost use Rattle.rg_run.specs.Runs.{Answers, Drilled, around, first_hooks, shelf_of};
 ghost use Rattle.rg_work.specs.Follow.{worked};
-ghost use Rattle.rg_work.specs.Runs.{IsRun, OfStatus, Stands, WriteFaults};
+ghost use Rattle.rg_work.specs.Hooked.{hooked, with_enrichers};
+ghost use Rattle.rg_work.specs.Runs.{IsRun, OfStatus, Stands, StandsHooked, WriteFaults};
 ghost use Rattle.rg_service.specs.Serve.{door};
 ghost use Rattle.rg_custody.specs.Custody.{Keeps};
 
@@ -17,7 +18,7 @@ use rg_keeper::Keeper;
 use rg_ports::{Clock, Gate, Listener, Sink, Source};
 use rg_replay::{Grants, Replay, Reports};
 use rg_service::serve_script;
-use rg_work::{Status, Worker, work_script, write_all};
+use rg_work::{HookedWorker, Status, Worker, work_script, work_script_hooked, write_all};
 use rg_workload::{add_report, carry_out};
 use std::alloc::Global;
 use std::mem;
@@ -68,6 +69,30 @@ fn work_by<W: Worker + Drop, S: Source, K: Sink, C: Clock>(
     status
 }
 
+/// Works a script by this worker, which is let go, with the hooks of worker 0.
+fn judge_by<W: HookedWorker + Drop, S: Source, K: Sink, C: Clock, H: RequestHooks>(
+    alloc: Global,
+    mut worker: W,
+    source: &mut S,
+    sink: &mut K,
+    clock: &mut C,
+    hooks: &mut Vec<H>,
+) -> Status
+    requires { 1 ≤ length hooks.old.items }
+    ensures run { IsRun (StandsHooked _ (worked (with_enrichers W.hooked_step) (hooked worker (first_hooks H.sinks H.enrichers hooks.old.items).enrichers) 1)
+        (first_hooks H.sinks H.enrichers hooks.old.items) (first_hooks H.sinks H.enrichers hooks.new.items))
+        (ports (S.left source.old) (S.ended source.old) (S.faults source.old) (C.given clock.old) (K.held sink.old) (K.faults sink.old))
+        (ports (S.left source.new) (S.ended source.new) (S.faults source.new) (C.given clock.new) (K.held sink.new) (K.faults sink.new)) result }
+    ensures clock_stays { (result ≡ Status.ReadFault) ⊎ (result ≡ Status.TooLong) → clock.new ≡ clock.old }
+    ensures unheard { (result ≡ Status.Usage) ⊎ ((result ≡ Status.ReadFault) ⊎ (result ≡ Status.TooLong)) → hooks.new.items ≡ hooks.old.items }
+    ensures others { drop 1 hooks.new.items ≡ drop 1 hooks.old.items }
+    ensures as_many { length hooks.new.items ≡ length hooks.old.items }
+{
+    let status = work_script_hooked(alloc, &mut worker, source, sink, clock, &mut hooks[0]);
+    drop(worker);
+    status
+}
+
 /// Works a script over the keeper, and puts the keeper back into its place.
 fn keep<P: Keeper + Drop, S: Source, K: Sink, C: Clock>(
     alloc: Global,
@@ -112,20 +137,24 @@ fn answer<
     keeper: &mut Option<P>,
 ) -> Status
     requires workers { (1 ≤ length hooks.old.items) × (length hooks.old.items ≤ 64) }
-    requires keeper { IsSome keeper.old }
+    requires keeper { takes_keeper command ≡ true → IsSome keeper.old }
     ensures run { IsRun (Answers
-        (around (door (N.given net.old) (N.ended net.old) (N.faults net.old)) (shelf_of P.kept P.faults keeper.old))
-        (around (door (N.given net.new) (N.ended net.new) (N.faults net.new)) (shelf_of P.kept P.faults keeper.new)) command)
+        (around (door (N.given net.old) (N.ended net.old) (N.faults net.old)) (shelf_of P.kept P.faults keeper.old) (first_hooks H.sinks H.enrichers hooks.old.items))
+        (around (door (N.given net.new) (N.ended net.new) (N.faults net.new)) (shelf_of P.kept P.faults keeper.new) (first_hooks H.sinks H.enrichers hooks.new.items)) command)
         (ports (S.left source.old) (S.ended source.old) (S.faults source.old) (C.given clock.old) (K.held sink.old) (K.faults sink.old))
         (ports (S.left source.new) (S.ended source.new) (S.faults source.new) (C.given clock.new) (K.held sink.new) (K.faults sink.new)) result }
     ensures clock_stays { (result ≡ Status.ReadFault) ⊎ (result ≡ Status.TooLong) → clock.new ≡ clock.old }
     ensures untouched { reads command ≡ false → (source.new ≡ source.old) × (clock.new ≡ clock.old) }
-    ensures unserved { serves command ≡ false → (net.new ≡ net.old) × (hooks.new ≡ hooks.old) }
+    ensures unserved { serves command ≡ false → net.new ≡ net.old }
+    ensures taken { serves command ≡ true → hooks.new.items ≡ [] }
+    ensures others { serves command ≡ false → (drop 1 hooks.new.items ≡ drop 1 hooks.old.items) × (length hooks.new.items ≡ length hooks.old.items) }
+    ensures unhooked { serves command ≡ false → judges command ≡ false → hooks.new.items ≡ hooks.old.items }
+    ensures unheard { serves command ≡ false → (result ≡ Status.Usage) ⊎ ((result ≡ Status.ReadFault) ⊎ (result ≡ Status.TooLong)) → hooks.new.items ≡ hooks.old.items }
     ensures unkept { takes_keeper command ≡ false → keeper.new ≡ keeper.old }
-    ensures put_back { IsSome keeper.new }
+    ensures put_back { takes_keeper command ≡ true → IsSome keeper.new }
 {
     match &command {
-        Some(Command::Replay) => work_by(alloc, Replay::new(rt), source, sink, clock),
+        Some(Command::Replay) => judge_by(alloc, Replay::new(rt), source, sink, clock, hooks),
         Some(Command::Serve { address, links }) => {
             let hooks = mem::replace(hooks, Vec::new(alloc));
             serve_script(
@@ -139,7 +168,7 @@ fn answer<
                 requests,
             },
         ) => drill(rt, alloc, *seed, *policies, *requests, sink),
-        Some(Command::Grants) => work_by(alloc, Grants::new(), source, sink, clock),
+        Some(Command::Grants) => judge_by(alloc, Grants::new(), source, sink, clock, hooks),
         Some(Command::Report) => work_by(alloc, Reports::new(), source, sink, clock),
         Some(Command::Keep) => keep(alloc, keeper, source, sink, clock),
         None => match write_all(
@@ -153,7 +182,7 @@ fn answer<
 }
 
 /// Runs the command that the words ask for, and answers the number of its status. There are as many workers as hooks, 1 to 64.
-/// `serve` takes the hooks and leaves none. A keeper is handed in, and is there again afterwards; `keep` alone calls it.
+/// `serve` takes the hooks and leaves none. `keep` alone needs a keeper, which is there again afterwards.
 pub fn run<
     S: Source,
     K: Sink,
@@ -175,24 +204,33 @@ pub fn run<
     keeper: &mut Option<P>,
 ) -> u8
     requires workers { (1 ≤ length hooks.old.items) × (length hooks.old.items ≤ 64) }
-    requires keeper { IsSome keeper.old }
+    requires keeper { takes_keeper (command_of (map string_bytes words.now)) ≡ true → IsSome keeper.old }
     // Each status comes as `Answers` says: with Done and BadLine the sink got exactly the text of the command's definition over the source's
     // lines and the clock's moments, after a failed write a prefix of the one text that belongs to the words, the bytes and these moments,
     // and a count of faults rose exactly where the status says so. After links were served the totals are those of `AreTotals`. After `keep`
     // the keeper's records are those that were found, and then those of the script, or the first of these where the run broke off.
     ensures answers { OfStatus result (IsRun (Answers
-        (around (door (N.given net.old) (N.ended net.old) (N.faults net.old)) (shelf_of P.kept P.faults keeper.old))
-        (around (door (N.given net.new) (N.ended net.new) (N.faults net.new)) (shelf_of P.kept P.faults keeper.new)) (command_of (map string_bytes words.now)))
+        (around (door (N.given net.old) (N.ended net.old) (N.faults net.old)) (shelf_of P.kept P.faults keeper.old) (first_hooks H.sinks H.enrichers hooks.old.items))
+        (around (door (N.given net.new) (N.ended net.new) (N.faults net.new)) (shelf_of P.kept P.faults keeper.new) (first_hooks H.sinks H.enrichers hooks.new.items)) (command_of (map string_bytes words.now)))
         (ports (S.left source.old) (S.ended source.old) (S.faults source.old) (C.given clock.old) (K.held sink.old) (K.faults sink.old))
         (ports (S.left source.new) (S.ended source.new) (S.faults source.new) (C.given clock.new) (K.held sink.new) (K.faults sink.new))) }
 
     // Words that ask for no command, and a drill, leave source and clock alone, and limits are decided before the clock is asked. Other
-    // commands than `serve` leave the listener and the hooks alone, and other commands than `keep` the keeper.
+    // commands than `serve` leave the listener alone, and other commands than `keep` the keeper.
     ensures untouched { reads (command_of (map string_bytes words.now)) ≡ false → (source.new ≡ source.old) × (clock.new ≡ clock.old) }
     ensures clock_stays { (result ≡ 1) ⊎ ((result ≡ 3) ⊎ (result ≡ 6)) → clock.new ≡ clock.old }
-    ensures unserved { serves (command_of (map string_bytes words.now)) ≡ false → (net.new ≡ net.old) × (hooks.new ≡ hooks.old) }
+    ensures unserved { serves (command_of (map string_bytes words.now)) ≡ false → net.new ≡ net.old }
     ensures unkept { takes_keeper (command_of (map string_bytes words.now)) ≡ false → keeper.new ≡ keeper.old }
-    ensures put_back { IsSome keeper.new }
+    ensures put_back { takes_keeper (command_of (map string_bytes words.now)) ≡ true → IsSome keeper.new }
+
+    // The hooks. `serve` takes them and leaves none. All other commands leave them there, and those of other workers than worker 0 as they
+    // were. `replay` and `grants` enrich and audit by those of worker 0, as `Answers` says; before a script is worked they are as they were.
+    ensures taken { serves (command_of (map string_bytes words.now)) ≡ true → (hooks.new.items ≡ []) ⊎ ((result ≡ 9) × (hooks.new.items ≡ hooks.old.items)) }
+    ensures others { serves (command_of (map string_bytes words.now)) ≡ false →
+        (drop 1 hooks.new.items ≡ drop 1 hooks.old.items) × (length hooks.new.items ≡ length hooks.old.items) }
+    ensures unhooked { serves (command_of (map string_bytes words.now)) ≡ false → judges (command_of (map string_bytes words.now)) ≡ false →
+        hooks.new.items ≡ hooks.old.items }
+    ensures unheard { serves (command_of (map string_bytes words.now)) ≡ false → (result ≡ 1) ⊎ ((result ≡ 3) ⊎ (result ≡ 6)) → hooks.new.items ≡ hooks.old.items }
 
     // Completeness: a command, bytes within the limits and no fault give the script's status, or want of memory, or with `keep` a bad
     // record.

@@ -1,5 +1,6 @@
 // An administration that is running, with what is published to its plugin.
 ghost use Rattle.std.specs.Prelude.{◌≡◌, Some, IfOk, length};
+ghost use Rattle.std.specs.Str.{chars};
 ghost use Rattle.rg_admin.specs.Starting.{start_fault};
 ghost use Rattle.rg_engine.specs.Bounds.{TriesWithin, bound_on};
 ghost use Rattle.rg_machine.specs.Starts.{IsStart};
@@ -151,6 +152,13 @@ impl<R: Wait + Drop> Running<R> {
             return Err(NoMemory);
         }
         Ok(decision)
+    }
+
+    /// The plugin's service.
+    pub fn plugin(&self) -> &str
+        ensures { chars result.now ≡ self.now.plugin }
+    {
+        self.refresher.service.as_str()
     }
 
     /// How many publications there are.

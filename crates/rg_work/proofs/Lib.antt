@@ -1,3 +1,5 @@
+pub mod HookedRuns
+pub mod Hooks
 pub mod Limits
 pub mod Runs
 pub mod Scripts

@@ -55,7 +55,7 @@ pub stood : {S : Type 0} (script : Script S) (p q : Ports) (output : Output S) (
 stood {S = S} script p q output status f w e (inl done) = subst (λ s. Stands S script p q s) (sym done) (output, f, w, e ∙ done)
 stood {S = S} script p q output status f w e (inr bad) = subst (λ s. Stands S script p q s) (sym bad) (output, f, w, e ∙ bad)
 
-steady : (p q : Ports) (status : Status) → (status ≡ Done) ⊎ (status ≡ BadLine) → q.read_faults ≡ p.read_faults → q.write_faults ≡ p.write_faults
+pub steady : (p q : Ports) (status : Status) → (status ≡ Done) ⊎ (status ≡ BadLine) → q.read_faults ≡ p.read_faults → q.write_faults ≡ p.write_faults
     → CountsReads p q status × CountsWrites p q status
 steady p q status (inl e) reads writes = subst (λ s. CountsReads p q s × CountsWrites p q s) (sym e) (reads, writes)
 steady p q status (inr e) reads writes = subst (λ s. CountsReads p q s × CountsWrites p q s) (sym e) (reads, writes)

@@ -14,7 +14,7 @@ pub gave_one : (old now new : Option (List Moment)) (moments : List Moment) (m :
 gave_one None now new moments m g t = let t' = rw g at t in t'
 gave_one (Some old) now new moments m g t = let t' = rw g at t in t' ∙ ap Some (append_assoc old moments (m ∷ []))
 
-gave_none : (old : Option (List Moment)) → Gave old old []
+pub gave_none : (old : Option (List Moment)) → Gave old old []
 gave_none None = refl
 gave_none (Some old) = ap Some (sym (append-nil old))
 
@@ -26,7 +26,7 @@ module _ {S : Type 0} where
       ap₂ (λ t e. Some (let r : Output S = record { text = t; status = o.status; state = o.state; decided = e } in r))
       (sym (append_assoc xs ys o.text)) (sym (append_assoc cs ds o.decided))
 
-  nothing_before : (o : Option (Output S)) → o ≡ option_map (before [] []) o
+  pub nothing_before : (o : Option (Output S)) → o ≡ option_map (before [] []) o
   nothing_before None = refl
   nothing_before (Some o) = refl
 
@@ -39,7 +39,7 @@ module _ {S : Type 0} where
       ∙ before_before text w.text ds w.decided (worked step w.state (n + 1) lines later)
 
   -- a bad line ends the script
-  ends : (step : Step S) (s : S) (n : ℕ) (line : List ℕ) (lines : List (List ℕ)) (m : Moment) (text : List ℕ) (ds : List Decided)
+  pub ends : (step : Step S) (s : S) (n : ℕ) (line : List ℕ) (lines : List (List ℕ)) (m : Moment) (text : List ℕ) (ds : List Decided)
       → step s line m ≡ None
       → option_map (before text ds) (worked step s n (line ∷ lines) (m ∷ [])) ≡ Some (record { text = text ++ bad_line_text n; status = BadLine; state = s; decided = ds ++ [] })
   ends step s n line lines m text ds e =
@@ -74,7 +74,7 @@ pub record IsFollowed (S : Type 0) (step : Step S) (start : S) (old now : Option
   pub so_far : (later : List Moment) → worked step start 1 (lines_of bytes) (moments ++ later) ≡ option_map (before text decided) (worked step s n (lines_of rest) later)
 
 module _ {S : Type 0} where
-  pub begun : (step : Step S) (start : S) (old : Option (List Moment)) (bytes : List ℕ) → IsFollowed S step start old old bytes [] start 1 bytes
+  unfoldable pub begun : (step : Step S) (start : S) (old : Option (List Moment)) (bytes : List ℕ) → IsFollowed S step start old old bytes [] start 1 bytes
   begun step start old bytes = record {
     moments = [];
     decided = [];
@@ -92,7 +92,7 @@ module _ {S : Type 0} where
         ∙ f.so_far (m ∷ later)
         ∙ ap (λ lines. option_map (before text f.decided) (worked step s n lines (m ∷ later))) first
 
-    went_on : (text' : List ℕ) (s' : S) (w : Work S) → step s line m ≡ Some w → s' ≡ w.state → text' ≡ text ++ w.text
+    unfoldable pub went_on : (text' : List ℕ) (s' : S) (w : Work S) → step s line m ≡ Some w → s' ≡ w.state → text' ≡ text ++ w.text
         → IsFollowed S step start old new bytes text' s' (n + 1) more
     went_on text' s' w e state printed = record {
       moments = f.moments ++ m ∷ [];
@@ -111,7 +111,7 @@ module _ {S : Type 0} where
           | Some w ↦ λ e is. went_on text' s' w e is.0 is.1
         ] refl
 
-    pub stopped : (text' : List ℕ) (s' : S) (status : Status) → step s line m ≡ None → s' ≡ s → text' ≡ text ++ bad_line_text n → status ≡ BadLine
+    unfoldable pub stopped : (text' : List ℕ) (s' : S) (status : Status) → step s line m ≡ None → s' ≡ s → text' ≡ text ++ bad_line_text n → status ≡ BadLine
         → (decided : List Decided) × Comes S (worked step start 1) bytes old new [] (record { text = text'; status = status; state = s'; decided = decided })
     stopped text' s' status bad same printed named = (
       f.decided ++ [],
@@ -136,7 +136,7 @@ module _ {S : Type 0} where
           },
         )
 
-  pub finished : (step : Step S) (start : S) (old now : Option (List Moment)) (bytes text : List ℕ) (s : S) (n : ℕ) (rest : List ℕ)
+  unfoldable pub finished : (step : Step S) (start : S) (old now : Option (List Moment)) (bytes text : List ℕ) (s : S) (n : ℕ) (rest : List ℕ)
       → IsFollowed S step start old now bytes text s n rest → rest ≡ []
       → (decided : List Decided) × Comes S (worked step start 1) bytes old now [] (record { text = text; status = Done; state = s; decided = decided })
   finished step start old now bytes text s n rest f none = (

@@ -9,8 +9,10 @@ use Rattle.rg_work.specs.declared.status.Status.{Status}
 use Rattle.rg_work.specs.declared.status.Status.TheVariants.{Done, BadLine}
 use Rattle.rg_work.specs.Moments.{Gave}
 
--- a request, and the decision on it
+-- a decision: the service, the request as the line has it, the request as it was decided, and what was decided
 pub record Decided : Type 0 where
+  pub service : List ℕ
+  pub asked : AccessRequest
   pub request : AccessRequest
   pub decision : Decision
 

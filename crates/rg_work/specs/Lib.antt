@@ -1,4 +1,5 @@
 pub mod Follow
+pub mod Hooked
 pub mod Limits
 pub mod Moments
 pub mod Ports

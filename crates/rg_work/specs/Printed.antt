@@ -17,5 +17,10 @@ reply_line reply = reply_text reply ++ 10 ∷ []
 abbrev pub quiet : {S : Type 0} → S → Work S
 quiet s = record { text = []; state = s; decided = [] }
 
-abbrev pub deciding : {S : Type 0} → S → AccessRequest → Decision → Work S
-deciding s q d = record { text = decision_line d; state = s; decided = record { request = q; decision = d } ∷ [] }
+-- a request to this service is decided as it was read
+abbrev pub deciding : {S : Type 0} → S → List ℕ → AccessRequest → Decision → Work S
+deciding s service q d = record {
+  text = decision_line d;
+  state = s;
+  decided = record { service = service; asked = q; request = q; decision = d } ∷ [];
+}

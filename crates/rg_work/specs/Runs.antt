@@ -4,6 +4,7 @@ use Rattle.rg_base.specs.declared.numbers.Moment.{Moment}
 use Rattle.rg_work.specs.declared.status.Status.{Status}
 use Rattle.rg_work.specs.declared.status.Status.TheVariants.{Done, Usage, BadLine, ReadFault, WriteFault, NetFault, TooLong, KeepFault, NoMemory, BadRecord}
 use Rattle.rg_work.specs.Follow.{Comes, Output, Script}
+use Rattle.rg_work.specs.Hooked.{AreAudited, AreAuditedInPart, Hooks}
 use Rattle.rg_work.specs.Limits.{is_too_long, room}
 use Rattle.rg_work.specs.Ports.{Ports}
 use Rattle.rg_work.specs.Statuses.{number_of}
@@ -79,3 +80,23 @@ pub record IsRun (Standing : Ports → Ports → Status → Type 0) (p q : Ports
 -- the number is that of a status of which this holds
 abbrev pub OfStatus : ℕ → (Status → Type 0) → Type 0
 OfStatus n P = (status : Status) × (n ≡ number_of status) × P status
+
+-- what stands after a script with hooks, by the status: after Done and BadLine the hooks stand as its decisions leave them, after each
+-- other status as the first of these do, and where nothing was worked as before
+abbrev pub StandsHooked : (S : Type 0) → Script S → Hooks → Hooks → Ports → Ports → Status → Type 0
+StandsHooked S script h k p q Done =
+    (output : Output S) × Follows S script p q [] output × Wrote p.held q.held output.text × (output.status ≡ Done) × AreAudited output.decided h k
+StandsHooked S script h k p q BadLine =
+    (output : Output S) × Follows S script p q [] output × Wrote p.held q.held output.text × (output.status ≡ BadLine) × AreAudited output.decided h k
+StandsHooked S script h k p q ReadFault = (q.held ≡ p.held) × (q.given ≡ p.given) × (k ≡ h)
+StandsHooked S script h k p q TooLong = Overran p.left q.left × (q.given ≡ p.given) × Wrote p.held q.held too_long_text × (k ≡ h)
+StandsHooked S script h k p q WriteFault =
+    (Overran p.left q.left × (q.given ≡ p.given) × WrotePrefix p.held q.held too_long_text × (k ≡ h))
+    ⊎ ((output : Output S) × Follows S script p q [] output × WrotePrefix p.held q.held output.text × AreAudited output.decided h k)
+StandsHooked S script h k p q NoMemory =
+    (q.held ≡ p.held) × (((q.given ≡ p.given) × (k ≡ h))
+    ⊎ ((later : List Moment) × (output : Output S) × Follows S script p q later output × AreAuditedInPart output.decided h k))
+StandsHooked S script h k p q Usage = ⊥
+StandsHooked S script h k p q NetFault = ⊥
+StandsHooked S script h k p q KeepFault = ⊥
+StandsHooked S script h k p q BadRecord = ⊥
