@@ -2,6 +2,7 @@
 #![tactic(auto)]
 
 mod calls;
+mod connection;
 mod counter;
 mod gate;
 mod list_clock;
@@ -15,6 +16,7 @@ mod taking;
 mod tcp;
 mod unread;
 
+pub use connection::Connection;
 pub use gate::{FreeGate, Gate, MeetingGate};
 pub use list_clock::ListClock;
 pub use machine::{StdSink, StdSource, WallClock};

@@ -11,7 +11,10 @@ use std::rt;
 use std::time::{SystemTime, UNIX_EPOCH};
 
 // Reads, and reads again where a signal interrupts it. Interrupts without end are a failure.
-fn read_past_interrupts<R: Read>(reader: &mut R, room: &mut [u8]) -> Result<usize, Failed>
+pub(crate) fn read_past_interrupts<R: Read>(
+    reader: &mut R,
+    room: &mut [u8],
+) -> Result<usize, Failed>
     ensures within { IfOk result (λ n. n ≤ length room.old) }
 {
     for _ in 0..u64::MAX {

@@ -2,6 +2,7 @@
 ghost use Rattle.std.specs.Prelude.{◌≡◌, ◌-◌, ◌^◌, false, min, IfOk};
 ghost use Rattle.rg_ports.specs.Machine.{NetState, ReaderState};
 
+use crate::connection::Connection;
 use crate::counter::Counter;
 use crate::machine::Watched;
 use crate::ports::{Link, Listener};
@@ -9,17 +10,18 @@ use rg_base::Failed;
 use std::io::{ErrorKind, Read, Write};
 use std::marker::Model;
 use std::net::{Net, TcpListener, TcpStream};
+use std::rt;
 use std::time::Duration;
 
 /// A link over a stream, which is closed where the link is dropped. It tells no bytes: that the stream gives those of the
 /// client, 0 for a room that isn't empty at their end alone, and hands on those that it takes is trusted.
 #[derive(Drop)]
-pub struct TcpLink<S: Read + Write + Send + Drop> {
+pub struct TcpLink<S: Read + Write + Drop> {
     stream: S,
     watched: Watched,
 }
 
-impl<S: Read + Write + Send + Drop> Model for TcpLink<S> {
+impl<S: Read + Write + Drop> Model for TcpLink<S> {
     ghost use Rattle.rg_ports.specs.Machine.{ReaderState};
 
     ghost Value = { ReaderState };
@@ -27,7 +29,7 @@ impl<S: Read + Write + Send + Drop> Model for TcpLink<S> {
     ghost view = { λ l. l.watched };
 }
 
-impl<S: Read + Write + Send + Drop> TcpLink<S> {
+impl<S: Read + Write + Drop> TcpLink<S> {
     /// Over this stream.
     pub fn new(stream: S) -> TcpLink<S>
         ensures { result ≡ record { ended = false; faults = 0 } }
@@ -96,14 +98,15 @@ fn is_passed_over(kind: ErrorKind) -> bool {
 
 /// A listener over the network. It never ends, and tells nothing of its links: that they are those of its clients is trusted.
 #[derive(Drop)]
-pub struct TcpNet<R: Net<Listener = TcpListener, Stream = TcpStream> + Drop> {
+pub struct TcpNet<R: Net<Listener = TcpListener, Stream = TcpStream> + rt::Clock + Copy + Send> {
     net: R,
     listener: Option<TcpListener>,
     given: Counter,
     faults: Counter,
 }
 
-impl<R: Net<Listener = TcpListener, Stream = TcpStream> + Drop> Model for TcpNet<R> {
+impl<R: Net<Listener = TcpListener, Stream = TcpStream> + rt::Clock + Copy + Send> Model
+    for TcpNet<R> {
     ghost use Rattle.rg_ports.specs.Machine.{NetState};
 
     ghost Value = { NetState };
@@ -111,7 +114,7 @@ impl<R: Net<Listener = TcpListener, Stream = TcpStream> + Drop> Model for TcpNet
     ghost view = { λ n. record { given = n.given; faults = n.faults } };
 }
 
-impl<R: Net<Listener = TcpListener, Stream = TcpStream> + Drop> TcpNet<R> {
+impl<R: Net<Listener = TcpListener, Stream = TcpStream> + rt::Clock + Copy + Send> TcpNet<R> {
     /// Over this network, listening nowhere.
     pub fn new(net: R) -> TcpNet<R>
         ensures { result ≡ record { given = 0; faults = 0 } }
@@ -132,8 +135,9 @@ impl<R: Net<Listener = TcpListener, Stream = TcpStream> + Drop> TcpNet<R> {
     }
 }
 
-impl<R: Net<Listener = TcpListener, Stream = TcpStream> + Drop> Listener for TcpNet<R> {
-    type Link = TcpLink<TcpStream>;
+impl<R: Net<Listener = TcpListener, Stream = TcpStream> + rt::Clock + Copy + Send> Listener
+    for TcpNet<R> {
+    type Link = TcpLink<Connection<R>>;
 
     ghost use Rattle.std.specs.Prelude.{false};
 
@@ -158,7 +162,7 @@ impl<R: Net<Listener = TcpListener, Stream = TcpStream> + Drop> Listener for Tcp
     }
 
     /// Waits for the next client. It fails too where nothing listens yet.
-    fn accept(&mut self) -> Result<Option<TcpLink<TcpStream>>, Failed> {
+    fn accept(&mut self) -> Result<Option<TcpLink<Connection<R>>>, Failed> {
         let accepted = match &self.listener {
             Some(listener) => next_stream(listener),
             None => Err(Failed),
@@ -166,7 +170,7 @@ impl<R: Net<Listener = TcpListener, Stream = TcpStream> + Drop> Listener for Tcp
         match accepted {
             Ok(stream) => {
                 self.given.add();
-                Ok(Some(TcpLink::new(stream)))
+                Ok(Some(TcpLink::new(Connection::new(stream, self.net))))
             }
             Err(failed) => {
                 self.faults.add();
