@@ -1,7 +1,7 @@
 #!/usr/bin/env bash
 # Runs the built rangerd over the table of crates/test_scripts, which runs the same scripts over ports in memory, and compares the status
 # and what is printed, byte for byte. So its real main, streams, clock and keeper are seen with statuses other than 0 too. A row in which
-# a read or a write fails is left out.
+# a read or a write fails, or an enricher adds a pair, is left out.
 # usage: checks/statuses.sh [PROGRAM]      (the built rangerd where not given)
 set -u
 cd "$(dirname "$0")/.." || exit 1
@@ -21,7 +21,8 @@ run_row() {
   take "$data/$name.script" "$script"
   for word in "$@"; do
     case $word in
-      read=* | write=*) return ;;
+      read=* | write=* | pair=*) return ;;
+      audit=*) ;;
       script=*) take "$data/${word#*=}.script" "$script" ;;
       hashes=*) head -c "${word#*=}" /dev/zero | tr '\0' '#' > "$script" ;;
       *) command+=("$word") ;;

@@ -4,9 +4,11 @@
 //
 // NAME.script is the script, NAME.output what is to be printed, and STATUS what the run is to end with. A file that isn't there is empty.
 // Words of the form KEY=VALUE are settings of the run (table.rt), the others those of the command line. Printed is a line for each run: its
-// status, how many bytes it printed, and whether both are as wanted. Where they aren't, the lines behind it say what was wanted.
+// status, how many bytes it printed, and whether both are as wanted. Where they aren't, the lines behind it say what was wanted. A run that
+// asks for it has lines of what its workers' audit sinks hold.
 #![tactic(auto)]
 
+mod hooks;
 mod runs;
 mod table;
 mod tell;

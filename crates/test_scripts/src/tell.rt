@@ -27,7 +27,7 @@ fn tell_difference(told: &mut String, wanted: &str, given: &str) -> Result<(), A
     }
 }
 
-/// The row's name, its status, how many bytes it printed, and whether that is as wanted.
+/// The row's name, its status, how many bytes it printed, and whether that is as wanted; then, where the row asks for it, what the sinks hold.
 pub(crate) fn told_of(
     alloc: Global,
     row: &Row,
@@ -41,10 +41,13 @@ pub(crate) fn told_of(
     let mut told = format!(in alloc; "{name}: status {status}, {count} bytes, ")?;
     if status == row.status && printed == wanted {
         told.push_str("as wanted\n")?;
-        return Ok(told);
+    } else {
+        let wanted_status = row.status;
+        writeln!(told, "not as wanted\n  status wanted: {wanted_status}")?;
+        tell_difference(&mut told, text_of(wanted), text_of(printed))?;
     }
-    let wanted_status = row.status;
-    writeln!(told, "not as wanted\n  status wanted: {wanted_status}")?;
-    tell_difference(&mut told, text_of(wanted), text_of(printed))?;
+    if row.tells_audit {
+        told.push_str(outcome.audit.as_str())?;
+    }
     Ok(told)
 }
