@@ -4,7 +4,8 @@
 usage: tools/crate_tables.py [--check]      (with --check it writes nothing, and ends with status 1 where the page isn't as it would be)
 
 What a crate stands on is what crates.txt names, without those that another of these stands on already. Its layer is one above the highest
-of them; the toolchain's crates are below the first. What it does is the first sentence of its own src/lib.rt or src/main.rt.
+of them; the toolchain's crates are below the first. What it does is the first sentence of its own src/lib.rt or src/main.rt; of a long one
+what stands before its colon or semicolon. Its lines are those of code, definitions and proofs.
 """
 
 import pathlib
@@ -13,6 +14,7 @@ import sys
 
 TOP = pathlib.Path(__file__).resolve().parent.parent
 PAGE = TOP / "docs/ARCHITECTURE.md"
+LONG = 12  # words
 MARKS = "<!-- %s: made by tools/crate_tables.py -->\n", "<!-- the end of what is made -->\n"
 
 
@@ -58,6 +60,11 @@ def first_sentence(crate):
     return told[1] if len(told) == 2 and told[0] == crate.replace("_", "-") or told[0] == crate else ": ".join(told)
 
 
+def what_it_does(crate):
+    told = first_sentence(crate)
+    return told if len(told.split()) <= LONG else re.split("[:;] ", told)[0]
+
+
 def lines_in(crate, folder):
     return sum(len(path.read_text().splitlines()) for path in (TOP / "crates" / crate / folder).rglob("*") if path.is_file())
 
@@ -72,11 +79,11 @@ def layers(named):
 def crates(headings, named):
     known, parts = {}, []
     for heading, members in headings:
-        rows = ["### %s\n\n| crate | what it does | stands on, nearest only | code | specs | proofs |\n|---|---|---|---|---|---|\n" % heading]
+        rows = ["### %s\n\n| crate | what it does | stands on | lines |\n|---|---|---|---|\n" % heading]
         for crate in members:
             lows = ", ".join("`%s`" % low for low in nearest(crate, named, known))
-            counts = [str(lines_in(crate, folder) or "") for folder in ("src", "specs", "proofs")]
-            rows.append("| %s |\n" % " | ".join(["`%s`" % crate, first_sentence(crate), lows, *counts]))
+            counts = "+".join(str(lines_in(crate, folder)) for folder in ("src", "specs", "proofs"))
+            rows.append("| %s |\n" % " | ".join(["`%s`" % crate, what_it_does(crate), lows, counts]))
         parts.append("".join(rows))
     return "\n".join(parts)
 
