@@ -33,6 +33,7 @@ ROW = re.compile(r"^\| `(\w+ \{.*?\})` \| (.*?) \| ", re.MULTILINE)
 CONFIG = re.compile(r"^config \{.*", re.MULTILINE)
 BLOCK = re.compile(r"^```(\w*)\n(.*?)^```\n", re.MULTILINE | re.DOTALL)
 PORT = "6080"
+NAMES_PORT = re.compile(r"\b%s\b" % PORT)
 SERVES = re.compile(r"bin/rangerd serve ")
 # (one that the block itself puts aside ends within it)
 STARTS = re.compile(r"^bin/rangerd serve [^&\n]*\n\Z", re.MULTILINE)
@@ -165,7 +166,7 @@ def missing(text, page):
     programs = page.programs
     if SERVES.search(text) and page.port is None:
         return "there are no sockets"
-    if PORT in text and not SERVES.search(text) and not page.services:
+    if NAMES_PORT.search(text) and not SERVES.search(text) and not page.services:
         return "no service runs"
     for word in PROGRAMS:
         if re.search(re.escape(word) + r"(?![\w-])", text) and word not in programs:
@@ -190,7 +191,7 @@ class Page:
         self.environment = {**os.environ, "PATH": "%s:%s" % (folder / "stub", os.environ["PATH"])}
 
     def with_port(self, text):
-        return text.replace(PORT, self.port or PORT)
+        return NAMES_PORT.sub(self.port or PORT, text)
 
     def run(self, commands):
         words = ["bash", "-ec", self.with_port(commands)]
