@@ -2,7 +2,7 @@
 """Types each line of the table of curl calls in docs/HTTP.md against the command `serve`, and compares what is answered with the answers
 that stand beside it. Those with several answers are typed once more in another state.
 
-usage: checks/http.py [RANGERD]      (the built program where not given)
+usage: checks/curl.py [RANGERD]      (the built program where not given)
 
 A row may name several answers, of which the one that fits the state comes; how many of them were seen is told. It is no part of the gate, since
 it takes a socket and curl.
