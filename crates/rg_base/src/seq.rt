@@ -1,5 +1,5 @@
 // A list that grows at its end, where there is memory.
-ghost use Rattle.std.specs.Prelude.{◌≡◌, [], ◌≤◌, ◌<◌, ◌==◌, IfErr, IfOk, OnOk, OnErr, IsOk, length, max};
+ghost use Rattle.std.specs.Prelude.{◌≡◌, [], ◌≤◌, ◌<◌, ◌==◌, IfErr, IfOk, OnOk, OnErr, IsOk, length, max, if◌then◌else◌};
 ghost use Rattle.rg_base.specs.Listed.{Listed, listed, added};
 
 use crate::copies::TryCopy;
@@ -95,6 +95,13 @@ impl<T> Seq<T> {
         Ok(())
     }
 
+    /// Whether a place is reserved, so that the next push succeeds. There never is more than one.
+    pub fn is_reserved(&self) -> bool
+        ensures { self.now.spare ≡ (if result then 1 else 0) }
+    {
+        self.ready
+    }
+
     /// How many items there are.
     pub fn len(&self) -> usize
         ensures { result ≡ length self.now.items }
@@ -119,7 +126,8 @@ impl<T> Seq<T> {
 
 impl<T: TryCopy + Drop> TryCopy for Seq<T> {
     fn try_copy(&self, alloc: Global) -> Result<Seq<T>, NoMemory> {
-        let mut copy = Seq::new(alloc);
+        // As much room as the items take: a list that grows by pushes keeps up to twice that.
+        let mut copy = Seq::from_vec(Vec::with_capacity(alloc, self.len())?);
         for item in self.as_slice() {
             copy.add(item.try_copy(alloc)?)?;
         }

@@ -1,4 +1,5 @@
 -- Sets may cross threads. `search` alone stops at its bounds where an evaluator begins.
+use denote.RattleType.{RattleType}
 use denote.Param.Send.{IsSend, IsSync, sendable}
 use denote.Param.SendFields.{declared_send, declared_sync}
 use Rattle.std.proofs.Crossing.{crosses}
@@ -14,7 +15,11 @@ use Rattle.rg_compiled.specs.contracts.policies.PolicySet as S
 use Rattle.rg_compiled.specs.contracts.policies.PolicySet.TheInside as SI
 use Rattle.rg_compiled.specs.contracts.rows.RowSet as W
 use Rattle.rg_compiled.specs.contracts.rows.RowSet.TheInside as WI
-use Rattle.rg_compiled.proofs.shelf.Shelf.TheSendSync as shelf
+use Rattle.rg_compiled.specs.contracts.shelf.Shelf as F
+use Rattle.rg_compiled.specs.contracts.shelf.Shelf.TheInside as FI
+use Rattle.rg_compiled.specs.declared.held.Fileable.{Ghosts}
+use Rattle.rg_compiled.proofs.slots.Slot.TheSendSync as slot
+use Rattle.rg_index.proofs.Sent.{index_send, index_sync}
 use Rattle.rg_base.proofs.seq.Seq.TheSendSync as seq
 use Rattle.rg_cond.proofs.spans.Span.TheSendSync as span
 use Rattle.rg_cond.proofs.conditions.Condition.TheSendSync as condition
@@ -71,11 +76,24 @@ held_row_send = search (sendable, row_inside_send) depth 20
 pub held_row_sync : IsSync R.the_row
 held_row_sync = search (sendable, row_inside_sync) depth 20
 
+module _ (H : RattleType) (g : Ghosts H.Denot) (s : IsSend H) (y : IsSync H) where
+  shelf_inside_send : IsSend (FI.the_row H g)
+  shelf_inside_send = declared_send (FI.the_type H g) (search (crosses, sendable, slot.the_send H s y) depth 40, (search (sendable, index_send) depth 20, tt))
+
+  shelf_inside_sync : IsSync (FI.the_row H g)
+  shelf_inside_sync = declared_sync (FI.the_type H g) (search (crosses, sendable, slot.the_sync H s y) depth 40, (search (sendable, index_sync) depth 20, tt))
+
+  shelf_send : IsSend (F.the_row H g)
+  shelf_send = search (sendable, shelf_inside_send) depth 20
+
+  shelf_sync : IsSync (F.the_row H g)
+  shelf_sync = search (sendable, shelf_inside_sync) depth 20
+
 policies_inside_send : IsSend SI.the_row
-policies_inside_send = declared_send SI.the_type (search (crosses, sendable, shelf.the_send, held_policy_send, held_policy_sync) depth 60, (search (sendable, side.the_send) depth 40, (search (crosses, sendable) depth 40, tt)))
+policies_inside_send = declared_send SI.the_type (search (crosses, sendable, shelf_send, held_policy_send, held_policy_sync) depth 60, (search (sendable, side.the_send) depth 40, (search (crosses, sendable) depth 40, tt)))
 
 policies_inside_sync : IsSync SI.the_row
-policies_inside_sync = declared_sync SI.the_type (search (crosses, sendable, shelf.the_sync, held_policy_send, held_policy_sync) depth 60, (search (sendable, side.the_sync) depth 40, (search (crosses, sendable) depth 40, tt)))
+policies_inside_sync = declared_sync SI.the_type (search (crosses, sendable, shelf_sync, held_policy_send, held_policy_sync) depth 60, (search (sendable, side.the_sync) depth 40, (search (crosses, sendable) depth 40, tt)))
 
 pub policies_send : IsSend S.the_row
 policies_send = search (sendable, policies_inside_send) depth 20
@@ -84,10 +102,10 @@ pub policies_sync : IsSync S.the_row
 policies_sync = search (sendable, policies_inside_sync) depth 20
 
 rows_inside_send : IsSend WI.the_row
-rows_inside_send = declared_send WI.the_type (search (crosses, sendable, shelf.the_send, held_row_send, held_row_sync) depth 60, tt)
+rows_inside_send = declared_send WI.the_type (search (crosses, sendable, shelf_send, held_row_send, held_row_sync) depth 60, tt)
 
 rows_inside_sync : IsSync WI.the_row
-rows_inside_sync = declared_sync WI.the_type (search (crosses, sendable, shelf.the_sync, held_row_send, held_row_sync) depth 60, tt)
+rows_inside_sync = declared_sync WI.the_type (search (crosses, sendable, shelf_sync, held_row_send, held_row_sync) depth 60, tt)
 
 pub rows_send : IsSend W.the_row
 rows_send = search (sendable, rows_inside_send) depth 20

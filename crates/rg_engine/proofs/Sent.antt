@@ -17,9 +17,10 @@ use Rattle.rg_base.proofs.text.Text.TheSendSync as text
 use Rattle.rg_defs.proofs.path_questions.Paths.TheSendSync as paths
 use Rattle.rg_evalr.proofs.frame.Frame.TheSendSync as frame
 use Rattle.rg_facts.proofs.facts.Facts.TheSendSync as facts
+use Rattle.rg_index.proofs.Sent.{index_send, index_sync}
 use Rattle.rg_roles.proofs.membership.Roles.TheSendSync as roles
 use Rattle.rg_compiled.proofs.Sent.{policies_send, policies_sync, rows_send, rows_sync}
-use Rattle.rg_engine.proofs.lists.Lists.TheSendSync as lists
+use Rattle.rg_engine.proofs.lists.Spares.TheSendSync as spares
 use Rattle.rg_engine.proofs.setup.Versions.TheSendSync as versions
 
 matcher_send : IsSend M.the_row
@@ -41,10 +42,10 @@ zone_sync : IsSync Z.the_row
 zone_sync = search (sendable, zone_inside_sync) depth 20
 
 map_inside_send : IsSend WI.the_row
-map_inside_send = declared_send WI.the_type (search (crosses, sendable, zone_send) depth 40, (search (sendable, text.the_send) depth 40, (search (crosses, sendable) depth 40, tt)))
+map_inside_send = declared_send WI.the_type (search (crosses, sendable, zone_send) depth 40, (search (sendable, index_send) depth 40, (search (sendable, text.the_send) depth 40, (search (crosses, sendable) depth 40, tt))))
 
 map_inside_sync : IsSync WI.the_row
-map_inside_sync = declared_sync WI.the_type (search (crosses, sendable, zone_sync) depth 40, (search (sendable, text.the_sync) depth 40, (search (crosses, sendable) depth 40, tt)))
+map_inside_sync = declared_sync WI.the_type (search (crosses, sendable, zone_sync) depth 40, (search (sendable, index_sync) depth 40, (search (sendable, text.the_sync) depth 40, (search (crosses, sendable) depth 40, tt))))
 
 map_send : IsSend W.the_row
 map_send = search (sendable, map_inside_send) depth 20
@@ -77,10 +78,10 @@ sets_sync : IsSync S.the_row
 sets_sync = search (sendable, sets_inside_sync) depth 20
 
 engine_inside_send : IsSend NI.the_row
-engine_inside_send = declared_send NI.the_type (search (crosses, sendable, setup_send, setup_sync) depth 40, (search (sendable, versions.the_send) depth 40, (search (sendable, sets_send) depth 40, (search (crosses, sendable, lists.the_send) depth 40, tt))))
+engine_inside_send = declared_send NI.the_type (search (crosses, sendable, setup_send, setup_sync) depth 40, (search (sendable, versions.the_send) depth 40, (search (sendable, sets_send) depth 40, (search (sendable, spares.the_send) depth 40, tt))))
 
 engine_inside_sync : IsSync NI.the_row
-engine_inside_sync = declared_sync NI.the_type (search (crosses, sendable, setup_send, setup_sync) depth 40, (search (sendable, versions.the_sync) depth 40, (search (sendable, sets_sync) depth 40, (search (crosses, sendable, lists.the_sync) depth 40, tt))))
+engine_inside_sync = declared_sync NI.the_type (search (crosses, sendable, setup_send, setup_sync) depth 40, (search (sendable, versions.the_sync) depth 40, (search (sendable, sets_sync) depth 40, (search (sendable, spares.the_sync) depth 40, tt))))
 
 pub engine_send : IsSend N.the_row
 engine_send = search (sendable, engine_inside_send) depth 40

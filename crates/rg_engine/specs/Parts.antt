@@ -1,8 +1,8 @@
 -- For proofs alone: the parts of an engine, and the facts that they make.
-use Rattle.std.specs.Prelude.{◌≡◌, ℕ, true, List, [], fold, Option, Some, None}
+use Rattle.std.specs.Prelude.{◌≡◌, ℕ, Bool, true, if◌then◌else◌, List, [], fold, Option, Some, None}
 use Rattle.std.specs.List.{list_all}
 use Rattle.std.specs.Ordering.{int_eq}
-use Rattle.rg_base.specs.Listed.{listed}
+use Rattle.rg_base.specs.Listed.{Listed}
 use Rattle.rg_base.specs.Texts.{all_distinct}
 use Rattle.rg_policy.specs.declared.policy.Policy.{Policy}
 use Rattle.rg_defs.specs.Rules.{def_fault}
@@ -21,6 +21,7 @@ use Rattle.rg_facts.specs.declared.facts.Facts.{Facts}
 use Rattle.rg_compiled.specs.Bounds.{pairs_on}
 use Rattle.rg_compiled.specs.Seen.{Policies, Rows}
 use Rattle.rg_engine.specs.declared.lists.Lists.{Lists}
+use Rattle.rg_engine.specs.declared.lists.Spares.{Spares}
 use Rattle.rg_engine.specs.declared.setup.Versions.{Versions}
 
 -- ---- what is compiled
@@ -83,10 +84,13 @@ tag_pairs (Some def) policies changes = pairs_on def Tag policies changes
 
 -- ---- facts
 
--- the lists as they were given, or those that are compiled
-abbrev pub lists_of : Option Lists → Compiled → Lists
-lists_of None c = record { policies = listed c.policies; tag_policies = listed c.tag_policies; tag_rows = listed c.rows }
-lists_of (Some given) c = given
+-- these items, with a place reserved or not
+abbrev pub spared : {X : Type 0} → Bool → List X → Listed X
+spared ready items = record { items = items; spare = if ready then 1 else 0 }
+
+-- what is compiled, as lists with these places reserved
+abbrev pub lists_of : Spares → Compiled → Lists
+lists_of s c = record { policies = spared s.policies c.policies; tag_policies = spared s.tag_policies c.tag_policies; tag_rows = spared s.tag_rows c.rows }
 
 -- a setup with lists and versions
 abbrev pub joined : Facts → Versions → Lists → Facts

@@ -13,7 +13,7 @@ ghost use Rattle.rg_facts.specs.Sound.{sound};
 ghost use Rattle.rg_facts.specs.Texts.{decide};
 
 use crate::fault::ApplyFault;
-use crate::lists::Lists;
+use crate::lists::{Lists, Spares};
 use crate::sets::Sets;
 use crate::setup::{Setup, Versions};
 use rg_base::{Ledger, NoMemory, Serial, Steps, TryCopy, Version};
@@ -30,9 +30,8 @@ pub struct Engine {
     setup: Arc<Setup>,
     versions: Versions,
     sets: Sets,
-    /// The lists that it was built of. A place that is reserved in one of them is part of the facts, and none but the list
-    /// itself keeps it; a delta leaves no such places.
-    given: Option<Lists>,
+    /// Which lists of its facts have a place reserved. A delta leaves no such places.
+    spares: Spares,
 }
 
 impl Drop for Engine {
@@ -41,7 +40,7 @@ impl Drop for Engine {
             setup: _,
             versions: _,
             sets: _,
-            given: _,
+            spares: _,
         } = self;
     }
 }
@@ -55,10 +54,10 @@ impl Model for Engine {
 
     ghost Value = { Facts };
 
-    ghost view = { λ e. joined (arc_value e.setup) e.versions (lists_of e.given e.sets) };
+    ghost view = { λ e. joined (arc_value e.setup) e.versions (lists_of e.spares e.sets) };
 
-    ghost invariant = { λ e. (sound (joined (arc_value e.setup) e.versions (lists_of e.given e.sets)) ≡ true)
-        × (e.sets ≡ compiled_of (joined (arc_value e.setup) e.versions (lists_of e.given e.sets))) };
+    ghost invariant = { λ e. (sound (joined (arc_value e.setup) e.versions (lists_of e.spares e.sets)) ≡ true)
+        × (e.sets ≡ compiled_of (joined (arc_value e.setup) e.versions (lists_of e.spares e.sets))) };
 }
 
 /// That the part's version isn't the one from which its delta leads.
@@ -125,13 +124,14 @@ impl Engine {
         let versions = Versions::of(&facts);
         let frame = frame_of(alloc, &facts)?;
         let sets = Sets::build(alloc, &frame, &facts, steps)?;
-        let given = Some(Lists::take(alloc, &mut facts));
+        let spares = Spares::of(&facts);
+        Lists::clear(alloc, &mut facts);
         let setup = Arc::new(alloc, Setup::build(alloc, frame, facts)?)?;
         Ok(Engine {
             setup,
             versions,
             sets,
-            given,
+            spares,
         })
     }
 
@@ -189,7 +189,11 @@ impl Engine {
                 roles: roles.to,
             },
             sets,
-            given: None,
+            spares: Spares {
+                policies: false,
+                tag_policies: false,
+                tag_rows: false,
+            },
         })
     }
 
@@ -235,10 +239,7 @@ impl Engine {
     fn lists(&self, alloc: Global) -> Result<Lists, NoMemory>
         ensures { IfOk result (λ lists. lists ≡ record { policies = self.now.policies; tag_policies = self.now.tag_policies; tag_rows = self.now.tag_rows }) }
     {
-        match &self.given {
-            Some(given) => given.try_copy(alloc),
-            None => self.sets.copies(alloc),
-        }
+        self.sets.copies(alloc, self.spares)
     }
 
     /// A copy of the facts that it decides by.

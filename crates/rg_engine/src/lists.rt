@@ -1,13 +1,13 @@
 // The policies, tag policies and tag rows of facts.
-ghost use Rattle.std.specs.Prelude.{◌≡◌, []};
+ghost use Rattle.std.specs.Prelude.{◌≡◌, [], IfOk};
 ghost use Rattle.rg_base.specs.Listed.{listed};
+ghost use Rattle.rg_engine.specs.Parts.{compiled_of, lists_of, spared};
 
-use rg_base::{NoMemory, Seq, TryCopy};
+use rg_base::{NoMemory, Seq};
 use rg_facts::Facts;
 use rg_policy::Policy;
 use rg_tags::TagRow;
 use std::alloc::Global;
-use std::mem;
 
 /// The policies, tag policies and tag rows of facts.
 #[derive(Drop)]
@@ -17,26 +17,46 @@ pub(crate) struct Lists {
     pub tag_rows: Seq<TagRow>,
 }
 
-impl TryCopy for Lists {
-    fn try_copy(&self, alloc: Global) -> Result<Lists, NoMemory> {
-        Ok(Lists {
-            policies: self.policies.try_copy(alloc)?,
-            tag_policies: self.tag_policies.try_copy(alloc)?,
-            tag_rows: self.tag_rows.try_copy(alloc)?,
-        })
+impl Lists {
+    /// Lets the lists of the facts go, and leaves empty ones.
+    pub(crate) fn clear(alloc: Global, facts: &mut Facts)
+        ensures { facts.new ≡ record facts.old { policies = listed []; tag_policies = listed []; tag_rows = listed [] } }
+    {
+        facts.policies = Seq::new(alloc);
+        facts.tag_policies = Seq::new(alloc);
+        facts.tag_rows = Seq::new(alloc);
     }
 }
 
-impl Lists {
-    /// Takes the lists out of the facts, and leaves empty ones.
-    pub(crate) fn take(alloc: Global, facts: &mut Facts) -> Lists
-        ensures taken { result ≡ record { policies = facts.old.policies; tag_policies = facts.old.tag_policies; tag_rows = facts.old.tag_rows } }
-        ensures left { facts.new ≡ record facts.old { policies = listed []; tag_policies = listed []; tag_rows = listed [] } }
+/// In which of the lists a place is reserved, which is part of the facts.
+#[derive(Clone, Copy, Debug, PartialEq, Eq)]
+pub(crate) struct Spares {
+    pub policies: bool,
+    pub tag_policies: bool,
+    pub tag_rows: bool,
+}
+
+impl Spares {
+    /// Those of the lists of facts.
+    pub(crate) fn of(facts: &Facts) -> Spares
+        ensures { lists_of result (compiled_of facts.now) ≡ record { policies = facts.now.policies; tag_policies = facts.now.tag_policies; tag_rows = facts.now.tag_rows } }
     {
-        Lists {
-            policies: mem::replace(&mut facts.policies, Seq::new(alloc)),
-            tag_policies: mem::replace(&mut facts.tag_policies, Seq::new(alloc)),
-            tag_rows: mem::replace(&mut facts.tag_rows, Seq::new(alloc)),
+        Spares {
+            policies: facts.policies.is_reserved(),
+            tag_policies: facts.tag_policies.is_reserved(),
+            tag_rows: facts.tag_rows.is_reserved(),
         }
     }
+}
+
+/// The list, with a place reserved if there is to be one.
+pub(crate) fn with_spare<T: Drop>(list: Seq<T>, ready: bool) -> Result<Seq<T>, NoMemory>
+    requires { list.spare ≡ 0 }
+    ensures { IfOk result (λ l. l ≡ spared ready list.items) }
+{
+    let mut list = list;
+    if ready {
+        list.reserve()?;
+    }
+    Ok(list)
 }

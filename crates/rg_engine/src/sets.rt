@@ -18,7 +18,7 @@ ghost use Rattle.rg_engine.specs.Bounds.{TriesWithin, bound_on, pairs_in, polici
 ghost use Rattle.rg_engine.specs.Parts.{IsTagSet, MayCompile, compiled_after, compiled_of, lists_of, row_set, tag_pairs, tag_policies_of, tag_set};
 
 use crate::asking::{ask_policies, ask_rows};
-use crate::lists::Lists;
+use crate::lists::{Lists, Spares, with_spare};
 use rg_base::{Ledger, NoMemory, Seq, Steps};
 use rg_cmd::{PolicyChange, TagChange};
 use rg_compiled::{PolicySet, RowSet};
@@ -209,17 +209,17 @@ impl Sets {
         ask_policies(setting, best, &self.policies, resource, steps)
     }
 
-    /// Copies of the policies, the tag policies and the tag rows.
-    pub(crate) fn copies(&self, alloc: Global) -> Result<Lists, NoMemory>
-        ensures { IfOk result (λ lists. lists ≡ lists_of None self.now) }
+    /// Copies of the policies, the tag policies and the tag rows, with these places reserved.
+    pub(crate) fn copies(&self, alloc: Global, spares: Spares) -> Result<Lists, NoMemory>
+        ensures { IfOk result (λ lists. lists ≡ lists_of spares self.now) }
     {
         let policies = self.policies.copies(alloc)?;
         let tag_policies = copies_of(alloc, &self.tag_policies)?;
         let tag_rows = self.rows.copies(alloc)?;
         Ok(Lists {
-            policies,
-            tag_policies,
-            tag_rows,
+            policies: with_spare(policies, spares.policies)?,
+            tag_policies: with_spare(tag_policies, spares.tag_policies)?,
+            tag_rows: with_spare(tag_rows, spares.tag_rows)?,
         })
     }
 }

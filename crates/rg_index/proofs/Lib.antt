@@ -1,4 +1,3 @@
-mod Bare
 mod Changing
 mod Choosing
 mod Filling
@@ -7,3 +6,4 @@ mod Indexing
 mod Keying
 mod Lists
 mod Ordered
+pub mod Sent

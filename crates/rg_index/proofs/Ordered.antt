@@ -11,36 +11,14 @@ use Rattle.rg_trie.specs.declared.pair.Pair.{Pair}
 use Rattle.rg_trie.specs.Blocks.{IsRising}
 use Rattle.rg_trie.specs.Edited.{with_pair, without_pair}
 use Rattle.rg_trie.specs.Pairs.{Below, pair_order}
-use Rattle.rg_trie.proofs.Orders.{less_from_lt, pair_total, same_pair}
-use Rattle.rg_trie.proofs.Rise.{rising-append}
+use Rattle.rg_trie.proofs.Holding.{rising_with}
+use Rattle.rg_trie.proofs.Orders.{pair_total, same_pair}
+use Rattle.rg_trie.proofs.Prefixes.{rising_filter}
 use Rattle.rg_trie.proofs.Sets.{adds, takes}
 use Rattle.rg_index.specs.Candidates.{in_order}
 use Rattle.rg_index.specs.Kept.{with_all, without_all}
 
 -- ---- the order stays
-
-pub rising_filter : (test : Pair → Bool) (xs : List Pair) → IsRising Below xs → IsRising Below (filter test xs)
-rising_filter test [] h = tt
-rising_filter test (x ∷ xs) h = elim (test x) as (λ b. IsRising Below (cond b (x ∷ filter test xs) (filter test xs))) [
-  | true ↦ (All-filter test (Below x) xs h.0, rising_filter test xs h.1)
-  | false ↦ rising_filter test xs h.1
-]
-
-greater : (o : Ordering) → is_gt o ≡ true → o ≡ Greater
-greater Less e = cc
-greater Equal e = cc
-greater Greater e = refl
-
-rising_with : (p : Pair) (t : List Pair) → IsRising Below t → IsRising Below (with_pair p t)
-rising_with p t h =
-    let lower : Pair → Bool = λ q. is_lt (pair_order q p) in
-    let higher : Pair → Bool = λ q. is_gt (pair_order q p) in
-    let after : All (Below p) (filter higher t) = All-weaker (λ q. higher q ≡ true) (Below p) (λ q e. pair_total.antisymm p q ∙ ap ordering_reverse (greater (pair_order q p) e)) (filter higher t) (filter_passes higher t) in
-    let across : All (λ x. All (Below x) (p ∷ filter higher t)) (filter lower t) =
-    All-weaker (λ q. lower q ≡ true) (λ x. All (Below x) (p ∷ filter higher t))
-    (λ x e. let l : Below x p = less_from_lt (pair_order x p) e in All-cons (Below x) p (filter higher t) l (All-weaker (Below p) (Below x) (λ q b. pair_total.trans x p q l b) (filter higher t) after))
-    (filter lower t) (filter_passes lower t) in
-    rising-append Below (filter lower t) (p ∷ filter higher t) (rising_filter lower t h) (after, rising_filter higher t h) across
 
 pub rising_all : (ps t : List Pair) → IsRising Below t → IsRising Below (with_all t ps)
 rising_all [] t h = h
@@ -48,7 +26,7 @@ rising_all (p ∷ ps) t h = rising_all ps (with_pair p t) (rising_with p t h)
 
 pub rising_left : (ps t : List Pair) → IsRising Below t → IsRising Below (without_all t ps)
 rising_left [] t h = h
-rising_left (p ∷ ps) t h = rising_left ps (without_pair p t) (rising_filter _ t h)
+rising_left (p ∷ ps) t h = rising_left ps (without_pair p t) (rising_filter Below _ t h)
 
 -- ---- which pairs there are
 
@@ -125,7 +103,7 @@ same_list (x ∷ xs) (y ∷ ys) h g to back =
 
 -- those of a list in order that pass are the passing ones in order
 pub filter_in_order : (test : Pair → Bool) (ps : List Pair) → filter test (in_order ps) ≡ in_order (filter test ps)
-filter_in_order test ps = same_list (filter test (in_order ps)) (in_order (filter test ps)) (rising_filter test (in_order ps) (rising_all ps [] tt)) (rising_all (filter test ps) [] tt)
+filter_in_order test ps = same_list (filter test (in_order ps)) (in_order (filter test ps)) (rising_filter Below test (in_order ps) (rising_all ps [] tt)) (rising_all (filter test ps) [] tt)
     (λ q h. let k = Contains-filtered test (in_order ps) q h in into_new (filter test ps) [] q (Contains-filter test ps q (ordered_from ps q k.0) k.1))
     (λ q h. let k = Contains-filtered test ps q (ordered_from (filter test ps) q h) in Contains-filter test (in_order ps) q (into_new ps [] q k.0) k.1)
 

@@ -105,17 +105,19 @@ abbrev pub first_some : {X : Type 0} → List (Option X) → Option X
 first_some [] = None
 first_some (o ∷ os) = option_or o (first_some os)
 
--- all causes in order: versions, definitions, ids, roles, zones, tag rows, policies
-abbrev pub causes : Facts → List (Option Unsound)
-causes facts =
-    unless (versions_fit facts) unsound.Version
-    ∷ first_some (def_causes facts)
-    ∷ unless (ids_sound (all_policies facts)) unsound.PolicyIds
+-- the causes behind the definitions, in order: ids, roles, zones, tag rows, policies
+abbrev pub later_causes : Facts → List (Option Unsound)
+later_causes facts =
+    unless (ids_sound (all_policies facts)) unsound.PolicyIds
     ∷ first_some (role_causes facts)
     ∷ first_some (zone_name_causes facts)
     ∷ first_some (zone_causes facts)
     ∷ first_some (tag_row_causes facts)
     ∷ first_some (policy_causes facts) ∷ []
+
+-- all causes in order
+abbrev pub causes : Facts → List (Option Unsound)
+causes facts = unless (versions_fit facts) unsound.Version ∷ first_some (def_causes facts) ∷ later_causes facts
 
 -- the first cause
 unfoldable pub first_cause : Facts → Option Unsound

@@ -20,7 +20,7 @@ ghost use Rattle.rg_tags.specs.Rules.{tags_fit};
 ghost use Rattle.rg_tags.specs.declared.row.TagRow.{TagRow};
 ghost use Rattle.rg_zones.specs.Overlap.{first_overlap};
 ghost use Rattle.rg_zones.specs.Rules.{all_maps_fit, listing_fits, policy_zone_fits, subjects_exist, tag_policy_zone_fits, zone_levels_fit, zone_values_fit};
-ghost use Rattle.rg_sound.specs.Causes.{def_causes, faulty, first_cause, first_faulty, first_some, first_tag_row, first_zone, policy_causes, role_causes, rule_cause, tag_def_causes, tag_policies_cause, tag_row_causes, unless, zone_causes, zone_name_causes};
+ghost use Rattle.rg_sound.specs.Causes.{def_causes, faulty, first_cause, first_faulty, first_some, first_tag_row, first_zone, later_causes, policy_causes, role_causes, rule_cause, tag_def_causes, tag_policies_cause, tag_row_causes, unless, zone_causes, zone_name_causes};
 ghost use Rattle.rg_sound.specs.declared.unsound.Unsound.TheVariants as unsound;
 
 use crate::ids::{ids_distinct, ids_sound};
@@ -462,9 +462,40 @@ fn policy_cause(alloc: Global, facts: &Facts, paths: &Paths) -> Result<Option<Un
     Ok(cause)
 }
 
+/// The first cause behind the definitions, which have passed their own rules.
+#[tactic(auto, using(crate::proofs::Law::lawful))]
+fn later_cause(
+    alloc: Global,
+    facts: &Facts,
+    paths: &Paths,
+    names: &NameIndex,
+) -> Result<Option<Unsound>, NoMemory>
+    requires defs { first_some (def_causes facts.now) ≡ None }
+    requires paths { paths.now ≡ facts.now.def.levels.items }
+    requires names { names.now ≡ names_of facts.now.roles.items }
+    ensures { IfOk result (λ cause. cause ≡ first_some (later_causes facts.now)) }
+{
+    if !ids_sound(alloc, facts)? {
+        return Ok(Some(Unsound::PolicyIds));
+    }
+    if let Some(cause) = role_cause(alloc, facts, names)? {
+        return Ok(Some(cause));
+    }
+    if let Some(cause) = zone_name_cause(facts) {
+        return Ok(Some(cause));
+    }
+    if let Some(cause) = zone_cause(alloc, facts, paths, names)? {
+        return Ok(Some(cause));
+    }
+    if let Some(cause) = tag_row_cause(alloc, facts, paths)? {
+        return Ok(Some(cause));
+    }
+    policy_cause(alloc, facts, paths)
+}
+
 /// What makes the facts unsound: the first cause, None where they are sound. It takes memory for the ids, the paths, the
 /// time zones, the names of the roles and patterns.
-#[tactic(auto, using(crate::proofs::Law::lawful), unfolding(crate::specs::Causes::first_cause))]
+#[tactic(auto, unfolding(crate::specs::Causes::first_cause))]
 pub fn unsound_cause(alloc: Global, facts: &Facts) -> Result<Option<Unsound>, NoMemory>
     ensures { IfOk result (λ cause. cause ≡ first_cause facts.now) }
 {
@@ -476,22 +507,7 @@ pub fn unsound_cause(alloc: Global, facts: &Facts) -> Result<Option<Unsound>, No
     }
     let paths = Paths::of(alloc, &facts.def)?;
     let names = NameIndex::build(alloc, facts.roles.as_slice())?;
-    if !ids_sound(alloc, facts)? {
-        return Ok(Some(Unsound::PolicyIds));
-    }
-    if let Some(cause) = role_cause(alloc, facts, &names)? {
-        return Ok(Some(cause));
-    }
-    if let Some(cause) = zone_name_cause(facts) {
-        return Ok(Some(cause));
-    }
-    if let Some(cause) = zone_cause(alloc, facts, &paths, &names)? {
-        return Ok(Some(cause));
-    }
-    if let Some(cause) = tag_row_cause(alloc, facts, &paths)? {
-        return Ok(Some(cause));
-    }
-    let cause = policy_cause(alloc, facts, &paths)?;
+    let cause = later_cause(alloc, facts, &paths, &names)?;
     Ok(cause)
 }
 

@@ -6,3 +6,12 @@ pub mod Sets
 pub mod Prefixes
 pub mod Texts
 pub mod Walks
+pub mod Pointwise
+pub mod ByPrefix
+pub mod Keys
+pub mod Holding
+pub mod Parting
+pub mod Placing
+pub mod Stepping
+pub mod Bare
+pub mod Sent

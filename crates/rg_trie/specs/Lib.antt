@@ -3,3 +3,6 @@ pub mod Edited
 pub mod Walked
 pub mod Blocks
 pub mod Sought
+pub mod Keyed
+pub mod Hashed
+pub mod Origins

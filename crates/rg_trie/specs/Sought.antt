@@ -1,18 +1,14 @@
 -- Places among the pairs, for the proofs of the searches.
-use Rattle.std.specs.Prelude.{◌≡◌, ℕ, ◌<◌, ◌≤◌, ◌+◌, ◌-◌, Bool, true, false, List, [], ◌∷◌, ◌++◌, length, take, nat_eq, not, slice_get}
+use Rattle.std.specs.Prelude.{◌≡◌, ℕ, ◌≤◌, ◌+◌, ◌-◌, Bool, true, false, List, [], ◌∷◌, ◌++◌, length, not, slice_get}
 use Rattle.std.specs.Cmp.Lexicographic.{slice_cmp}
-use Rattle.std.specs.List.{All, starts_with}
+use Rattle.std.specs.List.{All}
 use Rattle.std.specs.Option.{option_map_or}
 use Rattle.std.specs.Ordering.{nat_cmp, is_lt, is_eq, is_gt}
-use Rattle.std.specs.Str.{chars}
-use Rattle.std.specs.declared.cmp.Ordering.TheVariants.{Less, Greater}
-use Rattle.rg_trie.specs.declared.order.Standing.{Standing}
-use Rattle.rg_trie.specs.declared.order.Standing.TheVariants.{Prefix, Above, Below as StandsBelow}
 use Rattle.rg_trie.specs.declared.order.Mark.{Mark}
 use Rattle.rg_trie.specs.declared.order.Mark.TheVariants.{Start, At, End}
 use Rattle.rg_trie.specs.declared.pair.Held.{Held}
 use Rattle.rg_trie.specs.declared.pair.Pair.{Pair}
-use Rattle.rg_trie.specs.Pairs.{Below, folded, pair_order}
+use Rattle.rg_trie.specs.Pairs.{Below, pair_order}
 use Rattle.rg_trie.specs.Blocks.{AreCounted, IsRising, IsSized, block_limit, pairs_of}
 
 -- the pair comes before a mark: the first place of a key, the place of an entry under it, or the place behind all its pairs
@@ -29,27 +25,6 @@ ends_passing test xs = option_map_or test (slice_get xs (length xs - 1)) true
 abbrev pub first_is : Pair → List Pair → Bool
 first_is p [] = false
 first_is p (q ∷ qs) = is_eq (pair_order q p)
-
--- a key comes after a prefix of the text and before the next, which is one character longer
-pub record IsBetween (text key next : List ℕ) : Type 0 where
-  pub shared : ℕ
-  pub longer : next ≡ take (shared + 1) text
-  pub after : slice_cmp nat_cmp key (take shared text) ≡ Greater
-  pub earlier : slice_cmp nat_cmp key next ≡ Less
-
--- how a key stands to the prefixes of a text that may be folded
-abbrev pub StandsTo : Bool → List ℕ → List ℕ → Standing → Type 0
-StandsTo fold key text Prefix = starts_with nat_eq (folded fold text) key ≡ true
-StandsTo fold key text Above = slice_cmp nat_cmp key (folded fold text) ≡ Greater
-StandsTo fold key text (StandsBelow next) = IsBetween (folded fold text) key (folded fold (chars next.now))
-
--- so many pairs with this key, where the first has it, and the rest
-pub record IsRun (key : List ℕ) (all : List Pair) (count : ℕ) (rest : List Pair) : Type 0 where
-  pub run : List Pair
-  pub whole : all ≡ run ++ rest
-  pub counted : length run ≡ count
-  pub alike : All (λ p. p.key ≡ key) run
-  pub fewer : 0 < length all → length rest < length all
 
 -- all pairs, cut where p stands or would stand: whole blocks, both parts of one block, and whole blocks
 pub record IsCut (p : Pair) (all : List Pair) (first : List Held) (front back : List Pair) (last : List Held) : Type 0 where

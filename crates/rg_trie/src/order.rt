@@ -4,14 +4,14 @@ ghost use Rattle.std.specs.Cmp.Lexicographic.{slice_cmp};
 ghost use Rattle.std.specs.Ordering.{nat_cmp, is_eq};
 ghost use Rattle.std.specs.Str.{chars};
 ghost use Rattle.rg_trie.specs.Pairs.{entry_order, folded, pair_order};
-ghost use Rattle.rg_trie.specs.Sought.{StandsTo, before, first_is};
+ghost use Rattle.rg_trie.specs.Sought.{before, first_is};
 
 use crate::pair::{Filed, Pair};
 use rg_base::{folded_char, split_char};
 use std::cmp::Ordering;
 
 /// How a key stands to a text, of which the ASCII letters are folded where `fold` is set.
-fn key_order(key: &str, text: &str, fold: bool) -> Ordering
+pub(crate) fn key_order(key: &str, text: &str, fold: bool) -> Ordering
     ensures { result ≡ slice_cmp nat_cmp (chars key.now) (folded fold (chars text.now)) }
 {
     let mut left = key;
@@ -33,46 +33,12 @@ fn key_order(key: &str, text: &str, fold: bool) -> Ordering
     }
 }
 
-/// How a key stands to the prefixes of a text.
-#[derive(Clone, Copy)]
-pub(crate) enum Standing<'a> {
-    /// It is one of them.
-    Prefix,
-    /// It comes after all of them.
-    Above,
-    /// It comes after a prefix and before the prefix that is one character longer, which is this one.
-    Below(&'a str),
-}
-
 /// The text up to where this rest of it begins.
-fn up_to<'a>(text: &'a str, rest: &str) -> &'a str
+pub(crate) fn up_to<'a>(text: &'a str, rest: &str) -> &'a str
     requires { (seen : List ℕ) × (chars text.now ≡ seen ++ chars rest.now) }
     ensures { (seen : List ℕ) → chars text.now ≡ seen ++ chars rest.now → chars result.now ≡ seen }
 {
     text.split_at(text.len() - rest.len()).0
-}
-
-/// How a key stands to the prefixes of a text, of which the ASCII letters are folded where `fold` is set.
-pub(crate) fn standing_of<'a>(key: &str, text: &'a str, fold: bool) -> Standing<'a>
-    ensures { StandsTo fold (chars key.now) (chars text.now) result }
-{
-    let mut left = key;
-    let mut right = text;
-    'characters: loop {
-        let Some((first, more)) = split_char(left) else {
-            return Standing::Prefix;
-        };
-        let Some((character, rest)) = split_char(right) else {
-            return Standing::Above;
-        };
-        match first.cmp(&folded_char(fold, character)) {
-            Ordering::Less => return Standing::Below(up_to(text, rest)),
-            Ordering::Greater => return Standing::Above,
-            Ordering::Equal => {}
-        }
-        left = more;
-        right = rest;
-    }
 }
 
 /// How two entries stand to each other: by id, then by place.

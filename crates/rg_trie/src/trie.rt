@@ -1,43 +1,47 @@
-// A list of pairs in order, in blocks that several tries share.
-ghost use Rattle.std.specs.Prelude.{◌≡◌, ◌++◌, ◌+◌, ◌≤◌, [], length, IfOk};
-ghost use Rattle.std.specs.List.{All, AllPairs};
+// A list of pairs in order, found by the hashes of their keys.
+ghost use Rattle.std.specs.Prelude.{◌≡◌, ◌≤◌, [], Option, option_map, unwrap_or, length, IfOk};
+ghost use Rattle.std.specs.List.{AllPairs};
 ghost use Rattle.std.specs.Str.{chars};
 ghost use Rattle.rg_base.specs.Counts.{one_edit};
-ghost use Rattle.rg_trie.specs.Blocks.{IsRising, IsSized, block_limit, pairs_of};
 ghost use Rattle.rg_trie.specs.Edited.{Adds, Takes, with_pair, without_pair};
 ghost use Rattle.rg_trie.specs.Pairs.{Below, folded};
-ghost use Rattle.rg_trie.specs.Sought.{IsCut};
 ghost use Rattle.rg_trie.specs.Walked.{ShorterFirst, entries_under, pairs_under};
 
-use crate::blocks::{Growing, add_pairs, all_but_first, both, share, total_of, with_between};
+use crate::bucket::Bucket;
 use crate::counting::count_under;
-use crate::order::{Mark, is_first};
-use crate::pair::{Filed, Held, Pair};
-use crate::seek::{Cut, find};
+use crate::lengths::Lengths;
+use crate::origin::Origin;
+use crate::pair::Filed;
+use crate::seen::Seen;
 use crate::walk::Walk;
-use rg_base::{Ledger, NoMemory, Steps};
+use rg_base::{Ledger, NoMemory, Steps, char_count};
+use rg_tree::{Tree, hash_of};
 use std::alloc::Global;
 use std::marker::Model;
 
 /// Entries under keys. Contracts see the pairs of key and entry, in the order of key, id and place, each once.
 ///
-/// An edit leaves the trie as it is and gives a new one. The pairs stand in blocks; the new trie holds the same blocks but
-/// for those that the edit changes.
+/// An edit leaves the trie as it is and gives a new one. The pairs stand in a tree by the hashes of their keys; the new tree
+/// shares with the old one all but a path.
 #[derive(Drop)]
 pub struct Trie {
-    blocks: Vec<Held>,
+    tree: Tree<Bucket>,
+    lengths: Lengths,
+    /// No fewer than there are pairs: it is known that they can be counted.
+    total: usize,
+    seen: Seen,
 }
 
 impl Model for Trie {
     ghost use Rattle.std.specs.Prelude.{List};
     ghost use Rattle.rg_trie.specs.declared.pair.Pair.{Pair};
-    ghost use Rattle.rg_trie.specs.Blocks.{AreInOrder, pairs_of};
+    ghost use Rattle.rg_trie.specs.Hashed.{IsFiled};
 
     ghost Value = { List Pair };
 
-    ghost view = { λ t. pairs_of t.blocks.items };
+    ghost view = { λ t. t.seen.value };
 
-    ghost invariant = { λ t. AreInOrder t.blocks.items };
+    ghost invariant = { λ t. IsFiled t.tree t.lengths.occurs t.total t.seen.value };
 }
 
 impl Trie {
@@ -46,7 +50,10 @@ impl Trie {
         ensures { result ≡ [] }
     {
         Trie {
-            blocks: Vec::new(alloc),
+            tree: Tree::empty(alloc),
+            lengths: Lengths::none(),
+            total: 0,
+            seen: Seen::of(&Origin::Empty),
         }
     }
 
@@ -90,99 +97,95 @@ impl Trie {
         ensures given { result ≡ entries_under (folded fold (chars value.now)) self.now }
         ensures ordered { AllPairs ShorterFirst (pairs_under (folded fold (chars value.now)) self.now) }
     {
-        Walk::over(self.blocks.as_slice(), value, fold)
+        Walk::over(&self.tree, &self.lengths, value, fold)
     }
 
-    /// How many entries the walk gives. It takes no memory, and looks for two places for each key that is a prefix of the
-    /// value, however many pairs have that key.
+    /// How many entries the walk gives. It takes no memory, and looks for two places for each prefix of the value that is a
+    /// key, however many pairs have that key.
     pub fn count(&self, value: &str, fold: bool) -> usize
         ensures { result ≡ length (entries_under (folded fold (chars value.now)) self.now) }
     {
-        count_under(self.blocks.as_slice(), value, fold)
+        let most = self.most();
+        count_under(&self.tree, &self.lengths, value, fold)
     }
 
     /// The law of the order: the pairs stand in the order of key, id and place, each once. The call does nothing.
     pub fn law_of_order(&self)
         ensures { AllPairs Below self.now }
     {
-        let _blocks = &self.blocks;
+        let _tree = &self.tree;
+    }
+
+    /// No fewer than there are pairs.
+    fn most(&self) -> usize
+        ensures { length self.now ≤ result }
+    {
+        self.total
     }
 
     fn with(&self, alloc: Global, key: &str, entry: Filed) -> Result<Trie, NoMemory>
         ensures { IfOk result (λ t. t ≡ with_pair (record { key = chars key.now; entry = entry }) self.now) }
     {
-        let cut = self.cut(key, entry);
-        if is_first(cut.back, key, entry) {
-            return self.shared(alloc);
-        }
-        let Some(total) = self.total().checked_add(1) else {
+        let Some(total) = self.total.checked_add(1) else {
             return Err(NoMemory);
         };
-        let middle = with_between(alloc, cut.front, key, entry, cut.back)?;
-        joined(alloc, cut.before, middle, cut.after, total)
+        let hash = hash_of(key, false);
+        let bucket = bucket_with(alloc, self.tree.get(hash), key, entry)?;
+        let tree = self.tree.set(alloc, hash, Some(bucket))?;
+        Ok(Trie {
+            tree,
+            lengths: self.lengths.with(char_count(key)),
+            total,
+            seen: Seen::of(&Origin::With(&self.seen, key, entry)),
+        })
     }
 
     fn without(&self, alloc: Global, key: &str, entry: Filed) -> Result<Trie, NoMemory>
         ensures { IfOk result (λ t. t ≡ without_pair (record { key = chars key.now; entry = entry }) self.now) }
     {
-        let cut = self.cut(key, entry);
-        if !is_first(cut.back, key, entry) {
-            return self.shared(alloc);
-        }
-        let total = self.total() - 1;
-        let middle = both(alloc, cut.front, all_but_first(cut.back))?;
-        joined(alloc, cut.before, middle, cut.after, total)
-    }
-
-    /// The same pairs, in blocks that both share.
-    fn shared(&self, alloc: Global) -> Result<Trie, NoMemory>
-        ensures { IfOk result (λ t. t ≡ self.now) }
-    {
-        let blocks = self.blocks.as_slice();
-        let mut growing = Growing::with_room(alloc, blocks.len(), self.total())?;
-        share(&mut growing, blocks)?;
+        let hash = hash_of(key, false);
+        let bucket = bucket_without(alloc, self.tree.get(hash), key, entry)?;
+        let tree = self.tree.set(alloc, hash, bucket)?;
         Ok(Trie {
-            blocks: growing.blocks,
+            tree,
+            lengths: self.lengths,
+            total: self.total,
+            seen: Seen::of(&Origin::Without(&self.seen, key, entry)),
         })
-    }
-
-    /// How many pairs there are.
-    fn total(&self) -> usize
-        ensures { result ≡ length self.now }
-    {
-        total_of(self.blocks.as_slice())
-    }
-
-    /// The pairs cut where this one stands or would stand.
-    fn cut(&self, key: &str, entry: Filed) -> Cut<'_>
-        ensures { IsCut (record { key = chars key.now; entry = entry }) self.now result.before.now result.front.now result.back.now result.after.now }
-    {
-        find(self.blocks.as_slice(), key, false, Mark::At(entry))
     }
 }
 
-/// A trie of these pairs, of which the number is known: blocks that are shared, the pairs of one block, and blocks that are
-/// shared.
-fn joined(
+/// The bucket, empty where there is none, with the entry under the key.
+fn bucket_with(
     alloc: Global,
-    before: &[Held],
-    middle: Vec<Pair>,
-    after: &[Held],
-    total: usize,
-) -> Result<Trie, NoMemory>
-    requires rising { IsRising Below (pairs_of before.now ++ middle.items ++ pairs_of after.now) }
-    requires total { total ≡ length (pairs_of before.now ++ middle.items ++ pairs_of after.now) }
-    requires limited { length middle.items ≤ block_limit + 1 }
-    requires before { All IsSized before.now }
-    requires after { All IsSized after.now }
-    ensures { IfOk result (λ t. t ≡ pairs_of before.now ++ middle.items ++ pairs_of after.now) }
+    bucket: Option<&Bucket>,
+    key: &str,
+    entry: Filed,
+) -> Result<Bucket, NoMemory>
+    ensures { IfOk result (λ b. b ≡ with_pair (record { key = chars key.now; entry = entry }) (unwrap_or (option_map (λ b. b.now) bucket.entry) [])) }
 {
-    let room = before.len().saturating_add(after.len()).saturating_add(2);
-    let mut growing = Growing::with_room(alloc, room, total)?;
-    share(&mut growing, before)?;
-    add_pairs(alloc, &mut growing, middle)?;
-    share(&mut growing, after)?;
-    Ok(Trie {
-        blocks: growing.blocks,
-    })
+    match bucket {
+        Some(bucket) => bucket.with(alloc, key, entry),
+        None => Bucket::empty(alloc).with(alloc, key, entry),
+    }
+}
+
+/// The bucket without the entry under the key; None where nothing is left in it.
+fn bucket_without(
+    alloc: Global,
+    bucket: Option<&Bucket>,
+    key: &str,
+    entry: Filed,
+) -> Result<Option<Bucket>, NoMemory>
+    ensures { IfOk result (λ b. unwrap_or b [] ≡ without_pair (record { key = chars key.now; entry = entry }) (unwrap_or (option_map (λ b. b.now) bucket.entry) [])) }
+{
+    let Some(bucket) = bucket else {
+        return Ok(None);
+    };
+    let left = bucket.without(alloc, key, entry)?;
+    if left.total() == 0 {
+        Ok(None)
+    } else {
+        Ok(Some(left))
+    }
 }

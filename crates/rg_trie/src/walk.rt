@@ -1,18 +1,23 @@
 // The entries under the prefixes of a text.
-ghost use Rattle.std.specs.Prelude.{◌≡◌, ◌≤◌, ◌++◌, ◌∷◌, [], take, true, false, length, MatchOption, List};
+ghost use Rattle.std.specs.Prelude.{◌≡◌, ◌<◌, ◌^◌, ◌++◌, ◌∷◌, [], true, false, length, MatchOption, List};
 ghost use Rattle.std.specs.List.{All};
 ghost use Rattle.std.specs.Str.{chars};
 ghost use Rattle.std.specs.Iterator.{YieldsFirst, item_count};
-ghost use Rattle.rg_trie.specs.declared.order.Mark.TheVariants.{Start};
 ghost use Rattle.rg_trie.specs.declared.pair.Pair.{Pair};
-ghost use Rattle.rg_trie.specs.Blocks.{AreInOrder, IsRising, IsSized, pairs_of};
-ghost use Rattle.rg_trie.specs.Pairs.{Below, folded};
+ghost use Rattle.rg_trie.specs.Blocks.{pairs_of};
+ghost use Rattle.rg_trie.specs.Hashed.{Covers, IsFrom, entries_at, entries_from, entries_left};
+ghost use Rattle.rg_trie.specs.Keyed.{entries_of_key};
+ghost use Rattle.rg_trie.specs.Pairs.{folded};
 ghost use Rattle.rg_trie.specs.Sought.{IsWalking, before};
-ghost use Rattle.rg_trie.specs.Walked.{entries_under, is_under};
 
-use crate::order::{Mark, Standing, standing_of};
+use crate::blocks::total_of;
+use crate::bucket::Bucket;
+use crate::lengths::Lengths;
+use crate::order::Mark;
 use crate::pair::{Filed, Held, Pair};
+use crate::prefix::Prefix;
 use crate::seek::{ends_before, find, place_of};
+use rg_tree::Tree;
 use std::marker::Model;
 
 /// Pairs that are left: the rest of a block, and the blocks after it.
@@ -69,106 +74,165 @@ pub(crate) fn advance<'a>(
     }
 }
 
-/// The pairs from the first on of which the key is a prefix of the value, or none. Pairs are passed over up to the shortest
-/// prefix that the first key which is none isn't above; no prefix stands behind a key that is above the whole value.
-pub(crate) fn first_match<'a>(
-    back: &'a [Pair],
-    after: &'a [Held],
-    value: &str,
-    fold: bool,
-) -> Rest<'a>
-    requires { IsWalking back.now after.now }
-    ensures walking { IsWalking result.back.now result.after.now }
-    ensures same { entries_under (folded fold (chars value.now)) (back.now ++ pairs_of after.now) ≡ entries_under (folded fold (chars value.now)) (result.back.now ++ pairs_of result.after.now) }
-    ensures found { All (λ p. is_under (folded fold (chars value.now)) p ≡ true) (take 1 result.back.now) }
-    ensures end { result.back.now ≡ [] → result.after.now ≡ [] }
-    ensures fewer { length (result.back.now ++ pairs_of result.after.now) ≤ length (back.now ++ pairs_of after.now) }
+/// No pairs.
+fn nothing<'a>() -> Rest<'a>
+    ensures back { result.back.now ≡ [] }
+    ensures after { result.after.now ≡ [] }
 {
-    let mut rest = Rest { back, after };
-    'prefixes: loop {
-        let open = opened(rest.back, rest.after);
-        let Some((first, _)) = open.back.split_first() else {
-            return open;
-        };
-        match standing_of(first.key.as_str(), value, fold) {
-            Standing::Prefix => return open,
-            Standing::Above => {
-                return Rest {
-                    back: &[],
-                    after: &[],
-                };
-            }
-            Standing::Below(next) => {
-                rest = advance(open.back, open.after, next, fold, Mark::Start);
-            }
-        }
+    Rest {
+        back: &[],
+        after: &[],
     }
 }
 
-/// A walk after one step: what is left, and what was found.
+/// The pairs of the bucket from the first on of which the key is the prefix or comes after it.
+fn from_key<'a>(bucket: &'a Bucket, prefix: &Prefix<'_>) -> Rest<'a>
+    ensures from { IsFrom prefix.now.seen result.back.now result.after.now }
+    ensures fits { length (result.back.now ++ pairs_of result.after.now) < 2 ^ 64 }
+    ensures same { entries_of_key prefix.now.seen (result.back.now ++ pairs_of result.after.now) ≡ entries_of_key prefix.now.seen bucket.now }
+{
+    let blocks = bucket.blocks.as_slice();
+    let total = total_of(blocks);
+    advance(&[], blocks, prefix.seen, prefix.fold, Mark::Start)
+}
+
+/// The pairs from the first on of which the key is the prefix, or comes after it and has the same hash.
+pub(crate) fn found<'a>(tree: &'a Tree<Bucket>, lengths: &Lengths, prefix: &Prefix<'_>) -> Rest<'a>
+    requires { Covers lengths.now.occurs tree.now }
+    ensures from { IsFrom prefix.now.seen result.back.now result.after.now }
+    ensures fits { length (result.back.now ++ pairs_of result.after.now) < 2 ^ 64 }
+    ensures same { entries_of_key prefix.now.seen (result.back.now ++ pairs_of result.after.now) ≡ entries_at tree.now prefix.now.seen }
+{
+    if !lengths.may_occur(prefix.count()) {
+        return nothing();
+    }
+    match tree.get(prefix.hash()) {
+        None => nothing(),
+        Some(bucket) => from_key(bucket, prefix),
+    }
+}
+
+/// A walk after one step: the pairs that are left, and the entry that was found.
 #[derive(Clone, Copy)]
 struct Step<'a> {
     rest: Rest<'a>,
     found: Option<Filed>,
 }
 
-/// The next entry of which the key is a prefix of the value.
-fn next_match<'a>(back: &'a [Pair], after: &'a [Held], value: &str, fold: bool) -> Step<'a>
-    requires { IsWalking back.now after.now }
-    ensures walking { IsWalking result.rest.back.now result.rest.after.now }
-    ensures found { MatchOption result.found ((entries_under (folded fold (chars value.now)) (back.now ++ pairs_of after.now) ≡ []) × (entries_under (folded fold (chars value.now)) (result.rest.back.now ++ pairs_of result.rest.after.now) ≡ []))
-        (λ e. entries_under (folded fold (chars value.now)) (back.now ++ pairs_of after.now) ≡ e ∷ entries_under (folded fold (chars value.now)) (result.rest.back.now ++ pairs_of result.rest.after.now)) }
+/// The first entry, if its key is the prefix.
+fn first_entry<'a>(back: &'a [Pair], after: &'a [Held], prefix: &Prefix<'_>) -> Step<'a>
+    requires { IsFrom prefix.now.seen back.now after.now }
+    ensures from { IsFrom prefix.now.seen result.rest.back.now result.rest.after.now }
+    ensures found { MatchOption result.found ((entries_of_key prefix.now.seen (back.now ++ pairs_of after.now) ≡ []) × (entries_of_key prefix.now.seen (result.rest.back.now ++ pairs_of result.rest.after.now) ≡ []))
+        (λ e. entries_of_key prefix.now.seen (back.now ++ pairs_of after.now) ≡ e ∷ entries_of_key prefix.now.seen (result.rest.back.now ++ pairs_of result.rest.after.now)) }
 {
-    let rest = first_match(back, after, value, fold);
-    match rest.back.split_first() {
-        None => Step { rest, found: None },
-        Some((first, others)) => Step {
-            rest: Rest {
-                back: others,
-                after: rest.after,
-            },
+    let open = opened(back, after);
+    let Some((first, others)) = open.back.split_first() else {
+        return Step {
+            rest: open,
+            found: None,
+        };
+    };
+    if prefix.is(first.key.as_str()) {
+        let rest = Rest {
+            back: others,
+            after: open.after,
+        };
+        return Step {
+            rest,
             found: Some(first.entry),
-        },
+        };
+    }
+    Step {
+        rest: open,
+        found: None,
+    }
+}
+
+/// The first entry under a prefix or a longer one: that prefix, and what is left of the pairs that were found for it.
+#[derive(Drop)]
+struct Far<'a> {
+    prefix: Prefix<'a>,
+    rest: Rest<'a>,
+    found: Option<Filed>,
+}
+
+/// The first entry among these pairs, which were found for the prefix, or else under a longer prefix.
+fn first_left<'a>(
+    tree: &'a Tree<Bucket>,
+    lengths: &Lengths,
+    prefix: Prefix<'a>,
+    rest: Rest<'a>,
+) -> Far<'a>
+    requires covered { Covers lengths.now.occurs tree.now }
+    requires from { IsFrom prefix.seen rest.back.now rest.after.now }
+    ensures from { IsFrom result.prefix.seen result.rest.back.now result.rest.after.now }
+    ensures found { MatchOption result.found ((entries_left tree.now prefix.entry rest.entry.back.now rest.entry.after.now ≡ []) × (entries_left tree.now result.prefix result.rest.back.now result.rest.after.now ≡ []))
+        (λ e. entries_left tree.now prefix.entry rest.entry.back.now rest.entry.after.now ≡ e ∷ entries_left tree.now result.prefix result.rest.back.now result.rest.after.now) }
+{
+    let mut prefix = prefix;
+    let mut left = rest;
+    'prefixes: loop {
+        let step = first_entry(left.back, left.after, &prefix);
+        if let Some(entry) = step.found {
+            return Far {
+                prefix,
+                rest: step.rest,
+                found: Some(entry),
+            };
+        }
+        let Some(longer) = prefix.next() else {
+            return Far {
+                prefix,
+                rest: step.rest,
+                found: None,
+            };
+        };
+        left = found(tree, lengths, &longer);
+        prefix = longer;
     }
 }
 
 /// The entries that a walk still gives, and contracts see that list. See [`Trie::walk`](crate::Trie::walk).
 #[derive(Drop)]
 pub struct Walk<'a> {
+    tree: &'a Tree<Bucket>,
+    lengths: &'a Lengths,
+    prefix: Prefix<'a>,
+    /// What is left of the pairs that were found for the prefix.
     rest: Rest<'a>,
-    value: &'a str,
-    fold: bool,
 }
 
 impl<'a> Model for Walk<'a> {
-    ghost use Rattle.std.specs.Prelude.{List, ◌++◌};
-    ghost use Rattle.std.specs.Str.{chars};
+    ghost use Rattle.std.specs.Prelude.{List};
     ghost use Rattle.rg_trie.specs.declared.pair.Filed.{Filed};
-    ghost use Rattle.rg_trie.specs.Blocks.{pairs_of};
-    ghost use Rattle.rg_trie.specs.Pairs.{folded};
-    ghost use Rattle.rg_trie.specs.Sought.{IsWalking};
-    ghost use Rattle.rg_trie.specs.Walked.{entries_under};
+    ghost use Rattle.rg_trie.specs.Hashed.{Covers, IsFrom, entries_left};
 
     ghost Value = { List Filed };
 
-    ghost view = { λ w. entries_under (folded w.fold (chars w.value.now)) (w.rest.back.now ++ pairs_of w.rest.after.now) };
+    ghost view = { λ w. entries_left w.tree.now w.prefix w.rest.back.now w.rest.after.now };
 
-    ghost invariant = { λ w. IsWalking w.rest.back.now w.rest.after.now };
+    ghost invariant = { λ w. IsFrom w.prefix.seen w.rest.back.now w.rest.after.now × Covers w.lengths.now.occurs w.tree.now };
 }
 
 impl<'a> Walk<'a> {
-    /// A walk over all the blocks.
-    pub(crate) fn over(blocks: &'a [Held], value: &'a str, fold: bool) -> Walk<'a>
-        requires { AreInOrder blocks.now }
-        ensures { result ≡ entries_under (folded fold (chars value.now)) (pairs_of blocks.now) }
+    /// A walk over all prefixes of the value.
+    pub(crate) fn over(
+        tree: &'a Tree<Bucket>,
+        lengths: &'a Lengths,
+        value: &'a str,
+        fold: bool,
+    ) -> Walk<'a>
+        requires { Covers lengths.now.occurs tree.now }
+        ensures { result ≡ entries_from tree.now [] (folded fold (chars value.now)) }
     {
+        let prefix = Prefix::first(value, fold);
+        let rest = found(tree, lengths, &prefix);
         Walk {
-            rest: Rest {
-                back: &[],
-                after: blocks,
-            },
-            value,
-            fold,
+            tree,
+            lengths,
+            prefix,
+            rest,
         }
     }
 }
@@ -181,8 +245,9 @@ impl<'a> Iterator for Walk<'a> {
     ghost remaining = { item_count (λ w. w) };
 
     fn next(&mut self) -> Option<Filed> {
-        let step = next_match(self.rest.back, self.rest.after, self.value, self.fold);
-        self.rest = step.rest;
-        step.found
+        let far = first_left(self.tree, self.lengths, self.prefix.again(), self.rest);
+        self.prefix = far.prefix;
+        self.rest = far.rest;
+        far.found
     }
 }

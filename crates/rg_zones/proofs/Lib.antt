@@ -10,6 +10,7 @@ pub mod Keys
 pub mod Least
 pub mod Members
 pub mod Pairs
+pub mod Places
 pub mod Scalars
 pub mod Searching
 pub mod Shown

@@ -1,6 +1,7 @@
 // Security zones: their rules, in which zone a resource lies, and which zones overlap.
 #![tactic(auto)]
 
+mod filed;
 mod filing;
 mod laws;
 mod map;

@@ -4,13 +4,16 @@ ghost use Rattle.std.specs.Str.{chars};
 ghost use Rattle.rg_defs.specs.Rules.{def_fault};
 ghost use Rattle.rg_policy.specs.declared.request.Element.{Element};
 ghost use Rattle.rg_zones.specs.Matched.{AreMatched, is_matched, rows_of};
+ghost use Rattle.rg_zones.specs.Places.{AreNamed, after_id, least_place, passes_at, zone_forms};
 ghost use Rattle.rg_zones.specs.Rules.{all_maps_fit, maps_fit};
 ghost use Rattle.rg_zones.specs.Zones.{in_zone, zone_of};
 
+use crate::filed::{is_below, place_of, zone_forms};
 use crate::resources::zone_maps;
 use crate::row::ZoneRow;
 use rg_base::{NoMemory, Steps, Text};
 use rg_defs::ServiceDef;
+use rg_index::{Candidates, Index};
 use rg_policy::Resource;
 use rg_resmatch::{Matcher, Reach};
 use std::alloc::Global;
@@ -39,6 +42,8 @@ impl Model for MatchedZone {
 /// The zones of one service, compiled. Contracts see what they were built from.
 pub struct ZoneMap {
     zones: Vec<MatchedZone>,
+    /// Their maps, with the places as ids.
+    index: Index,
     service: Text,
     /// Which only contracts see.
     def: Snapshot<ServiceDef>,
@@ -48,6 +53,7 @@ impl Drop for ZoneMap {
     fn drop(self) {
         let Self {
             zones: _,
+            index: _,
             service: _,
             def: _,
         } = self;
@@ -55,15 +61,18 @@ impl Drop for ZoneMap {
 }
 
 impl Model for ZoneMap {
-    ghost use Rattle.std.specs.Prelude.{◌≤◌, length};
+    ghost use Rattle.std.specs.Prelude.{◌≡◌, ◌≤◌, length};
     ghost use Rattle.rg_zones.specs.Matched.{AreMatched, rows_of};
+    ghost use Rattle.rg_zones.specs.Places.{zone_forms};
     ghost use Rattle.rg_zones.specs.Zoning.{Zoning};
 
     ghost Value = { Zoning };
 
     ghost view = { λ m. record { zones = rows_of m.zones.items; service = m.service; def = m.def.value } };
 
-    ghost invariant = { λ m. (length m.zones.items ≤ 4294967296) × AreMatched m.service m.def.value m.zones.items };
+    ghost invariant = { λ m. (length m.zones.items ≤ 4294967296)
+        × AreMatched m.service m.def.value m.zones.items
+        × (m.index ≡ record { def = m.def.value; forms = zone_forms m.service m.def.value 0 (rows_of m.zones.items) }) };
 }
 
 fn compile_zone(
@@ -112,11 +121,77 @@ fn is_matched(zone: &MatchedZone, resource: &Resource) -> bool
     zone.matcher.matches(resource, "", &mut steps)
 }
 
-fn first_place(zones: &[MatchedZone], resource: &Resource) -> Option<usize>
+fn is_matched_at(zones: &[MatchedZone], place: usize, resource: &Resource) -> bool
+    ensures { result ≡ passes_at (is_matched resource.now.elements.items) zones.now place }
+{
+    match zones.get(place) {
+        Some(zone) => is_matched(zone, resource),
+        None => false,
+    }
+}
+
+/// The place that is meant by the id, where it is below the best so far and the resource lies in its zone.
+fn after_id(
+    zones: &[MatchedZone],
+    resource: &Resource,
+    best: Option<usize>,
+    id: i64,
+) -> Option<usize>
+    ensures { result ≡ after_id (is_matched resource.now.elements.items) zones.now best id }
+{
+    let Some(place) = place_of(id) else {
+        return best;
+    };
+    if is_below(place, best) && is_matched_at(zones, place, resource) {
+        Some(place)
+    } else {
+        best
+    }
+}
+
+/// The least place of a candidate in whose zone the resource lies. A zone that comes twice is asked once.
+fn least_place(
+    zones: &[MatchedZone],
+    resource: &Resource,
+    candidates: Candidates<'_>,
+) -> Option<usize>
+    ensures { result ≡ least_place (is_matched resource.now.elements.items) zones.now candidates.entry }
+{
+    let mut candidates = candidates;
+    let mut least = None;
+    while let Some(id) = candidates.next() {
+        least = after_id(zones, resource, least, id);
+    }
+    least
+}
+
+/// The first zone in which the resource lies, where the candidates name each such zone.
+fn first_place(
+    zones: &[MatchedZone],
+    resource: &Resource,
+    candidates: Candidates<'_>,
+) -> Option<usize>
+    requires { AreNamed (is_matched resource.now.elements.items) zones.now candidates }
     ensures first { result ≡ position (is_matched resource.now.elements.items) zones.now }
     ensures within { IfSome result (λ place. place < length zones.now) }
 {
-    zones.iter().position(|zone| is_matched(zone, resource))
+    least_place(zones, resource, candidates)
+}
+
+/// The maps of the zones, filed under their places.
+fn index_of(
+    alloc: Global,
+    def: &ServiceDef,
+    service: &str,
+    zones: &[ZoneRow],
+) -> Result<Index, NoMemory>
+    requires lawful { def_fault def.now ≡ None }
+    requires fit { all_maps_fit (chars service.now) def.now zones.now ≡ true }
+    ensures { IfOk result (λ x. x ≡ record { def = def.now; forms = zone_forms (chars service.now) def.now 0 zones.now }) }
+{
+    let forms = zone_forms(alloc, def, service, zones)?;
+    let mut steps = Steps::silent();
+    Index::build(alloc, def, &forms, &mut steps)
 }
 
 impl ZoneMap {
@@ -138,8 +213,10 @@ impl ZoneMap {
         }
         let service = Text::copy_of(alloc, service)?;
         let compiled = compile_zones(alloc, def, service.as_str(), zones)?;
+        let index = index_of(alloc, def, service.as_str(), zones)?;
         Ok(ZoneMap {
             zones: compiled,
+            index,
             service,
             def: Snapshot::of(def),
         })
@@ -149,7 +226,7 @@ impl ZoneMap {
     pub fn zone_of(&self, resource: &Resource) -> Option<u32>
         ensures { result ≡ zone_of self.now.service self.now.def self.now.zones resource.now.elements.items }
     {
-        let place = first_place(&self.zones, resource)?;
+        let place = first_place(&self.zones, resource, self.index.candidates(resource))?;
         Some(place as u32)
     }
 }

@@ -1,4 +1,4 @@
-use Rattle.std.proofs.Common.{◌≡◌, None, sym, ap, subst, ◌∙◌, arith}
+use Rattle.std.proofs.Common.{◌≡◌, false, sym, ap, subst, ◌∙◌, arith}
 use Rattle.std.specs.Arc.{arc_value}
 use Rattle.rg_zones.specs.Rules.{all_maps_fit}
 use Rattle.rg_delta.specs.Applied.{applied, unless_new}
@@ -10,7 +10,11 @@ use Rattle.rg_engine.specs.Bounds.{made, pairs_of_changes}
 use Rattle.rg_engine.specs.Parts.{Compiled, MayCompile, compiled_after, compiled_of, joined, lists_of}
 use Rattle.rg_engine.proofs.Counting.{moved_work, more_work, no_work}
 use Rattle.rg_engine.proofs.Parts.{may_compile}
+use Rattle.rg_engine.specs.declared.lists.Spares.{Spares}
 use Rattle.rg_engine.proofs.engine.Engine.apply.Goals as goal
+
+abbrev no_spares : Spares
+no_spares = record { policies = false; tag_policies = false; tag_rows = false }
 
 pub returns-in_err-check_bases-clause-steps : goal.returns-in_err-check_bases-clause-steps
 returns-in_err-check_bases-clause-steps g c =
@@ -47,22 +51,22 @@ invariant_of-result g c =
     let sets : c.in_ok-sets.sets ≡ compiled_of (applied c.args.self.now c.args.policies.now c.args.tags.now c.args.roles.now) =
     c.in_ok-sets.ensures.made ∙ (λ i. compiled_after ((c.self.invariant.1 ∙ ap compiled_of c.self.view_is) i) (c.as_slice-changes.ensures i) (c.as_slice-rows.ensures i)) in
     let setup : arc_value c.in_ok-setup.setup ≡ _ = c.in_ok-setup.ensures in
-    let same : joined (arc_value c.in_ok-setup.setup) (record { policies = c.args.policies.now.to; tags = c.args.tags.now.to; roles = c.args.roles.now.to }) (lists_of None c.in_ok-sets.sets)
+    let same : joined (arc_value c.in_ok-setup.setup) (record { policies = c.args.policies.now.to; tags = c.args.tags.now.to; roles = c.args.roles.now.to }) (lists_of no_spares c.in_ok-sets.sets)
     ≡ applied c.args.self.now c.args.policies.now c.args.tags.now c.args.roles.now =
-    (λ i. joined (setup i) (record { policies = c.args.policies.now.to; tags = c.args.tags.now.to; roles = c.args.roles.now.to }) (lists_of None (sets i)))
+    (λ i. joined (setup i) (record { policies = c.args.policies.now.to; tags = c.args.tags.now.to; roles = c.args.roles.now.to }) (lists_of no_spares (sets i)))
     ∙ ap (λ (f : Facts). joined (record f { zones = unless_new f.zones c.args.policies.now.zones; roles = unless_new f.roles c.args.roles.now.roles })
     (record { policies = c.args.policies.now.to; tags = c.args.tags.now.to; roles = c.args.roles.now.to })
-    (lists_of None (compiled_of (applied c.args.self.now c.args.policies.now c.args.tags.now c.args.roles.now)))) c.self.view_is in
+    (lists_of no_spares (compiled_of (applied c.args.self.now c.args.policies.now c.args.tags.now c.args.roles.now)))) c.self.view_is in
     (ap sound same ∙ c.requires.sound, sets ∙ ap compiled_of (sym same))
 
 pub returns-clause-facts : goal.returns-clause-facts
 returns-clause-facts g c =
     let sets : c.in_ok-sets.sets ≡ compiled_of (applied c.args.self.now c.args.policies.now c.args.tags.now c.args.roles.now) =
     c.in_ok-sets.ensures.made ∙ (λ i. compiled_after ((c.self.invariant.1 ∙ ap compiled_of c.self.view_is) i) (c.as_slice-changes.ensures i) (c.as_slice-rows.ensures i)) in
-    (λ i. joined (c.in_ok-setup.ensures i) (record { policies = c.args.policies.now.to; tags = c.args.tags.now.to; roles = c.args.roles.now.to }) (lists_of None (sets i)))
+    (λ i. joined (c.in_ok-setup.ensures i) (record { policies = c.args.policies.now.to; tags = c.args.tags.now.to; roles = c.args.roles.now.to }) (lists_of no_spares (sets i)))
     ∙ ap (λ (f : Facts). joined (record f { zones = unless_new f.zones c.args.policies.now.zones; roles = unless_new f.roles c.args.roles.now.roles })
     (record { policies = c.args.policies.now.to; tags = c.args.tags.now.to; roles = c.args.roles.now.to })
-    (lists_of None (compiled_of (applied c.args.self.now c.args.policies.now c.args.tags.now c.args.roles.now)))) c.self.view_is
+    (lists_of no_spares (compiled_of (applied c.args.self.now c.args.policies.now c.args.tags.now c.args.roles.now)))) c.self.view_is
 
 pub returns-clause-steps : goal.returns-clause-steps
 returns-clause-steps g c =

@@ -7,7 +7,7 @@ use Rattle.rg_facts.specs.Sound.{sound}
 use Rattle.rg_facts.specs.declared.facts.Facts.{Facts}
 use Rattle.rg_facts.proofs.Soundness.{lawful, zones_of}
 use Rattle.rg_engine.specs.Bounds.{pairs_in, policies_in}
-use Rattle.rg_engine.specs.Parts.{compiled_of, joined}
+use Rattle.rg_engine.specs.Parts.{compiled_of, joined, lists_of}
 use Rattle.rg_engine.proofs.Counting.{more_work, no_work}
 use Rattle.rg_engine.proofs.Parts.{may_compile}
 use Rattle.rg_engine.proofs.engine.Engine.build.Goals as goal
@@ -22,20 +22,22 @@ pub build-requires-clause-may : goal.build-requires-clause-may
 build-requires-clause-may g c = may_compile c.args.facts c.requires
 
 pub build-requires-2-clause-frame : goal.build-requires-2-clause-frame
-build-requires-2-clause-frame g c = c.in_ok-frame.ensures ∙ sym (ap frame_of c.take.ensures.left)
+build-requires-2-clause-frame g c = c.in_ok-frame.ensures ∙ sym (ap frame_of c.clear.ensures)
 
 pub build-requires-2-clause-lawful : goal.build-requires-2-clause-lawful
-build-requires-2-clause-lawful g c = ap (λ (f : Facts). def_fault f.def) c.take.ensures.left ∙ lawful c.args.facts c.requires
+build-requires-2-clause-lawful g c = ap (λ (f : Facts). def_fault f.def) c.clear.ensures ∙ lawful c.args.facts c.requires
 
 pub build-requires-2-clause-zones : goal.build-requires-2-clause-zones
-build-requires-2-clause-zones g c = ap (λ (f : Facts). all_maps_fit f.service f.def f.zones.items) c.take.ensures.left ∙ zones_of c.args.facts c.requires
+build-requires-2-clause-zones g c = ap (λ (f : Facts). all_maps_fit f.service f.def f.zones.items) c.clear.ensures ∙ zones_of c.args.facts c.requires
 
 pub invariant_of-result : goal.invariant_of-result
 invariant_of-result g c =
-    let same : joined (arc_value c.in_ok-setup.setup) c.of-versions.result c.take.result ≡ c.args.facts =
-    (λ i. joined ((c.in_ok-setup.ensures.ok ∙ c.in_ok-build.ensures ∙ c.take.ensures.left) i) (c.of-versions.ensures i) (c.take.ensures.taken i)) in
+    let lists : lists_of c.of-spares.result c.in_ok-sets.sets ≡ _ = ap (lists_of c.of-spares.result) c.in_ok-sets.ensures.made ∙ c.of-spares.ensures in
+    let same : joined (arc_value c.in_ok-setup.setup) c.of-versions.result (lists_of c.of-spares.result c.in_ok-sets.sets) ≡ c.args.facts =
+    (λ i. joined ((c.in_ok-setup.ensures.ok ∙ c.in_ok-build.ensures ∙ c.clear.ensures) i) (c.of-versions.ensures i) (lists i)) in
     (ap sound same ∙ c.requires, c.in_ok-sets.ensures.made ∙ ap compiled_of (sym same))
 
 pub returns-clause-facts : goal.returns-clause-facts
 returns-clause-facts g c =
-    (λ i. joined ((c.in_ok-setup.ensures.ok ∙ c.in_ok-build.ensures ∙ c.take.ensures.left) i) (c.of-versions.ensures i) (c.take.ensures.taken i))
+    let lists : lists_of c.of-spares.result c.in_ok-sets.sets ≡ _ = ap (lists_of c.of-spares.result) c.in_ok-sets.ensures.made ∙ c.of-spares.ensures in
+    (λ i. joined ((c.in_ok-setup.ensures.ok ∙ c.in_ok-build.ensures ∙ c.clear.ensures) i) (c.of-versions.ensures i) (lists i))

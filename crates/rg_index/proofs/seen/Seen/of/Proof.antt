@@ -1,7 +1,7 @@
 -- What owns nothing is made of nothing, so it may show any value.
 use Rattle.std.proofs.Common.{List, [], ◌∷◌, ◌++◌, refl}
 use Rattle.std.proofs.raw_atomic.Walks.{proved_at}
-use Rattle.rg_index.proofs.Bare.{Bare, bare, from_nothing}
+use Rattle.rg_trie.proofs.Bare.{Bare, bare, from_nothing}
 use contract.Running.{tables}
 use denote.Builtin.{RefOf}
 use denote.Exit.{yes}

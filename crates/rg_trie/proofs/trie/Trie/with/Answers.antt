@@ -1,20 +1,16 @@
-use Rattle.std.proofs.Common.{◌++◌, sym, ap, ◌∙◌, subst}
-use Rattle.std.proofs.lemmas.Result.{IfOk-weaker}
-use Rattle.rg_trie.specs.Blocks.{IsRising, pairs_of}
-use Rattle.rg_trie.specs.Pairs.{Below}
-use Rattle.rg_trie.proofs.Edits.{inserts, inserts_none, inserts_rising}
+use Rattle.std.proofs.Common.{ap, ◌∙◌}
+use Rattle.std.specs.Str.{chars}
+use Rattle.rg_trie.specs.declared.pair.Pair.{Pair}
+use Rattle.rg_trie.specs.Edited.{with_pair}
+use Rattle.rg_trie.proofs.Placing.{inserted}
 use Rattle.rg_trie.proofs.trie.Trie.with.Goals as goal
 
-pub returns-then-is_first : goal.returns-then-is_first
-returns-then-is_first c = IfOk-weaker c.shared.result _ _ (λ t e. e ∙ sym (inserts_none c.cut-cut.ensures (sym c.if-is_first.ensures))) c.shared.ensures
-
-pub joined-requires-clause-rising : goal.joined-requires-clause-rising
-joined-requires-clause-rising c =
-    let cut = c.cut-cut.result in
-    subst (λ xs. IsRising Below ((pairs_of cut.before.now ++ xs) ++ pairs_of cut.after.now)) (sym c.in_ok-middle.ensures) (inserts_rising c.cut-cut.ensures (sym c.if-is_first.ensures))
+pub invariant_of-result : goal.invariant_of-result
+invariant_of-result c =
+    let p : Pair = record { key = chars c.args.key.now; entry = c.args.entry } in
+    inserted p _ _ _ c.hash_of-hash.ensures _ _ c.get.ensures c.in_ok-tree.ensures _ _ _ _ c.self.invariant _ _ _ c.in_ok-bucket.ensures c.in-Some.ensures.1 c.char_count.ensures c.with.ensures c.of.ensures
 
 pub returns : goal.returns
 returns c =
-    let cut = c.cut-cut.result in
-    let made = ap (λ xs. (pairs_of cut.before.now ++ xs) ++ pairs_of cut.after.now) c.in_ok-middle.ensures in
-    IfOk-weaker c.joined.result _ _ (λ t e. e ∙ made ∙ sym (inserts c.cut-cut.ensures (sym c.if-is_first.ensures))) c.joined.ensures
+    let p : Pair = record { key = chars c.args.key.now; entry = c.args.entry } in
+    c.of.ensures ∙ ap (with_pair p) c.self.view_is

@@ -1,21 +1,16 @@
-use Rattle.std.proofs.Common.{◌++◌, sym, ap, ◌∙◌, subst}
-use Rattle.std.proofs.lemmas.Result.{IfOk-weaker}
-use Rattle.rg_trie.specs.Blocks.{IsRising, pairs_of}
-use Rattle.rg_trie.specs.Pairs.{Below}
-use Rattle.rg_trie.proofs.Edits.{removes, removes_none, removes_rising}
+use Rattle.std.proofs.Common.{ap, ◌∙◌}
+use Rattle.std.specs.Str.{chars}
+use Rattle.rg_trie.specs.declared.pair.Pair.{Pair}
+use Rattle.rg_trie.specs.Edited.{without_pair}
+use Rattle.rg_trie.proofs.Placing.{removed}
 use Rattle.rg_trie.proofs.trie.Trie.without.Goals as goal
 
-pub returns-then-not-is_first : goal.returns-then-not-is_first
-returns-then-not-is_first c = IfOk-weaker c.shared.result _ _ (λ t e. e ∙ sym (removes_none c.cut-cut.ensures (sym c.if-not-is_first.ensures))) c.shared.ensures
-
-pub joined-requires-clause-rising : goal.joined-requires-clause-rising
-joined-requires-clause-rising c =
-    let cut = c.cut-cut.result in
-    let made = c.in_ok-middle.ensures ∙ ap (λ xs. cut.front.now ++ xs) c.all_but_first.ensures in
-    subst (λ xs. IsRising Below ((pairs_of cut.before.now ++ xs) ++ pairs_of cut.after.now)) (sym made) (removes_rising c.cut-cut.ensures (sym c.if-not-is_first.ensures))
+pub invariant_of-result : goal.invariant_of-result
+invariant_of-result c =
+    let p : Pair = record { key = chars c.args.key.now; entry = c.args.entry } in
+    removed p _ _ _ c.hash_of-hash.ensures _ _ c.get.ensures c.in_ok-tree.ensures _ _ _ _ c.self.invariant c.in_ok-bucket.ensures c.of.ensures
 
 pub returns : goal.returns
 returns c =
-    let cut = c.cut-cut.result in
-    let made = c.in_ok-middle.ensures ∙ ap (λ xs. cut.front.now ++ xs) c.all_but_first.ensures in
-    IfOk-weaker c.joined.result _ _ (λ t e. e ∙ ap (λ xs. (pairs_of cut.before.now ++ xs) ++ pairs_of cut.after.now) made ∙ sym (removes c.cut-cut.ensures (sym c.if-not-is_first.ensures))) c.joined.ensures
+    let p : Pair = record { key = chars c.args.key.now; entry = c.args.entry } in
+    c.of.ensures ∙ ap (without_pair p) c.self.view_is

@@ -2,7 +2,7 @@ use Rattle.std.proofs.Common.{◌++◌, arith, ◌∙◌}
 use Rattle.std.proofs.lemmas.List.{length-append}
 use Rattle.rg_trie.specs.Blocks.{pairs_of}
 use Rattle.rg_trie.proofs.Shares.{grown_in_order, grown_pairs, grows_on}
-use Rattle.rg_trie.proofs.trie.joined.Goals as goal
+use Rattle.rg_trie.proofs.bucket.joined.Goals as goal
 
 pub share-requires-clause-enough : goal.share-requires-clause-enough
 share-requires-clause-enough c = omega (arith, c.requires.total, c.in_ok-growing.ensures.1, length-append (pairs_of c.args.before.now ++ c.args.middle.items) (pairs_of c.args.after.now), length-append (pairs_of c.args.before.now) c.args.middle.items)

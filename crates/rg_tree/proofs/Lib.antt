@@ -1,0 +1,4 @@
+pub mod Sets
+pub mod Forks
+pub mod Steps
+pub mod Sent
