@@ -1,5 +1,5 @@
 -- What a call does to the keeper's list.
-use Rattle.std.proofs.Common.{◌≡◌, ◌⊎◌, inl, inr, ⊎_elim, ◌==◌, ◌&&◌, ◌||◌, ℕ, ◌+◌, ◌<◌, Bool, true, false, not, true≢false, List, [], ◌∷◌, ◌++◌, length, Option, Some, None, Ok, Err, refl, sym, ap, ◌∙◌, subst, arith, length-append}
+use Rattle.std.proofs.Common.{◌≡◌, inl, inr, ⊎_elim, ◌==◌, ◌&&◌, ◌||◌, ℕ, ◌+◌, ◌<◌, Bool, true, false, not, true≢false, List, [], ◌∷◌, ◌++◌, length, Option, Some, None, Ok, Err, refl, sym, ap, ◌∙◌, subst, arith, length-append}
 use Rattle.rg_base.specs.Listed.{Listed}
 use Rattle.rg_cmd.specs.declared.ask.AdminReply.{AdminReply}
 use Rattle.rg_cmd.specs.declared.ask.Ask.{Ask}
@@ -11,7 +11,7 @@ use Rattle.rg_ask_wire.specs.Asks.{ask_text}
 use Rattle.rg_ask_wire.specs.Keeping.{is_keeping}
 use Rattle.rg_ask_wire.specs.Reading.{ask_reading}
 use Rattle.rg_keep.specs.Crashes.{Gains, IsFit, MayGain, MayLeave, MayTell}
-use Rattle.rg_keep.specs.Keeping.{Adds, HasLength, adds}
+use Rattle.rg_keep.specs.Keeping.{Adds, HasLength}
 use Rattle.rg_keep.specs.Replay.{after_entry, after_reading, is_bad, is_good_reading, is_kept, most_kept, stepped}
 use Rattle.rg_keep.specs.Replaying.{IsStopped, Takes}
 use Rattle.rg_keep.specs.declared.reopen.ReopenCause.TheVariants.{BadRecord}

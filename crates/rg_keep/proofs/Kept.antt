@@ -1,5 +1,5 @@
 -- What stands between the administration and the keeper's list goes on standing.
-use Rattle.std.proofs.Common.{◌≡◌, ◌⊎◌, inl, inr, ⊎_elim, ◌==◌, ◌&&◌, ℕ, ◌+◌, ◌≤◌, ◌<◌, ◌^◌, min, nat_lt, Bool, true, false, not, true≢false, List, [], ◌∷◌, ◌++◌, length, Option, Some, None, Ok, Err, Result, IfOk, refl, sym, ap, ◌∙◌, subst, arith}
+use Rattle.std.proofs.Common.{◌≡◌, inl, inr, ⊎_elim, ◌==◌, ◌&&◌, ℕ, ◌+◌, ◌≤◌, ◌<◌, ◌^◌, min, nat_lt, Bool, true, false, not, true≢false, List, [], ◌∷◌, ◌++◌, length, Option, Some, None, Ok, Err, Result, IfOk, refl, sym, ap, ◌∙◌, subst, arith}
 use Rattle.std.proofs.lemmas.Bool.{and_parts}
 use Rattle.std.proofs.lemmas.Bool.Decides.{nat_tests}
 use Rattle.rg_cmd.specs.declared.ask.Ask.{Ask}
@@ -154,7 +154,7 @@ past_not_added n a ask past added =
     let off = (and_parts (not (n == most_kept)) (is_kept a ask) added).0 in
     true≢false (sym off ∙ ap not at)
 
-after_added : (b : Bool) (entries : List (List ℕ)) (n : ℕ) (config : Config) (a after : Administration) (ask : Ask) (reply : KeptReply) → n ≡ length entries → IsKeptBy config entries a
+pub after_added : (b : Bool) (entries : List (List ℕ)) (n : ℕ) (config : Config) (a after : Administration) (ask : Ask) (reply : KeptReply) → n ≡ length entries → IsKeptBy config entries a
     → adds n a ask ≡ b → (b ≡ true → IsFit a ask n) → IsAnswer a ask after reply → is_full reply ≡ is_past n ask → IsKeptBy config (added_if b (ask_text ask) entries) after
 after_added true entries n config a after ask (Reply reply) counts is added fit answer full =
     subst (IsKeptBy config (entries ++ ask_text ask ∷ [])) (sym (ap (λ (p : Administration × AdminReply). p.0) answer)) (kept_more config entries a ask is (fit_at a ask n (length entries) counts (fit refl)))

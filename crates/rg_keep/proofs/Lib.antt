@@ -1,5 +1,6 @@
 pub mod Adding
 pub mod Alike
+pub mod Events
 pub mod Kept
 pub mod Lists
 pub mod Passing

@@ -1,5 +1,5 @@
 -- Time that goes on through one call after another.
-use Rattle.std.proofs.Common.{◌⊎◌, inl, inr, ⊎_elim, ℕ, List, arith}
+use Rattle.std.proofs.Common.{inl, inr, ⊎_elim, ℕ, List, arith}
 use Rattle.rg_keeper.specs.Keeping.{Passes}
 
 pub stands : (now : ℕ) (since : ℕ → List (List ℕ) → Type 0) (between : List (List ℕ) → Type 0) → Passes now now since since between

@@ -1,4 +1,5 @@
 pub mod Crashes
+pub mod Events
 pub mod Keeping
 pub mod Replay
 pub mod Replaying

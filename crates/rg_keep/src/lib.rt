@@ -3,7 +3,9 @@
 #![tactic(auto)]
 
 mod kept_admin;
+mod laws;
 mod reopen;
 
 pub use kept_admin::{KeptAdmin, KeptReply, Stopped};
+pub use laws::{acknowledged_commands_are_kept, lists_are_reopened};
 pub use reopen::{ReopenCause, ReopenFault};
