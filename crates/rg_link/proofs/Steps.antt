@@ -205,7 +205,7 @@ leads_trans a b c ts us own own2 ds ds2 x y = record {
 -- ---- answers
 
 decided_more : (pubs all : List Publication) (d : Decided) → IsPrefix pubs all → IsDecided pubs d → IsDecided all d
-decided_more pubs all d p x = (x.0, get_more pubs all (d.serial - 1) x.0 p x.1, x.2)
+decided_more pubs all d p x = (x.0, get_more pubs all (d.serial - 1) x.0 p x.1, x.2, x.3)
 
 takes_pubs : (pubs all : List Publication) (m : Message) (call : Call) (P Q : List (Entry Ask AdminReply) → List Decided → Type 0) (own : List (Entry Ask AdminReply)) (ds : List Decided) (r : Response)
     → IsPrefix pubs all → ((o : List (Entry Ask AdminReply)) (d : List Decided) → P o d → Q o d) → Takes pubs m call P own ds r → Takes all m call Q own ds r

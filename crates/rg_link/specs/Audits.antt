@@ -22,9 +22,9 @@ pub record Decided : Type 0 where
 abbrev pub IsPublished : List Publication → ℕ → Publication → Type 0
 IsPublished pubs serial p = slice_get pubs (serial - 1) ≡ Some p
 
--- it is the written flow over the publication of its serial
+-- it is the written flow over the publication of its serial, which is the number that the decision tells
 abbrev pub IsDecided : List Publication → Decided → Type 0
-IsDecided pubs d = (p : Publication) × IsPublished pubs d.serial p × (d.decision ≡ decision_of p d.request)
+IsDecided pubs d = (p : Publication) × IsPublished pubs d.serial p × (d.decision ≡ decision_of p d.request) × (d.decision.serial.0 ≡ d.serial)
 
 -- each request is as the enrichers made it, one after another, and so are the enrichers at the end
 abbrev pub AreEnriched : List EnricherState → List Decided → List EnricherState → Type 0

@@ -82,9 +82,17 @@ fn call_turn<R: Wait>(
     }
 }
 
-/// Rings the bell where something was changed.
-fn ring_for<R: Wait>(rt: &R, bell: &Bell, reply: &AdminReply) {
-    if matches!(reply, AdminReply::Done | AdminReply::Kept { .. }) {
+/// Whether the command may raise a version: users are in nobody's view.
+fn is_for_views(command: &AdminCommand) -> bool {
+    !matches!(
+        command,
+        AdminCommand::PutUser { .. } | AdminCommand::DeleteUser { .. }
+    )
+}
+
+/// Rings the bell where something was changed that a plugin may see.
+fn ring_for<R: Wait>(rt: &R, bell: &Bell, for_views: bool, reply: &AdminReply) {
+    if for_views && matches!(reply, AdminReply::Done | AdminReply::Kept { .. }) {
         bell.ring(rt);
     }
 }
@@ -106,7 +114,7 @@ fn respond(
     response
 }
 
-/// Calls the administration, and makes the answer. The bell is rung where something was changed.
+/// Calls the administration, and makes the answer. The bell is rung where something was changed that a plugin may see.
 fn administer<R: Wait>(
     rt: &R,
     alloc: Global,
@@ -123,9 +131,10 @@ fn administer<R: Wait>(
     ensures uncalled { OnErr result (IsUncalled seat.old seat.new ⊎ ((r : Response) × IsCall seat.old seat.new message.now command part r)) }
 {
     let answered = answered_alike(alloc, &command, part);
+    let for_views = is_for_views(&command);
     match call_turn(rt, alloc, turn, seat, message, command) {
         Ok(reply) => {
-            ring_for(rt, bell, &reply);
+            ring_for(rt, bell, for_views, &reply);
             match respond(alloc, answered, reply, message.close) {
                 Ok(response) => return Ok(response),
                 Err(refused) => return Err(refused),
