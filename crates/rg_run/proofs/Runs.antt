@@ -43,14 +43,14 @@ no_links (Some found) now p q by = by.2
 -- ---- a run of each command
 
 -- memory was refused before anything was done
-pub undone : (a : Around) (command : Option Command) (p : Ports) → IsRun (Answers a a command) p p NoMemory
-undone a None p = record { stands = refl; reads = refl; writes = refl }
-undone a (Some Replay) p = record { stands = (refl, inl (refl, refl)); reads = refl; writes = refl }
-undone a (Some (Serve address links)) p = record { stands = (inl (refl, refl), refl); reads = refl; writes = refl }
-undone a (Some (Drill seed policies requests)) p = record { stands = refl; reads = refl; writes = refl }
-undone a (Some Grants) p = record { stands = (refl, inl (refl, refl)); reads = refl; writes = refl }
-undone a (Some Report) p = record { stands = (refl, inl refl); reads = refl; writes = refl }
-undone a (Some Keep) p = record { stands = (unkept a.shelf.records p, omega arith); reads = refl; writes = refl }
+pub undone : (workers : ℕ) (a : Around) (command : Option Command) (p : Ports) → IsRun (Answers workers a a command) p p NoMemory
+undone workers a None p = record { stands = refl; reads = refl; writes = refl }
+undone workers a (Some Replay) p = record { stands = (refl, inl (refl, refl)); reads = refl; writes = refl }
+undone workers a (Some (Serve address links)) p = record { stands = (inl (refl, refl), refl); reads = refl; writes = refl }
+undone workers a (Some (Drill seed policies requests)) p = record { stands = refl; reads = refl; writes = refl }
+undone workers a (Some Grants) p = record { stands = (refl, inl (refl, refl)); reads = refl; writes = refl }
+undone workers a (Some Report) p = record { stands = (refl, inl refl); reads = refl; writes = refl }
+undone workers a (Some Keep) p = record { stands = (unkept a.shelf.records p, omega arith); reads = refl; writes = refl }
 
 -- how a command ends that nothing failed: with a bad record where it takes the keeper alone
 abbrev pub Ends : Bool → ℕ → Type 0
@@ -63,7 +63,7 @@ any_ends takes n (inr (inr e)) = inr (inr (inl e))
 
 -- a drill whose sink doesn't fail is carried out, or lacks memory
 drilled : (takes : Bool) (a b : Around) (seed policies requests : ℕ) (p q : Ports) (n : ℕ) (status : Status) → n ≡ number_of status
-    → IsRun (Answers a b (Some (Drill seed policies requests))) p q status → q.write_faults ≡ p.write_faults → Ends takes n
+    → IsRun (Answers 0 a b (Some (Drill seed policies requests))) p q status → q.write_faults ≡ p.write_faults → Ends takes n
 drilled takes a b seed policies requests p q n Done e run writes = inl e
 drilled takes a b seed policies requests p q n NoMemory e run writes = inr (inr (inl e))
 drilled takes a b seed policies requests p q n WriteFault e run writes = absurd (omega (arith, run.writes))
@@ -78,17 +78,17 @@ drilled takes a b seed policies requests p q n BadRecord e run writes = absurd r
 module _ (p q : Ports) (n : ℕ) (bytes : List ℕ) (reads : q.read_faults ≡ p.read_faults) (writes : q.write_faults ≡ p.write_faults)
     (told : p.left ≡ Some bytes) (within : is_too_long bytes ≡ false) where
   -- links that were asked for were served, or memory was refused, or a line is bad
-  served : (takes : Bool) (most : ℕ) (d e : Door) (status : Status) → n ≡ number_of status → IsRun (ServesLinks most d e) p q status → e.faults ≡ d.faults → Ends takes n
-  served takes most d e Done is run links = inl is
-  served takes most d e BadLine is run links = inr (inl is)
-  served takes most d e NoMemory is run links = inr (inr (inl is))
-  served takes most d e ReadFault is run links = absurd (omega (arith, run.reads))
-  served takes most d e WriteFault is run links = absurd (omega (arith, run.writes))
-  served takes most d e NetFault is run links = absurd (omega (arith, run.stands.1))
-  served takes most d e TooLong is run links = absurd (in_limits p.left q.left bytes told within run.stands.0.0)
-  served takes most d e Usage is run links = absurd run.stands.0
-  served takes most d e KeepFault is run links = absurd run.stands.0
-  served takes most d e BadRecord is run links = absurd run.stands.0
+  served : (takes : Bool) (most workers : ℕ) (d e : Door) (status : Status) → n ≡ number_of status → IsRun (ServesLinks most workers d e) p q status → e.faults ≡ d.faults → Ends takes n
+  served takes most workers d e Done is run links = inl is
+  served takes most workers d e BadLine is run links = inr (inl is)
+  served takes most workers d e NoMemory is run links = inr (inr (inl is))
+  served takes most workers d e ReadFault is run links = absurd (omega (arith, run.reads))
+  served takes most workers d e WriteFault is run links = absurd (omega (arith, run.writes))
+  served takes most workers d e NetFault is run links = absurd (omega (arith, run.stands.1))
+  served takes most workers d e TooLong is run links = absurd (in_limits p.left q.left bytes told within run.stands.0.0)
+  served takes most workers d e Usage is run links = absurd run.stands.0
+  served takes most workers d e KeepFault is run links = absurd run.stands.0
+  served takes most workers d e BadRecord is run links = absurd run.stands.0
 
   -- a script of a kept administration was worked, or memory was refused, or a record is bad
   kept : (s t : Shelf) (status : Status) → n ≡ number_of status → IsRun (Keeps s t) p q status → t.faults ≡ s.faults → Ends true n
@@ -104,24 +104,24 @@ module _ (p q : Ports) (n : ℕ) (bytes : List ℕ) (reads : q.read_faults ≡ p
   kept s t NetFault is run keeper = absurd (no_links s.records t.records p q run.stands.0)
 
   -- for each command
-  pub completed : (a b : Around) (asked : Option Command) (command : Command) (status : Status) → asked ≡ Some command → n ≡ number_of status
-      → IsRun (Answers a b asked) p q status → b.door.faults ≡ a.door.faults → b.shelf.faults ≡ a.shelf.faults → Ends (takes_keeper asked) n
-  completed a b (Some Replay) command status named is run links keeper = any_ends false n
+  pub completed : (workers : ℕ) (a b : Around) (asked : Option Command) (command : Command) (status : Status) → asked ≡ Some command → n ≡ number_of status
+      → IsRun (Answers workers a b asked) p q status → b.door.faults ≡ a.door.faults → b.shelf.faults ≡ a.shelf.faults → Ends (takes_keeper asked) n
+  completed workers a b (Some Replay) command status named is run links keeper = any_ends false n
       (completes (replayed_with a.hooks.enrichers) p q n status bytes is (run_alone (replayed_with a.hooks.enrichers) a.hooks b.hooks p q status run) reads writes told within)
-  completed a b (Some Grants) command status named is run links keeper = any_ends false n
+  completed workers a b (Some Grants) command status named is run links keeper = any_ends false n
       (completes (grants a.hooks.enrichers) p q n status bytes is (run_alone (grants a.hooks.enrichers) a.hooks b.hooks p q status run) reads writes told within)
-  completed a b (Some Report) command status named is run links keeper = any_ends false n (completes reported p q n status bytes is run reads writes told within)
-  completed a b (Some (Serve address most)) command status named is run links keeper = served false most a.door b.door status is run links
-  completed a b (Some (Drill seed policies requests)) command status named is run links keeper = drilled false a b seed policies requests p q n status is run writes
-  completed a b (Some Keep) command status named is run links keeper = kept a.shelf b.shelf status is run keeper
-  completed a b None command status named is run links keeper = cc
+  completed workers a b (Some Report) command status named is run links keeper = any_ends false n (completes reported p q n status bytes is run reads writes told within)
+  completed workers a b (Some (Serve address most)) command status named is run links keeper = served false most workers a.door b.door status is run links
+  completed workers a b (Some (Drill seed policies requests)) command status named is run links keeper = drilled false a b seed policies requests p q n status is run writes
+  completed workers a b (Some Keep) command status named is run links keeper = kept a.shelf b.shelf status is run keeper
+  completed workers a b None command status named is run links keeper = cc
 
 pub ended_so : (command : Option Command) (n m : ℕ) → m ≡ n → IsEndOf command n → IsEndOf command m
 ended_so command n m same is = subst (IsEndOf command) (sym same) is
 
 -- memory was refused before the command began
 pub never_begun : (command : Option Command) (n : ℕ) → n ≡ 9 → IsEndOf command n
-never_begun command n is = (nobody, nobody, idle, idle, (NoMemory, is, undone nobody command idle)) where
+never_begun command n is = (1, nobody, nobody, idle, idle, (NoMemory, is, undone 1 nobody command idle)) where
   nobody : Around
   nobody = around (door 0 false 0) (shelf None 0) (hooks_of [] [])
 
@@ -129,10 +129,19 @@ never_begun command n is = (nobody, nobody, idle, idle, (NoMemory, is, undone no
   idle = ports None false 0 None None 0
 
 -- a run from the state that grants begin in
-pub by_grants : (a b : Around) (command : Option Command) (s : State) (p q : Ports) (status : Status)
+pub by_grants : (workers : ℕ) (a b : Around) (command : Option Command) (s : State) (p q : Ports) (status : Status)
     → command ≡ Some Grants → s ≡ None
     → IsRun (StandsHooked (Hooked State) (worked (with_enrichers grants_step) (hooked s a.hooks.enrichers) 1) a.hooks b.hooks) p q status
-    → IsRun (Answers a b command) p q status
-by_grants a b command s p q status is first run =
-    subst (λ (c : Option Command). IsRun (Answers a b c) p q status) (sym is)
+    → IsRun (Answers workers a b command) p q status
+by_grants workers a b command s p q status is first run =
+    subst (λ (c : Option Command). IsRun (Answers workers a b c) p q status) (sym is)
     (subst (λ (v : State). IsRun (StandsHooked (Hooked State) (worked (with_enrichers grants_step) (hooked v a.hooks.enrichers) 1) a.hooks b.hooks) p q status) first run)
+
+-- links that were served by as many workers as there are hooks
+pub by_workers : (workers taken : ℕ) (a b : Around) (command : Option Command) (address : List ℕ) (links : ℕ) (p q : Ports) (status : Status)
+    → command ≡ Some (Serve address links) → taken ≡ workers
+    → IsRun (ServesLinks links taken a.door b.door) p q status
+    → IsRun (Answers workers a b command) p q status
+by_workers workers taken a b command address links p q status is same run =
+    subst (λ (c : Option Command). IsRun (Answers workers a b c) p q status) (sym is)
+    (subst (λ (n : ℕ). IsRun (ServesLinks links n a.door b.door) p q status) same run)

@@ -56,16 +56,16 @@ pub record Around : Type 0 where
 abbrev pub around : Door → Shelf → Hooks → Around
 around d s h = record { door = d; shelf = s; hooks = h }
 
--- what stands after the command, None for words that ask for none
-abbrev pub Answers : Around → Around → Option Command → Ports → Ports → Status → Type 0
-Answers a b (Some Replay) p q status = StandsHooked _ (replayed_with a.hooks.enrichers) a.hooks b.hooks p q status
-Answers a b (Some (Serve address links)) p q status = ServesLinks links a.door b.door p q status
-Answers a b (Some (Drill seed policies requests)) p q status = Drilled seed policies requests p.held q.held status
-Answers a b (Some Grants) p q status = StandsHooked _ (grants a.hooks.enrichers) a.hooks b.hooks p q status
-Answers a b (Some Report) p q status = Stands _ reported p q status
-Answers a b (Some Keep) p q status = Keeps a.shelf b.shelf p q status
-Answers a b None p q status = IsTold p q status
+-- what stands after the command with so many workers, None for words that ask for none
+abbrev pub Answers : ℕ → Around → Around → Option Command → Ports → Ports → Status → Type 0
+Answers n a b (Some Replay) p q status = StandsHooked _ (replayed_with a.hooks.enrichers) a.hooks b.hooks p q status
+Answers n a b (Some (Serve address links)) p q status = ServesLinks links n a.door b.door p q status
+Answers n a b (Some (Drill seed policies requests)) p q status = Drilled seed policies requests p.held q.held status
+Answers n a b (Some Grants) p q status = StandsHooked _ (grants a.hooks.enrichers) a.hooks b.hooks p q status
+Answers n a b (Some Report) p q status = Stands _ reported p q status
+Answers n a b (Some Keep) p q status = Keeps a.shelf b.shelf p q status
+Answers n a b None p q status = IsTold p q status
 
 -- the number is that of some run of the command
 abbrev pub IsEndOf : Option Command → ℕ → Type 0
-IsEndOf command n = (a : Around) × (b : Around) × (p : Ports) × (q : Ports) × OfStatus n (IsRun (Answers a b command) p q)
+IsEndOf command n = (workers : ℕ) × (a : Around) × (b : Around) × (p : Ports) × (q : Ports) × OfStatus n (IsRun (Answers workers a b command) p q)

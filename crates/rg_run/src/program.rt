@@ -138,7 +138,7 @@ fn answer<
 ) -> Status
     requires workers { (1 ≤ length hooks.old.items) × (length hooks.old.items ≤ 64) }
     requires keeper { takes_keeper command ≡ true → IsSome keeper.old }
-    ensures run { IsRun (Answers
+    ensures run { IsRun (Answers (length hooks.old.items)
         (around (door (N.given net.old) (N.ended net.old) (N.faults net.old)) (shelf_of P.kept P.faults keeper.old) (first_hooks H.sinks H.enrichers hooks.old.items))
         (around (door (N.given net.new) (N.ended net.new) (N.faults net.new)) (shelf_of P.kept P.faults keeper.new) (first_hooks H.sinks H.enrichers hooks.new.items)) command)
         (ports (S.left source.old) (S.ended source.old) (S.faults source.old) (C.given clock.old) (K.held sink.old) (K.faults sink.old))
@@ -209,7 +209,7 @@ pub fn run<
     // lines and the clock's moments, after a failed write a prefix of the one text that belongs to the words, the bytes and these moments,
     // and a count of faults rose exactly where the status says so. After links were served the totals are those of `AreTotals`. After `keep`
     // the keeper's records are those that were found, and then those of the script, or the first of these where the run broke off.
-    ensures answers { OfStatus result (IsRun (Answers
+    ensures answers { OfStatus result (IsRun (Answers (length hooks.old.items)
         (around (door (N.given net.old) (N.ended net.old) (N.faults net.old)) (shelf_of P.kept P.faults keeper.old) (first_hooks H.sinks H.enrichers hooks.old.items))
         (around (door (N.given net.new) (N.ended net.new) (N.faults net.new)) (shelf_of P.kept P.faults keeper.new) (first_hooks H.sinks H.enrichers hooks.new.items)) (command_of (map string_bytes words.now)))
         (ports (S.left source.old) (S.ended source.old) (S.faults source.old) (C.given clock.old) (K.held sink.old) (K.faults sink.old))

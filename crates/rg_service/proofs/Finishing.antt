@@ -1,12 +1,14 @@
 -- From the parts of a run of `serve` to the whole.
 use Rattle.std.proofs.Common.{◌≡◌, ◌∙◌, ◌<◌, ◌+◌, ◌++◌, ℕ, zero, suc, true, false, List, [], ◌∷◌, length, take, Option, Some, None, append_assoc, append-nil, zero-add, arith, inl, inr, refl, ap, sym, subst}
 use Rattle.rg_base.specs.declared.numbers.Moment.{Moment}
+use Rattle.rg_turn.specs.History.{IsLegal}
+use Rattle.rg_machine.specs.Steps.{step}
 use Rattle.rg_serve.specs.Opened.{Opened}
 use Rattle.rg_work.specs.declared.status.Status.{Status}
 use Rattle.rg_work.specs.declared.status.Status.TheVariants.{Done, Usage, BadLine, ReadFault, WriteFault, NetFault, TooLong, KeepFault, NoMemory, BadRecord}
 use Rattle.rg_work.specs.Follow.{Output}
 use Rattle.rg_work.specs.Limits.{is_too_long}
-use Rattle.rg_service.specs.Links.{AreServed, HasServed, IsStopped}
+use Rattle.rg_service.specs.Links.{AreServed, IsStopped, TellsTotals}
 use Rattle.rg_work.specs.Ports.{Ports}
 use Rattle.rg_service.specs.Preparing.{IsPrepared, IsReady}
 use Rattle.rg_work.specs.Runs.{Follows, IsRun, IsUnread}
@@ -32,27 +34,27 @@ wrote_part old mid new a b first (n, second) =
 
 -- ---- the statuses
 
-pub unread_serves : (most : ℕ) (d : Door) (p q : Ports) (status : Status) → IsRun IsUnread p q status → IsRun (ServesLinks most d d) p q status
-unread_serves most d p q ReadFault r = record { stands = ((r.stands.0, r.stands.1, refl), refl); reads = r.reads; writes = r.writes }
-unread_serves most d p q TooLong r = record { stands = ((r.stands.0, r.stands.1, r.stands.2, refl), refl); reads = r.reads; writes = r.writes }
-unread_serves most d p q WriteFault r = record { stands = (inl (r.stands.0, r.stands.1, r.stands.2, refl), refl); reads = r.reads; writes = r.writes }
-unread_serves most d p q NoMemory r = record { stands = (inl (r.stands.0, refl), refl); reads = r.reads; writes = r.writes }
-unread_serves most d p q Done r = absurd r.stands
-unread_serves most d p q Usage r = absurd r.stands
-unread_serves most d p q BadLine r = absurd r.stands
-unread_serves most d p q NetFault r = absurd r.stands
-unread_serves most d p q KeepFault r = absurd r.stands
-unread_serves most d p q BadRecord r = absurd r.stands
+pub unread_serves : (most workers : ℕ) (d : Door) (p q : Ports) (status : Status) → IsRun IsUnread p q status → IsRun (ServesLinks most workers d d) p q status
+unread_serves most workers d p q ReadFault r = record { stands = ((r.stands.0, r.stands.1, refl), refl); reads = r.reads; writes = r.writes }
+unread_serves most workers d p q TooLong r = record { stands = ((r.stands.0, r.stands.1, r.stands.2, refl), refl); reads = r.reads; writes = r.writes }
+unread_serves most workers d p q WriteFault r = record { stands = (inl (r.stands.0, r.stands.1, r.stands.2, refl), refl); reads = r.reads; writes = r.writes }
+unread_serves most workers d p q NoMemory r = record { stands = (inl (r.stands.0, refl), refl); reads = r.reads; writes = r.writes }
+unread_serves most workers d p q Done r = absurd r.stands
+unread_serves most workers d p q Usage r = absurd r.stands
+unread_serves most workers d p q BadLine r = absurd r.stands
+unread_serves most workers d p q NetFault r = absurd r.stands
+unread_serves most workers d p q KeepFault r = absurd r.stands
+unread_serves most workers d p q BadRecord r = absurd r.stands
 
-module _ (most : ℕ) (d : Door) (p q : Ports) where
-  pub out_of_memory : q.held ≡ p.held → q.read_faults ≡ p.read_faults → q.write_faults ≡ p.write_faults → IsRun (ServesLinks most d d) p q NoMemory
+module _ (most workers : ℕ) (d : Door) (p q : Ports) where
+  pub out_of_memory : q.held ≡ p.held → q.read_faults ≡ p.read_faults → q.write_faults ≡ p.write_faults → IsRun (ServesLinks most workers d d) p q NoMemory
   out_of_memory held reads writes = record { stands = (inl (held, refl), refl); reads = reads; writes = writes }
 
   -- the bytes were read, and worked
-  module _ (got seen text : List ℕ) (workers : ℕ) (o : Option Opened) (all : IsAll p.left got) (ended : q.ended ≡ true) (within : is_too_long got ≡ false) (same : seen ≡ got)
+  module _ (got seen text : List ℕ) (n : ℕ) (o : Option Opened) (all : IsAll p.left got) (ended : q.ended ≡ true) (within : is_too_long got ≡ false) (same : seen ≡ got)
       (reads : q.read_faults ≡ p.read_faults) where
-    pub bad_line : IsPrepared workers seen p.given q.given text None → (printed : List ℕ) → printed ≡ text → Wrote p.held q.held printed → q.write_faults ≡ p.write_faults
-        → IsRun (ServesLinks most d d) p q BadLine
+    pub bad_line : IsPrepared n seen p.given q.given text None → (printed : List ℕ) → printed ≡ text → Wrote p.held q.held printed → q.write_faults ≡ p.write_faults
+        → IsRun (ServesLinks most workers d d) p q BadLine
     bad_line (output, comes, bad, is) printed spelled wrote writes = record {
       stands = (
         (output, follows taken p q got seen [] output all ended within same comes, bad, subst (Wrote p.held q.held) (spelled ∙ is) wrote, refl),
@@ -62,13 +64,13 @@ module _ (most : ℕ) (d : Door) (p q : Ports) where
       writes = writes;
     }
 
-    pub unprinted : IsPrepared workers seen p.given q.given text o → (printed : List ℕ) → printed ≡ text → WrotePrefix p.held q.held printed → p.write_faults < q.write_faults
-        → IsRun (ServesLinks most d d) p q WriteFault
+    pub unprinted : IsPrepared n seen p.given q.given text o → (printed : List ℕ) → printed ≡ text → WrotePrefix p.held q.held printed → p.write_faults < q.write_faults
+        → IsRun (ServesLinks most workers d d) p q WriteFault
     unprinted is printed spelled wrote writes =
         let part : WrotePrefix p.held q.held text = subst (WrotePrefix p.held q.held) spelled wrote in
         record { stands = (inr (inl (from o is part)), refl); reads = reads; writes = writes }
       where
-        from : (o : Option Opened) → IsPrepared workers seen p.given q.given text o → WrotePrefix p.held q.held text
+        from : (o : Option Opened) → IsPrepared n seen p.given q.given text o → WrotePrefix p.held q.held text
             → (output : Output Asking) × Follows Asking taken p q [] output × WrotePrefix p.held q.held (printed_of output) × (d ≡ d)
         from None (output, comes, bad, is) part =
             (output, follows taken p q got seen [] output all ended within same comes, subst (WrotePrefix p.held q.held) is part, refl)
@@ -83,13 +85,13 @@ pub there : (workers : ℕ) (seen text : List ℕ) (clock clock' : Option (List 
     → IsPrepared workers seen clock clock' text found → IsPrepared workers seen clock clock' text (Some o)
 there workers seen text clock clock' found o is prepared = subst (IsPrepared workers seen clock clock' text) is prepared
 
-module _ (most : ℕ) (d e : Door) (p q : Ports) (now : Option (List Moment)) (mid : Option (List ℕ)) (got seen text printed : List ℕ) (workers : ℕ) (o : Opened)
+module _ (most workers : ℕ) (d e : Door) (p q : Ports) (now : Option (List Moment)) (mid : Option (List ℕ)) (got seen text printed : List ℕ) (n : ℕ) (o : Opened)
     (all : IsAll p.left got) (ended : q.ended ≡ true) (within : is_too_long got ≡ false) (same : seen ≡ got) (reads : q.read_faults ≡ p.read_faults)
-    (prepared : IsPrepared workers seen p.given now text (Some o)) (spelled : printed ≡ text) (wrote : Wrote p.held mid printed) where
+    (prepared : IsPrepared n seen p.given now text (Some o)) (as_many : n ≡ workers) (spelled : printed ≡ text) (wrote : Wrote p.held mid printed) where
   abbrev a : Asked
   a = prepared.0
 
-  ready : IsReady a.start a.asks workers o text
+  ready : IsReady a.start a.asks n o text
   ready = prepared.6
 
   whole : IsTakenWhole p q a
@@ -98,7 +100,7 @@ module _ (most : ℕ) (d e : Door) (p q : Ports) (now : Option (List Moment)) (m
   replied : Wrote p.held mid (replies_to a)
   replied = subst (Wrote p.held mid) (spelled ∙ ready.text_is) wrote
 
-  pub stopped : (status : Status) → IsStopped d.faults e.faults status → q.held ≡ mid → q.write_faults ≡ p.write_faults → IsRun (ServesLinks most d e) p q status
+  pub stopped : (status : Status) → IsStopped d.faults e.faults status → q.held ≡ mid → q.write_faults ≡ p.write_faults → IsRun (ServesLinks most workers d e) p q status
   stopped NetFault net held writes = record { stands = ((a, whole, subst (λ h. Wrote p.held h (replies_to a)) (sym held) replied), net); reads = reads; writes = writes }
   stopped NoMemory net held writes = record { stands = (inr (a, whole, subst (λ h. Wrote p.held h (replies_to a)) (sym held) replied), net); reads = reads; writes = writes }
   stopped Done net held writes = absurd net
@@ -110,17 +112,25 @@ module _ (most : ℕ) (d e : Door) (p q : Ports) (now : Option (List Moment)) (m
   stopped KeepFault net held writes = absurd net
   stopped BadRecord net held writes = absurd net
 
-  totals : (t : Numbers) → AreServed most o d e t → AreTotals most a d e t
+  totals : (t : Numbers) → AreServed most o d e t → AreTotals most workers a d e t
   totals t served = record {
     given = served.given;
     all = served.all;
+    opened = o;
+    opens = record { start = ready.opens.start; from = ready.opens.from; reply = ready.opens.reply; history = ready.opens.history; calls = ready.opens.calls };
+    workers_are = ready.workers_are ∙ as_many;
+    past = served.past;
+    counts = served.counts;
+    legal = subst (λ x. IsLegal step x served.past) ready.opens.start served.legal;
+    begins = served.begins;
+    served = served.served;
     entries = omega (arith, ready.entries, served.entries);
     few = served.few;
     some = omega (arith, ready.some, served.more);
     raised = λ raised. omega (arith, ready.raised raised, served.more);
   }
 
-  pub finished : (last told : List ℕ) → HasServed most o d e last → told ≡ last → Wrote mid q.held told → q.write_faults ≡ p.write_faults → IsRun (ServesLinks most d e) p q Done
+  pub finished : (last told : List ℕ) → TellsTotals most o d e last → told ≡ last → Wrote mid q.held told → q.write_faults ≡ p.write_faults → IsRun (ServesLinks most workers d e) p q Done
   finished last told (t, is, served) spells wrote_last writes = record {
     stands = (
       (a, t, whole, totals t served, wrote_both p.held mid q.held (replies_to a) (totals_line t) replied (subst (Wrote mid q.held) (spells ∙ is) wrote_last)),
@@ -130,7 +140,7 @@ module _ (most : ℕ) (d e : Door) (p q : Ports) (now : Option (List Moment)) (m
     writes = writes;
   }
 
-  pub unfinished : (last told : List ℕ) → HasServed most o d e last → told ≡ last → WrotePrefix mid q.held told → p.write_faults < q.write_faults → IsRun (ServesLinks most d e) p q WriteFault
+  pub unfinished : (last told : List ℕ) → TellsTotals most o d e last → told ≡ last → WrotePrefix mid q.held told → p.write_faults < q.write_faults → IsRun (ServesLinks most workers d e) p q WriteFault
   unfinished last told (t, is, served) spells wrote_last writes = record {
     stands = (
       inr (inr (a, t, whole, totals t served, wrote_part p.held mid q.held (replies_to a) (totals_line t) replied (subst (WrotePrefix mid q.held) (spells ∙ is) wrote_last))),

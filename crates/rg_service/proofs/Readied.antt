@@ -8,11 +8,12 @@ use Rattle.rg_turn.specs.View.{entry}
 use Rattle.rg_turn.proofs.Histories.{state_after_snoc, state_at_end}
 use Rattle.rg_facts.specs.declared.facts.Facts.{Facts}
 use Rattle.rg_cmd.specs.declared.ask.AdminReply.{AdminReply}
+use Rattle.rg_cmd.specs.declared.ask.AdminReply.TheVariants.{Downloaded}
 use Rattle.rg_cmd.specs.declared.ask.Ask.{Ask}
 use Rattle.rg_cmd.specs.declared.config.Config.{Config}
 use Rattle.rg_cmd.specs.declared.rule.Rule.{Rule}
 use Rattle.rg_machine.specs.Logs.{Administration}
-use Rattle.rg_machine.specs.Machine.{same_versions, versions}
+use Rattle.rg_machine.specs.Machine.{download_ask, same_versions, versions}
 use Rattle.rg_machine.specs.Steps.{step}
 use Rattle.rg_machine.specs.Views.{view}
 use Rattle.rg_admin.specs.Starting.{start_fault}
@@ -31,7 +32,7 @@ use Rattle.rg_work.specs.declared.status.Status.TheVariants.{Done, BadLine}
 use Rattle.rg_work.specs.Follow.{Comes, Decided, Output, Work, bad_line_text, before, ends_bad, worked}
 use Rattle.rg_service.specs.Preparing.{AreAsked, IsPrepared, IsReady}
 use Rattle.rg_work.specs.Printed.{reply_line}
-use Rattle.rg_service.specs.Serve.{AreRaised, Asked, Asking, after_asks, ask_taken, begun_unless, config_taken, line_taken, replies, serve_step, taken, unless_begun}
+use Rattle.rg_service.specs.Serve.{AreRaised, Asked, Asking, IsOpened, after_asks, ask_taken, begun_unless, config_taken, entries_of, line_taken, replies, serve_step, taken, unless_begun}
 
 -- what an option is mapped from
 mapped : {A B : Type 0} (f : A → B) (o : Option A) (b : B) → option_map f o ≡ Some b → (a : A) × (o ≡ Some a) × (f a ≡ b)
@@ -50,13 +51,17 @@ after_snoc : (a : Administration) (asks : List Ask) (ask : Ask) → after_asks a
 after_snoc a [] ask = refl
 after_snoc a (b ∷ asks) ask = after_snoc (step a b).0 asks ask
 
+entries_snoc : (a : Administration) (asks : List Ask) (ask : Ask) → entries_of a (asks ++ ask ∷ []) ≡ entries_of a asks ++ entry ask (step (after_asks a asks) ask).1 ∷ []
+entries_snoc a [] ask = refl
+entries_snoc a (b ∷ asks) ask = ap (λ l. entry b (step a b).1 ∷ l) (entries_snoc (step a b).0 asks ask)
+
 pub asked_none : (o : Opened) → AreAsked o [] o []
 asked_none o = record {
   start = refl;
   published = refl;
   workers = refl;
   calls = omega arith;
-  alone = λ is. (is, refl, refl);
+  alone = λ is. (is, refl, refl, sym (append-nil o.history));
 }
 
 module _ (o mid later : Opened) (asks : List Ask) (ask : Ask) (reply : AdminReply) (text text' : List ℕ) (all : AreAsked o asks mid text) (one : IsAsked mid ask reply later)
@@ -81,6 +86,11 @@ module _ (o mid later : Opened) (asks : List Ask) (ask : Ask) (reply : AdminRepl
               ∙ (ap (λ t. t ++ reply_line reply) before.2
               ∙ (ap (λ r. replies (present o) asks ++ reply_line r) (now.1 ∙ ap (λ a. (step a ask).1) before.1)
               ∙ sym (replies_snoc (present o) asks ask))),
+          now.2
+              ∙ (ap (λ h. h ++ entry ask reply ∷ []) before.3
+              ∙ (append_assoc o.history (entries_of (present o) asks) (entry ask reply ∷ [])
+              ∙ (ap (λ r. o.history ++ (entries_of (present o) asks ++ entry ask r ∷ [])) (now.1 ∙ ap (λ a. (step a ask).1) before.1)
+              ∙ ap (λ l. o.history ++ l) (sym (entries_snoc (present o) asks ask))))),
         );
   }
 
@@ -110,7 +120,7 @@ module _ (workers : ℕ) (admin : Administration) (asks : List Ask) (o mid later
   list : mid.published ≡ publication 1 0 first ∷ []
   list = all.published ∙ sym (ap (λ (x : Opened). x.published) begins.2)
 
-  alone : IsAlone o × (present mid ≡ after_asks (present o) asks) × (text ≡ replies (present o) asks)
+  alone : IsAlone o × (present mid ≡ after_asks (present o) asks) × (text ≡ replies (present o) asks) × (mid.history ≡ o.history ++ entries_of (present o) asks)
   alone = all.alone again.before
 
   more : (length mid.published ≤ length later.published) × (is_unpublished refresh ≡ false → length mid.published + 1 ≤ length later.published)
@@ -135,9 +145,25 @@ module _ (workers : ℕ) (admin : Administration) (asks : List Ask) (o mid later
       let is : again.published.present ≡ g = same_Some again.published.present g (sym seen ∙ g_is) in
       again.published.unchanged ∙ (ap (λ x. same_versions (versions x) (versions again.published.present)) was ∙ (ap (λ x. same_versions (versions f) (versions x)) is ∙ differ))
 
+  -- what was asked until then
+  asked : mid.history ≡ entries_of admin asks
+  asked = alone.3 ∙ (ap (λ h. h ++ entries_of (present o) asks) (sym (ap (λ (x : Opened). x.history) begins.2)) ∙ ap (λ a. entries_of a asks) opening)
+
+  opened_so : IsOpened (record { start = admin; asks = asks }) later
+  opened_so = record {
+    start = ap (λ (x : Opened). x.start) again.later ∙ starts;
+    from = versions again.published.newest.facts;
+    reply = Downloaded again.document;
+    history =
+        again.history
+        ∙ (ap (λ h. h ++ entry (download_ask mid.start.state.plugin (versions again.published.newest.facts)) (Downloaded again.document) ∷ []) asked
+        ∙ ap (λ a. entries_of admin asks ++ entry (download_ask a.state.plugin (versions again.published.newest.facts)) (Downloaded again.document) ∷ []) starts);
+    calls = sym again.after;
+  }
+
   pub readied : IsReady admin asks workers later text
   readied = record {
-    starts = ap (λ (x : Opened). x.start) again.later ∙ starts;
+    opens = opened_so;
     workers_are = ap (λ (x : Opened). x.workers) again.later ∙ (all.workers ∙ many);
     entries = omega (arith, again.after, ap (λ (x : Opened). x.calls) again.later, all.calls, ap (λ (x : Opened). x.calls) begins.2);
     text_is = alone.2 ∙ ap (λ a. replies a asks) opening;

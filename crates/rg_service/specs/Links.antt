@@ -1,6 +1,13 @@
 -- For proofs alone: what the links of `serve` leave.
 use Rattle.std.specs.Prelude.{◌≡◌, ◌⊎◌, ◌<◌, ◌≤◌, ◌+◌, ℕ, List, length, true}
+use mathlib.Core.List.{IsPrefix}
+use Rattle.rg_cmd.specs.declared.ask.AdminReply.{AdminReply}
+use Rattle.rg_cmd.specs.declared.ask.Ask.{Ask}
+use Rattle.rg_turn.specs.History.{IsLegal}
+use Rattle.rg_turn.specs.declared.rule.Entry.{Entry}
+use Rattle.rg_machine.specs.Steps.{step}
 use Rattle.rg_serve.specs.Opened.{Opened}
+use Rattle.rg_serve.specs.Served.{HasServed}
 use Rattle.rg_work.specs.declared.status.Status.{Status}
 use Rattle.rg_work.specs.declared.status.Status.TheVariants.{NetFault, NoMemory}
 use Rattle.rg_service.specs.Serve.{Door, Numbers, totals_line}
@@ -9,13 +16,18 @@ use Rattle.rg_service.specs.Serve.{Door, Numbers, totals_line}
 pub record AreServed (most : ℕ) (o : Opened) (d e : Door) (t : Numbers) : Type 0 where
   pub given : e.given ≡ d.given + t.links
   pub all : (t.links ≤ most) × ((t.links ≡ most) ⊎ (e.ended ≡ true))
+  pub past : List (Entry Ask AdminReply)
+  pub counts : t.entries ≡ length past
+  pub legal : IsLegal step o.start past
+  pub begins : IsPrefix o.history past
+  pub served : HasServed o t.links past t.publications t.decisions
   pub entries : length o.history + 1 ≤ t.entries
   pub few : t.publications ≤ t.entries + 1
   pub more : length o.published ≤ t.publications
   pub faults : e.faults ≡ d.faults
 
-abbrev pub HasServed : ℕ → Opened → Door → Door → List ℕ → Type 0
-HasServed most o d e text = (t : Numbers) × (text ≡ totals_line t) × AreServed most o d e t
+abbrev pub TellsTotals : ℕ → Opened → Door → Door → List ℕ → Type 0
+TellsTotals most o d e text = (t : Numbers) × (text ≡ totals_line t) × AreServed most o d e t
 
 -- why links are served no longer, and the listener's faults
 abbrev pub IsStopped : ℕ → ℕ → Status → Type 0

@@ -1,5 +1,5 @@
 -- For proofs alone: how the script of `serve` is held, and what it leaves.
-use Rattle.std.specs.Prelude.{◌≡◌, ◌≤◌, ◌+◌, ℕ, List, [], length, Option, Some, None}
+use Rattle.std.specs.Prelude.{◌≡◌, ◌≤◌, ◌+◌, ◌++◌, ℕ, List, [], length, Option, Some, None}
 use Rattle.rg_base.specs.declared.numbers.Moment.{Moment}
 use Rattle.rg_cmd.specs.declared.ask.Ask.{Ask}
 use Rattle.rg_machine.specs.Logs.{Administration}
@@ -7,7 +7,7 @@ use Rattle.rg_machine.specs.Starts.{IsStart}
 use Rattle.rg_serve.specs.Opened.{IsAlone, Opened, present}
 use Rattle.rg_work.specs.declared.status.Status.TheVariants.{Done, BadLine}
 use Rattle.rg_work.specs.Follow.{Comes, Output}
-use Rattle.rg_service.specs.Serve.{AreRaised, Asked, Asking, after_asks, printed_of, replies, taken}
+use Rattle.rg_service.specs.Serve.{AreRaised, Asked, Asking, IsOpened, after_asks, entries_of, printed_of, replies, taken}
 
 abbrev pub asking : Option Administration → List Ask → Asking
 asking None asks = None
@@ -24,11 +24,13 @@ pub record AreAsked (o : Opened) (asks : List Ask) (later : Opened) (text : List
   pub published : later.published ≡ o.published
   pub workers : later.workers ≡ o.workers
   pub calls : later.calls ≡ o.calls + length asks
-  pub alone : IsAlone later → IsAlone o × (present later ≡ after_asks (present o) asks) × (text ≡ replies (present o) asks)
+  pub alone :
+      IsAlone later →
+      IsAlone o × (present later ≡ after_asks (present o) asks) × (text ≡ replies (present o) asks) × (later.history ≡ o.history ++ entries_of (present o) asks)
 
 -- the service was asked these alone, and refreshed then
 pub record IsReady (start : Administration) (asks : List Ask) (workers : ℕ) (o : Opened) (text : List ℕ) : Type 0 where
-  pub starts : o.start ≡ start
+  pub opens : IsOpened (record { start = start; asks = asks }) o
   pub workers_are : o.workers ≡ workers
   pub entries : length o.history ≡ length asks + 1
   pub text_is : text ≡ replies start asks

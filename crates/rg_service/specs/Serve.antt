@@ -1,16 +1,23 @@
 -- The command `serve`: a script of one configuration and commands of the administration, and then links. To be read after Follow and
 -- Streams; Runs has it among the other commands.
 use Rattle.std.specs.Prelude.{◌≡◌, ◌⊎◌, ◌≤◌, ℕ, ◌+◌, ◌++◌, Bool, true, false, List, [], ◌∷◌, length, codes, decimal, Option, Some, None, option_map}
+use mathlib.Core.List.{IsPrefix}
 use Rattle.rg_base.specs.declared.numbers.Moment.{Moment}
 use Rattle.rg_facts.specs.declared.facts.Facts.{Facts}
+use Rattle.rg_cmd.specs.declared.ask.AdminReply.{AdminReply}
 use Rattle.rg_cmd.specs.declared.ask.Ask.{Ask}
 use Rattle.rg_cmd.specs.declared.config.Config.{Config}
 use Rattle.rg_cmd.specs.declared.rule.Rule.{Rule}
+use Rattle.rg_turn.specs.History.{IsLegal}
+use Rattle.rg_turn.specs.View.{entry}
+use Rattle.rg_turn.specs.declared.rule.Entry.{Entry}
 use Rattle.rg_machine.specs.Logs.{Administration}
-use Rattle.rg_machine.specs.Machine.{same_versions, versions}
+use Rattle.rg_machine.specs.Machine.{Versions, download_ask, same_versions, versions}
 use Rattle.rg_machine.specs.Steps.{step}
 use Rattle.rg_machine.specs.Views.{view}
 use Rattle.rg_admin.specs.Starting.{start_fault, started}
+use Rattle.rg_serve.specs.Opened.{Opened}
+use Rattle.rg_serve.specs.Served.{HasServed}
 use Rattle.rg_script.specs.declared.line.Line.{Line}
 use Rattle.rg_script.specs.declared.line.Line.TheVariants as line
 use Rattle.rg_script.specs.Line.{line_of}
@@ -86,6 +93,11 @@ abbrev pub after_asks : Administration → List Ask → Administration
 after_asks a [] = a
 after_asks a (ask ∷ asks) = after_asks (step a ask).0 asks
 
+-- the entries that they make
+abbrev pub entries_of : Administration → List Ask → List (Entry Ask AdminReply)
+entries_of a [] = []
+entries_of a (ask ∷ asks) = entry ask (step a ask).1 ∷ entries_of (step a ask).0 asks
+
 abbrev pub replies_to : Asked → List ℕ
 replies_to a = replies a.start a.asks
 
@@ -125,11 +137,30 @@ totals_line t =
     codes "links=" ++ (decimal t.links ++ (codes " entries=" ++ (decimal t.entries ++ (codes " publications=" ++ (decimal t.publications
     ++ (codes " decisions=" ++ (decimal t.decisions ++ codes "\n")))))))
 
--- the links are those that the listener gave, and they are as many as were asked for, or the listener has ended. The entries are the asks,
--- the two refreshes, and what the links asked. Each publication but the first came after an entry, and what the asks raised was published
-pub record AreTotals (most : ℕ) (a : Asked) (d e : Door) (t : Numbers) : Type 0 where
+-- the service before it serves links: its history is the asks with their replies, and then the plugin's download
+pub record IsOpened (a : Asked) (o : Opened) : Type 0 where
+  pub start : o.start ≡ a.start
+  pub from : Versions
+  pub reply : AdminReply
+  pub history : o.history ≡ entries_of a.start a.asks ++ entry (download_ask a.start.state.plugin from) reply ∷ []
+  pub calls : o.calls ≡ length o.history
+
+-- The links are those that the listener gave, and they are as many as were asked for, or the listener has ended. The entries are the asks,
+-- the two refreshes, and what the links asked. Each publication but the first came after an entry, and what the asks raised was published.
+-- The numbers are those of the service that was opened, when it was closed: of its whole history, which is legal from the start, of its
+-- publications, and of the decisions of its links. Each link had one session of one worker, and none of them was short of memory, as
+-- `HasServed` says
+pub record AreTotals (most workers : ℕ) (a : Asked) (d e : Door) (t : Numbers) : Type 0 where
   pub given : e.given ≡ d.given + t.links
   pub all : (t.links ≤ most) × ((t.links ≡ most) ⊎ (e.ended ≡ true))
+  pub opened : Opened
+  pub opens : IsOpened a opened
+  pub workers_are : opened.workers ≡ workers
+  pub past : List (Entry Ask AdminReply)
+  pub counts : t.entries ≡ length past
+  pub legal : IsLegal step a.start past
+  pub begins : IsPrefix opened.history past
+  pub served : HasServed opened t.links past t.publications t.decisions
   pub entries : length a.asks + 2 ≤ t.entries
   pub few : t.publications ≤ t.entries + 1
   pub some : 1 ≤ t.publications

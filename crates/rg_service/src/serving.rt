@@ -3,7 +3,7 @@ ghost use Rattle.std.specs.Prelude.{◌≡◌, ◌⊎◌, ◌≤◌, ◌++◌, �
 ghost use Rattle.rg_work.specs.Ports.{ports};
 ghost use Rattle.rg_work.specs.Runs.{IsRun};
 ghost use Rattle.rg_service.specs.Serves.{ServesLinks};
-ghost use Rattle.rg_service.specs.Links.{HasServed, IsStopped};
+ghost use Rattle.rg_service.specs.Links.{IsStopped, TellsTotals};
 ghost use Rattle.rg_service.specs.Serve.{door, totals_line};
 
 use crate::preparing::{Prepared, prepare};
@@ -52,8 +52,8 @@ fn totals_of(alloc: Global, served: Served) -> Result<String, NoMemory>
     Ok(text)
 }
 
-/// Serves links, and gives the last line, or the status that the run ends with.
-fn serve_links<
+/// Takes links, serves them all, and gives the last line, or the status that the run ends with.
+fn take_links<
     N: Listener,
     C: Clock,
     G: Gate,
@@ -72,7 +72,7 @@ fn serve_links<
     links: u32,
 ) -> Result<String, Status>
     requires { length hooks.items ≡ opened.workers }
-    ensures served { IfOk result (λ text. HasServed links opened (door (N.given net.old) (N.ended net.old) (N.faults net.old)) (door (N.given net.new) (N.ended net.new) (N.faults net.new)) (string_bytes text)) }
+    ensures served { IfOk result (λ text. TellsTotals links opened (door (N.given net.old) (N.ended net.old) (N.faults net.old)) (door (N.given net.new) (N.ended net.new) (N.faults net.new)) (string_bytes text)) }
     ensures stopped { IfErr result (IsStopped (N.faults net.old) (N.faults net.new)) }
 {
     match serve(
@@ -117,7 +117,7 @@ pub fn serve_script<
     hooks: Vec<H>,
 ) -> Status
     requires { (1 ≤ length hooks.items) × (length hooks.items ≤ 64) }
-    ensures run { IsRun (ServesLinks links
+    ensures run { IsRun (ServesLinks links (length hooks.items)
         (door (N.given net.old) (N.ended net.old) (N.faults net.old))
         (door (N.given net.new) (N.ended net.new) (N.faults net.new)))
         (ports (S.left source.old) (S.ended source.old) (S.faults source.old) (C.given clock.old) (K.held sink.old) (K.faults sink.old))
@@ -145,7 +145,7 @@ pub fn serve_script<
         Some(opened) => opened,
         None => return Status::BadLine,
     };
-    let totals = match serve_links(rt, alloc, opened, hooks, net, address, clock, gate, links) {
+    let totals = match take_links(rt, alloc, opened, hooks, net, address, clock, gate, links) {
         Ok(totals) => totals,
         Err(status) => return status,
     };
