@@ -1,6 +1,7 @@
 mod Building
 mod Counting
 mod Leaving
+mod Marking
 mod Passing
 mod Planning
 mod Refiled

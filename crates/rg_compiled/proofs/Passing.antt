@@ -36,7 +36,7 @@ no_fault frame side p h = at (policy_fault frame side p) refl h where
   at None e g = e
   at (Some n) e g = let wrong : is_none (Some n) ≡ true = ap is_none (sym e) ∙ g in cc
 
-values_pass : (frame : Frame) (side : Side) (p : Policy) → policy_fault frame side p ≡ None → policy_values_fit (def_of frame side) p ≡ true
+pub values_pass : (frame : Frame) (side : Side) (p : Policy) → policy_fault frame side p ≡ None → policy_values_fit (def_of frame side) p ≡ true
 unfolding policy_fault
 values_pass frame side p h =
     let def = def_of frame side in

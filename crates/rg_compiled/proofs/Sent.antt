@@ -25,6 +25,8 @@ use Rattle.rg_cond.proofs.spans.Span.TheSendSync as span
 use Rattle.rg_cond.proofs.conditions.Condition.TheSendSync as condition
 use Rattle.rg_evalr.proofs.frame.Side.TheSendSync as side
 use Rattle.rg_evalr.proofs.item.CompiledItem.TheSendSync as item
+use Rattle.rg_compiled.proofs.marks.Mark.TheSendSync as mark
+use Rattle.rg_defs.proofs.service_def.Level.TheSendSync as level
 use Rattle.rg_policy.proofs.policy.Policy.TheSendSync as policy
 use Rattle.rg_tags.proofs.row.TagRow.TheSendSync as row
 
@@ -53,10 +55,10 @@ evaluator_sync : IsSync E.the_row
 evaluator_sync = search (sendable, evaluator_inside_sync) depth 20
 
 policy_inside_send : IsSend HI.the_row
-policy_inside_send = declared_send HI.the_type (search (sendable, policy.the_send) depth 40, (search (sendable, evaluator_send) depth 40, tt))
+policy_inside_send = declared_send HI.the_type (search (sendable, mark.the_send) depth 20, (search (sendable, mark.the_send) depth 20, (search (sendable, policy.the_send) depth 40, (search (sendable, evaluator_send) depth 40, tt))))
 
 policy_inside_sync : IsSync HI.the_row
-policy_inside_sync = declared_sync HI.the_type (search (sendable, policy.the_sync) depth 40, (search (sendable, evaluator_sync) depth 40, tt))
+policy_inside_sync = declared_sync HI.the_type (search (sendable, mark.the_sync) depth 20, (search (sendable, mark.the_sync) depth 20, (search (sendable, policy.the_sync) depth 40, (search (sendable, evaluator_sync) depth 40, tt))))
 
 pub held_policy_send : IsSend H.the_row
 held_policy_send = search (sendable, policy_inside_send) depth 20
@@ -90,10 +92,10 @@ module _ (H : RattleType) (g : Ghosts H.Denot) (s : IsSend H) (y : IsSync H) whe
   shelf_sync = search (sendable, shelf_inside_sync) depth 20
 
 policies_inside_send : IsSend SI.the_row
-policies_inside_send = declared_send SI.the_type (search (crosses, sendable, shelf_send, held_policy_send, held_policy_sync) depth 60, (search (sendable, side.the_send) depth 40, (search (crosses, sendable) depth 40, tt)))
+policies_inside_send = declared_send SI.the_type (search (crosses, sendable, shelf_send, held_policy_send, held_policy_sync) depth 60, (search (crosses, sendable, seq.the_send, seq.the_sync, level.the_send, level.the_sync) depth 40, (search (sendable, side.the_send) depth 40, (search (crosses, sendable) depth 40, tt))))
 
 policies_inside_sync : IsSync SI.the_row
-policies_inside_sync = declared_sync SI.the_type (search (crosses, sendable, shelf_sync, held_policy_send, held_policy_sync) depth 60, (search (sendable, side.the_sync) depth 40, (search (crosses, sendable) depth 40, tt)))
+policies_inside_sync = declared_sync SI.the_type (search (crosses, sendable, shelf_sync, held_policy_send, held_policy_sync) depth 60, (search (crosses, sendable, seq.the_send, seq.the_sync, level.the_send, level.the_sync) depth 40, (search (sendable, side.the_sync) depth 40, (search (crosses, sendable) depth 40, tt))))
 
 pub policies_send : IsSend S.the_row
 policies_send = search (sendable, policies_inside_send) depth 20

@@ -1,5 +1,6 @@
 -- What a set's slots say of its policies or rows.
-use Rattle.std.proofs.Common.{◌≡◌, ◌≤◌, ◌||◌, ℕ, ℤ, Bool, true, false, List, Contains, None, length, map, refl, sym, ap, subst, ◌∙◌, arith}
+use Rattle.std.proofs.Common.{◌≡◌, ◌≤◌, ◌||◌, ℕ, ℤ, Bool, true, false, List, Contains, None, filter, length, map, refl, sym, ap, subst, ◌∙◌, arith}
+use Rattle.std.proofs.lemmas.List.Sums.{count_by-le-length, length-filter}
 use Rattle.std.specs.List.{sum_by}
 use Rattle.rg_policy.specs.Maps.{maps_of}
 use Rattle.rg_policy.specs.declared.policy.Policy.{Policy}
@@ -13,9 +14,10 @@ use Rattle.rg_evalr.specs.declared.frame.Frame.{Frame}
 use Rattle.rg_evalr.specs.declared.frame.Side.{Side}
 use Rattle.rg_index.specs.Candidates.{bound}
 use Rattle.rg_index.specs.declared.form.Form.{Form}
-use Rattle.rg_base.proofs.Lists.{Contains-map, Contains-mapped}
+use Rattle.rg_base.proofs.Lists.{Contains-filter, Contains-filtered, Contains-map, Contains-mapped}
 use Rattle.rg_compiled.specs.Bounds.{policy_forms, row_forms}
 use Rattle.rg_compiled.specs.Kept.{AreFound, ArePolicies, AreRows, Placed, Shelved, all_held, held_forms, left_after, policies_in, row_source_form, rows_in, source_form}
+use Rattle.rg_compiled.specs.Marks.{Asked, admits, admitted}
 use Rattle.rg_compiled.specs.Seen.{Policies, RowSource, Rows, row_source, source}
 use Rattle.rg_compiled.proofs.Leaving.{among_left, asked_left, few_left, weighed_left}
 use Rattle.rg_compiled.proofs.Passing.{policy_forms_held, row_forms_held}
@@ -55,29 +57,39 @@ module _ (frame : Frame) (side : Side) (shelf : Shelved Source) (are : ArePolici
       (λ i. some_lies (are.def i) (maps_of (s.2 i).policy) Exact elements user) ∙ lies in
       subst (Contains (all_held shelf.slots ordinals)) s.2 (visited shelf.slots found.rising ordinals s.0 s.1 (found.all s.0 user s.1 on))
 
+-- no more are admitted
+few_admitted : {X : Type 0} (test : X → Bool) (xs : List X) → length (filter test xs) ≤ length xs
+few_admitted test xs = let all = length-filter test xs in let few = count_by-le-length test xs in omega (arith, all, few)
+
 -- the same over what the contract names
 module _ (seen : Policies) (frame : Frame) (side : Side) (shelf : Shelved Source)
     (view : (let inside : Policies = record { frame = frame; side = side; policies = policies_in shelf.slots } in inside) ≡ seen)
-    (are : ArePolicies frame side shelf) (elements : List Element) (ordinals : List ℤ) (slots : List (Placed Source)) (same : slots ≡ shelf.slots) (result : List Source) (is : result ≡ all_held slots ordinals) where
-  result_is : result ≡ all_held shelf.slots ordinals
-  result_is = is ∙ ap (λ (ss : List (Placed Source)). all_held ss ordinals) same
+    (are : ArePolicies frame side shelf) (elements : List Element) (ordinals : List ℤ) (slots : List (Placed Source)) (same : slots ≡ shelf.slots)
+    (first second : Asked) (result : List Source) (is : result ≡ admitted first second (all_held slots ordinals)) where
+  result_is : result ≡ admitted first second (all_held shelf.slots ordinals)
+  result_is = is ∙ ap (λ (ss : List (Placed Source)). admitted first second (all_held ss ordinals)) same
 
   pub few_visits : AreFound source_form shelf elements ordinals → length result ≤ bound (def_of seen.frame seen.side) (policy_forms seen.policies) elements
   few_visits found =
-      subst (λ (v : Policies). length result ≤ bound (def_of v.frame v.side) (policy_forms v.policies) elements) view
-      (subst (λ (r : List Source). length r ≤ bound (def_of frame side) (policy_forms (policies_in shelf.slots)) elements) (sym result_is) (few_policies frame side shelf are elements ordinals found.few))
+      let few = few_policies frame side shelf are elements ordinals found.few in
+      let fewer = few_admitted (admits first second) (all_held shelf.slots ordinals) in
+      let long = ap length result_is in
+      subst (λ (v : Policies). length result ≤ bound (def_of v.frame v.side) (policy_forms v.policies) elements) view (omega (arith, few, fewer, long))
 
   pub among_visits : (s : Source) → Contains result s → Contains (map (source seen.frame seen.side) seen.policies) s
   among_visits s h =
-      subst (λ (v : Policies). Contains (map (source v.frame v.side) v.policies) s) view
-      (among_policies frame side shelf are elements ordinals s (subst (λ (r : List Source). Contains r s) result_is h))
+      let held = (Contains-filtered (admits first second) (all_held shelf.slots ordinals) s (subst (λ (r : List Source). Contains r s) result_is h)).0 in
+      subst (λ (v : Policies). Contains (map (source v.frame v.side) v.policies) s) view (among_policies frame side shelf are elements ordinals s held)
 
-  pub all_visits : AreFound source_form shelf elements ordinals → (p : Policy) (user : List ℕ) → Contains seen.policies p
+  pub all_visits : AreFound source_form shelf elements ordinals
+      → ((p : Policy) (user : List ℕ) → some_lies (def_of frame side) (maps_of p) Exact elements user ≡ true → admits first second (source frame side p) ≡ true)
+      → (p : Policy) (user : List ℕ) → Contains seen.policies p
       → some_lies (def_of seen.frame seen.side) (maps_of p) Exact elements user ≡ true → Contains result (source seen.frame seen.side p)
-  all_visits found =
+  all_visits found law =
       subst (λ (v : Policies). (p : Policy) (user : List ℕ) → Contains v.policies p
       → some_lies (def_of v.frame v.side) (maps_of p) Exact elements user ≡ true → Contains result (source v.frame v.side p)) view
-      (λ p user there lies. subst (λ (r : List Source). Contains r (source frame side p)) (sym result_is) (all_policies frame side shelf are elements ordinals found p user there lies))
+      (λ p user there lying. subst (λ (r : List Source). Contains r (source frame side p)) (sym result_is)
+      (Contains-filter (admits first second) (all_held shelf.slots ordinals) (source frame side p) (all_policies frame side shelf are elements ordinals found p user there lying) (law p user lying)))
 
 module _ (seen : Rows) (shelf : Shelved RowSource) (view : (let inside : Rows = record { def = shelf.def; rows = rows_in shelf.slots } in inside) ≡ seen) (are : AreRows shelf)
     (elements : List Element) (ordinals : List ℤ) (found : AreFound row_source_form shelf elements ordinals) (result : List RowSource) (is : result ≡ left_after None ordinals shelf.slots) where

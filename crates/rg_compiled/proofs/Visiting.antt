@@ -1,5 +1,5 @@
 -- What the slots of candidates hold.
-use Rattle.std.proofs.Common.{◌≡◌, ◌≤◌, ◌++◌, ◌||◌, ℤ, Bool, true, false, cond, List, [], ◌∷◌, Option, Some, None, MatchOption, Contains, length, option_map, option_to_list, inl, inr, refl, sym, ap, subst, ◌∙◌, arith}
+use Rattle.std.proofs.Common.{◌≡◌, ◌≤◌, ◌++◌, ◌||◌, ℤ, Bool, true, false, cond, List, [], ◌∷◌, Option, Some, None, IfSome, MatchOption, Contains, length, option_map, option_to_list, inl, inr, refl, sym, ap, subst, ◌∙◌, arith}
 use Rattle.std.proofs.lemmas.Bool.{and_parts, false≢true}
 use Rattle.std.proofs.lemmas.List.{length-append}
 use Rattle.std.proofs.lemmas.Option.{none-some, same_Some}
@@ -7,7 +7,7 @@ use Rattle.std.specs.List.{find, list_all}
 use Rattle.std.specs.Ordering.{int_eq}
 use Rattle.rg_base.proofs.Lists.{Contains-cases, Contains-first, Contains-flat_map, Contains-flat_mapped, Contains-map, Contains-none, any_from, find_contained}
 use Rattle.rg_compiled.specs.Kept.{Placed, all_held, are_rising, held_at, held_in, is_held}
-use Rattle.rg_compiled.proofs.Rising.{holds_it, same_ordinal}
+use Rattle.rg_compiled.proofs.Rising.{holds_it, same_number, same_ordinal}
 
 module _ {X : Type 0} (slots : List (Placed X)) where
   -- an ordinal that is held leads to its slot
@@ -77,3 +77,11 @@ held_some {X = X} ordinal slots x e =
     let s = found_held slots (find (λ (s : Placed X). int_eq s.ordinal ordinal) slots) x e in
     let there = find_contained (λ (s : Placed X). int_eq s.ordinal ordinal) slots s.0 s.1 in
     any_from (λ (s : Placed X). int_eq s.ordinal ordinal) slots s.0 there.0 there.1
+
+-- what a slot holds by itself, if that has the ordinal, is what the slots hold at the ordinal
+pub held_alone : {X : Type 0} (ordinal : ℤ) (slots : List (Placed X)) → are_rising slots ≡ true → (s : Placed X) → Contains slots s → (held : Option X) → held ≡ held_at (s ∷ []) ordinal
+    → IfSome held (λ (x : X). held_at slots ordinal ≡ Some x)
+held_alone {X = X} ordinal slots up s there held is = subst (λ (o : Option X). IfSome o (λ (x : X). held_at slots ordinal ≡ Some x)) (sym is) (at (int_eq s.ordinal ordinal) refl) where
+  at : (b : Bool) → int_eq s.ordinal ordinal ≡ b → IfSome (option_map (λ (s : Placed X). s.held) (cond b (Some s) None)) (λ (x : X). held_at slots ordinal ≡ Some x)
+  at true e = ap (held_at slots) (sym (same_number s.ordinal ordinal e)) ∙ holds_it slots up s there
+  at false e = tt

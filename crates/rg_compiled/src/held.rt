@@ -7,8 +7,10 @@ ghost use Rattle.rg_evalr.specs.Frames.{def_of};
 ghost use Rattle.rg_resmatch.specs.Rules.{tagged_fit};
 ghost use Rattle.rg_compiled.specs.Bounds.{policy_form, row_form};
 ghost use Rattle.rg_compiled.specs.Kept.{renumbered};
+ghost use Rattle.rg_compiled.specs.Marks.{admits};
 ghost use Rattle.rg_compiled.specs.Seen.{row_source, source};
 
+use crate::marks::{Asked, Mark};
 use rg_base::{Ledger, NoMemory, Seq, Steps, TryCopy};
 use rg_defs::ServiceDef;
 use rg_evalr::{Evaluator, Frame, Side};
@@ -33,9 +35,24 @@ pub(crate) trait Fileable: Drop {
         ensures { IfOk result (λ form. form ≡ renumbered ordinal (form_of self.now)) };
 }
 
-/// A policy with its evaluator. Contracts see what was compiled.
+/// The definition of the policies of a side.
+pub(crate) fn def_of(frame: &Frame, side: Side) -> &ServiceDef
+    ensures { result.now ≡ def_of frame.now side }
+{
+    match side {
+        Side::Resource => &frame.def,
+        Side::Tag => match &frame.tag_def {
+            Some(def) => def,
+            None => &frame.def,
+        },
+    }
+}
+
+/// A policy with its evaluator, and its marks at the first two levels of its definition. Contracts see what was compiled.
 #[derive(Drop)]
 pub(crate) struct HeldPolicy {
+    first: Mark,
+    second: Mark,
     pub(crate) policy: Policy,
     pub(crate) evaluator: Evaluator,
 }
@@ -43,12 +60,13 @@ pub(crate) struct HeldPolicy {
 impl Model for HeldPolicy {
     ghost use Rattle.std.specs.Prelude.{◌≡◌};
     ghost use Rattle.rg_evalr.specs.Sources.{Source};
+    ghost use Rattle.rg_compiled.specs.Marks.{source_mark};
 
     ghost Value = { Source };
 
     ghost view = { λ h. h.evaluator };
 
-    ghost invariant = { λ h. h.evaluator.policy ≡ h.policy };
+    ghost invariant = { λ h. (h.evaluator.policy ≡ h.policy) × (h.first ≡ source_mark 0 h.evaluator) × (h.second ≡ source_mark 1 h.evaluator) };
 }
 
 impl Fileable for HeldPolicy {
@@ -118,6 +136,7 @@ fn row_form(alloc: Global, ordinal: i64, row: &TagRow) -> Result<Form, NoMemory>
 
 impl HeldPolicy {
     /// A copy of the policy, which passes its rules, with its evaluator. One compile is counted.
+    #[tactic(auto, using(crate::proofs::Marking::written))]
     pub(crate) fn compile<L: Ledger>(
         alloc: Global,
         frame: &Frame,
@@ -131,10 +150,22 @@ impl HeldPolicy {
         ensures steps { steps.new ≡ one_compile steps.old }
     {
         let evaluator = Evaluator::compile(alloc, frame, policy, side, steps)?;
+        let levels = def_of(frame, side).levels.as_slice();
+        let first = Mark::at(alloc, levels, 0, policy)?;
+        let second = Mark::at(alloc, levels, 1, policy)?;
         Ok(HeldPolicy {
+            first,
+            second,
             policy: policy.try_copy(alloc)?,
             evaluator,
         })
+    }
+
+    /// Whether the policy may lie on a resource with these values at the first two levels.
+    pub(crate) fn may_lie(&self, first: &Asked<'_>, second: &Asked<'_>) -> bool
+        ensures { result ≡ admits first.now second.now self.now }
+    {
+        self.first.agrees(first) && self.second.agrees(second)
     }
 }
 

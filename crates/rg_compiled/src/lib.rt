@@ -4,6 +4,7 @@
 mod compilers;
 mod filling;
 mod held;
+mod marks;
 mod moving;
 mod plan;
 mod policies;

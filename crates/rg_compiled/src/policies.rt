@@ -1,6 +1,7 @@
 // The policies of one side, compiled and filed.
 ghost use Rattle.std.specs.Prelude.{◌≡◌, ◌==◌, ◌≤◌, ℕ, List, Contains, None, IfOk, fold, length, map, sum_by, true};
 ghost use Rattle.std.specs.List.{list_all};
+ghost use Rattle.std.specs.Arc.{arc_value};
 ghost use Rattle.std.specs.Str.{chars};
 ghost use Rattle.rg_base.specs.Listed.{listed};
 ghost use Rattle.rg_base.specs.Texts.{all_distinct};
@@ -20,24 +21,28 @@ ghost use Rattle.rg_compiled.specs.Seen.{source};
 
 use crate::compilers::PolicyCompiler;
 use crate::filling::compile_slots;
-use crate::held::HeldPolicy;
+use crate::held::{HeldPolicy, def_of};
+use crate::marks::{Asked, lying_policies_agree};
 use crate::shelf::Shelf;
 use crate::sides::policy_plan;
 use crate::slots::Slot;
 use crate::visits::Visits;
 use rg_base::{Ledger, NoMemory, Seq, Steps, TryCopy};
 use rg_cmd::PolicyChange;
-use rg_defs::ServiceDef;
+use rg_defs::{Level, ServiceDef};
 use rg_evalr::{Frame, Side};
 use rg_policy::{Policy, Resource};
 use std::alloc::Global;
 use std::marker::Model;
 use std::snapshot::Snapshot;
+use std::sync::Arc;
 
 /// The policies of one side, each with its evaluator, and their index. Contracts see the policies, and what they are read
 /// under. A change leaves a set as it is and gives a new one, which shares with it what the change doesn't touch.
 pub struct PolicySet {
     pub(crate) shelf: Shelf<HeldPolicy>,
+    /// Those of the definition.
+    levels: Arc<Seq<Level>>,
     pub(crate) side: Side,
     /// Which only contracts see.
     pub(crate) frame: Snapshot<Frame>,
@@ -47,6 +52,7 @@ impl Drop for PolicySet {
     fn drop(self) {
         let Self {
             shelf: _,
+            levels: _,
             side: _,
             frame: _,
         } = self;
@@ -54,6 +60,9 @@ impl Drop for PolicySet {
 }
 
 impl Model for PolicySet {
+    ghost use Rattle.std.specs.Prelude.{◌≡◌};
+    ghost use Rattle.std.specs.Arc.{arc_value};
+    ghost use Rattle.rg_evalr.specs.Frames.{def_of};
     ghost use Rattle.rg_compiled.specs.Kept.{ArePolicies, policies_in};
     ghost use Rattle.rg_compiled.specs.Seen.{Policies};
 
@@ -61,20 +70,15 @@ impl Model for PolicySet {
 
     ghost view = { λ s. record { frame = s.frame.value; side = s.side; policies = policies_in s.shelf.slots } };
 
-    ghost invariant = { λ s. ArePolicies s.frame.value s.side s.shelf };
+    ghost invariant = { λ s. ArePolicies s.frame.value s.side s.shelf × (arc_value s.levels ≡ (def_of s.frame.value s.side).levels) };
 }
 
-/// The definition of the policies of a side.
-pub(crate) fn def_of(frame: &Frame, side: Side) -> &ServiceDef
-    ensures { result.now ≡ def_of frame.now side }
+/// The levels of the definition, to be shared.
+fn levels_of(alloc: Global, def: &ServiceDef) -> Result<Arc<Seq<Level>>, NoMemory>
+    ensures { IfOk result (λ levels. arc_value levels ≡ def.now.levels) }
 {
-    match side {
-        Side::Resource => &frame.def,
-        Side::Tag => match &frame.tag_def {
-            Some(def) => def,
-            None => &frame.def,
-        },
-    }
+    let levels = def.levels.try_copy(alloc)?;
+    Ok(Arc::new(alloc, levels)?)
 }
 
 /// Copies of the policies in the slots.
@@ -103,11 +107,14 @@ impl PolicySet {
         ensures made { IfOk result (λ s. s ≡ record { frame = frame.now; side = side; policies = policies.now }) }
         ensures steps { WorkWithin (length policies.now) (sum_by (pairs (def_of frame.now side)) (policy_forms policies.now)) steps.old steps.new }
     {
+        let def = def_of(frame, side);
+        let levels = levels_of(alloc, def)?;
         let compiler = PolicyCompiler { frame, side };
         let slots = compile_slots(alloc, &compiler, policies, steps)?;
-        let shelf = Shelf::build(alloc, def_of(frame, side), slots, steps)?;
+        let shelf = Shelf::build(alloc, def, slots, steps)?;
         Ok(PolicySet {
             shelf,
+            levels,
             side,
             frame: Snapshot::of(frame),
         })
@@ -130,6 +137,7 @@ impl PolicySet {
         ensures steps { WorkWithin (made_on self.now.side changes.now) (pairs_on (def_of self.now.frame self.now.side) self.now.side self.now.policies changes.now) steps.old steps.new }
     {
         self.law_of_definition();
+        let levels = Arc::try_clone(&self.levels)?;
         let plan = policy_plan(alloc, self.side, self.shelf.as_slice(), changes)?;
         let compiler = PolicyCompiler {
             frame,
@@ -139,6 +147,7 @@ impl PolicySet {
         let shelf = self.shelf.moved(alloc, def, &compiler, &plan, steps)?;
         Ok(PolicySet {
             shelf,
+            levels,
             side: self.side,
             frame: Snapshot::of(frame),
         })
@@ -165,7 +174,18 @@ impl PolicySet {
         ensures all { (p : Policy) (user : List ℕ) → Contains self.now.policies p
             → some_lies (def_of self.now.frame self.now.side) (maps_of p) Exact resource.now.elements.items user ≡ true → Contains result (source self.now.frame self.now.side p) }
     {
-        Visits::of(self.shelf.as_slice(), self.shelf.candidates(resource))
+        self.law_of_definition();
+        lying_policies_agree();
+        let levels = self.levels.as_slice();
+        let elements = resource.elements.as_slice();
+        let first = Asked::at(levels, 0, elements);
+        let second = Asked::at(levels, 1, elements);
+        Visits::of(
+            self.shelf.as_slice(),
+            self.shelf.candidates(resource),
+            first,
+            second,
+        )
     }
 
     /// As `visit`, for a resource whose one element has the level `tag` and this value.
@@ -175,7 +195,14 @@ impl PolicySet {
         ensures all { (p : Policy) (user : List ℕ) → Contains self.now.policies p
             → some_lies (def_of self.now.frame self.now.side) (maps_of p) Exact (tag_elements (chars tag.now)) user ≡ true → Contains result (source self.now.frame self.now.side p) }
     {
-        Visits::of(self.shelf.as_slice(), self.shelf.candidates_tag(tag))
+        let first = Asked::nothing();
+        let second = Asked::nothing();
+        Visits::of(
+            self.shelf.as_slice(),
+            self.shelf.candidates_tag(tag),
+            first,
+            second,
+        )
     }
 
     /// Copies of the policies.

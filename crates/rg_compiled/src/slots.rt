@@ -1,5 +1,5 @@
 // Slots in order, each with an ordinal of the set's own, by which it is found.
-ghost use Rattle.std.specs.Prelude.{◌≡◌, ◌∷◌, IfOk, MatchOption, [], int_lt, pos, option_map, option_to_list, true};
+ghost use Rattle.std.specs.Prelude.{◌≡◌, ◌∷◌, IfOk, IfSome, MatchOption, Some, [], int_lt, pos, option_map, option_to_list, true};
 ghost use Rattle.std.specs.List.{list_all, slice_get};
 ghost use Rattle.rg_compiled.specs.Kept.{all_held, are_rising, held_at, is_held, slot_form, slot_forms};
 
@@ -73,14 +73,39 @@ fn place_of<H>(slots: &[Slot<H>], ordinal: i64) -> usize
     slots.partition_point(|slot| is_below(slot, ordinal))
 }
 
-/// What the slot of this ordinal holds.
-pub(crate) fn held_at<'a, H>(slots: &'a [Slot<H>], ordinal: i64) -> Option<&'a H>
+/// What the slot holds whose place is the ordinal, if it has that ordinal: so it is where no slot before it was taken away.
+fn held_first<'a, H>(slots: &'a [Slot<H>], ordinal: i64) -> Option<&'a H>
+    requires { are_rising slots.now ≡ true }
+    ensures { IfSome (option_map (λ h. h.now) result) (λ held. held_at slots.now ordinal ≡ Some held) }
+{
+    let Ok(place) = usize::try_from(ordinal) else {
+        return None;
+    };
+    match slots.get(place) {
+        Some(slot) => held_if(slot, ordinal),
+        None => None,
+    }
+}
+
+/// What the slot of this ordinal holds, by halves.
+fn held_searched<'a, H>(slots: &'a [Slot<H>], ordinal: i64) -> Option<&'a H>
     requires { are_rising slots.now ≡ true }
     ensures { option_map (λ h. h.now) result ≡ held_at slots.now ordinal }
 {
     match slots.get(place_of(slots, ordinal)) {
         Some(slot) => held_if(slot, ordinal),
         None => None,
+    }
+}
+
+/// What the slot of this ordinal holds.
+pub(crate) fn held_at<'a, H>(slots: &'a [Slot<H>], ordinal: i64) -> Option<&'a H>
+    requires { are_rising slots.now ≡ true }
+    ensures { option_map (λ h. h.now) result ≡ held_at slots.now ordinal }
+{
+    match held_first(slots, ordinal) {
+        Some(held) => Some(held),
+        None => held_searched(slots, ordinal),
     }
 }
 

@@ -3,8 +3,10 @@ ghost use Rattle.std.specs.Prelude.{◌≡◌, ◌∷◌, [], MatchOption, true}
 ghost use Rattle.std.specs.List.{list_all};
 ghost use Rattle.std.specs.Iterator.{YieldsFirst, item_count};
 ghost use Rattle.rg_compiled.specs.Kept.{all_held, are_rising, is_held};
+ghost use Rattle.rg_compiled.specs.Marks.{admitted};
 
 use crate::held::HeldPolicy;
+use crate::marks::Asked;
 use crate::slots::{Slot, next_held};
 use rg_evalr::Evaluator;
 use rg_index::Candidates;
@@ -43,11 +45,14 @@ impl<'a> Compiled<'a> {
     }
 }
 
-/// The policies that are left, and contracts see that list. See [`PolicySet::visit`](crate::PolicySet::visit).
+/// The policies that are left, and contracts see that list. See [`PolicySet::visit`](crate::PolicySet::visit). A candidate is
+/// passed over where its marks tell that it doesn't lie on the resource.
 #[derive(Drop)]
 pub struct Visits<'a> {
     slots: &'a [Slot<HeldPolicy>],
     candidates: Candidates<'a>,
+    first: Asked<'a>,
+    second: Asked<'a>,
 }
 
 impl<'a> Model for Visits<'a> {
@@ -55,38 +60,54 @@ impl<'a> Model for Visits<'a> {
     ghost use Rattle.std.specs.List.{list_all};
     ghost use Rattle.rg_evalr.specs.Sources.{Source};
     ghost use Rattle.rg_compiled.specs.Kept.{all_held, are_rising, is_held};
+    ghost use Rattle.rg_compiled.specs.Marks.{admitted};
 
     ghost Value = { List Source };
 
-    ghost view = { λ v. all_held v.slots.now v.candidates };
+    ghost view = { λ v. admitted v.first v.second (all_held v.slots.now v.candidates) };
 
     ghost invariant = { λ v. (are_rising v.slots.now ≡ true) × (list_all (is_held v.slots.now) v.candidates ≡ true) };
 }
 
-/// The next policy, and what is left after it.
+/// The next policy that may lie on the resource, and what is left after it.
 fn next_compiled<'a>(
     slots: &'a [Slot<HeldPolicy>],
     candidates: &mut Candidates<'a>,
+    first: &Asked<'_>,
+    second: &Asked<'_>,
 ) -> Option<Compiled<'a>>
     requires rising { are_rising slots.now ≡ true }
     requires held { list_all (is_held slots.now) candidates.old ≡ true }
     ensures held { list_all (is_held slots.now) candidates.new ≡ true }
-    ensures next { MatchOption result ((all_held slots.now candidates.old ≡ []) × (all_held slots.now candidates.new ≡ []))
-        (λ c. all_held slots.now candidates.old ≡ c ∷ all_held slots.now candidates.new) }
+    ensures next { MatchOption result
+        ((admitted first.now second.now (all_held slots.now candidates.old) ≡ []) × (admitted first.now second.now (all_held slots.now candidates.new) ≡ []))
+        (λ c. admitted first.now second.now (all_held slots.now candidates.old) ≡ c ∷ admitted first.now second.now (all_held slots.now candidates.new)) }
 {
-    match next_held(slots, candidates) {
-        Some(held) => Some(Compiled { held }),
-        None => None,
+    'policies: while let Some(held) = next_held(slots, candidates) {
+        if held.may_lie(first, second) {
+            return Some(Compiled { held });
+        }
     }
+    None
 }
 
 impl<'a> Visits<'a> {
-    pub(crate) fn of(slots: &'a [Slot<HeldPolicy>], candidates: Candidates<'a>) -> Visits<'a>
+    pub(crate) fn of(
+        slots: &'a [Slot<HeldPolicy>],
+        candidates: Candidates<'a>,
+        first: Asked<'a>,
+        second: Asked<'a>,
+    ) -> Visits<'a>
         requires rising { are_rising slots.now ≡ true }
         requires held { list_all (is_held slots.now) candidates ≡ true }
-        ensures { result ≡ all_held slots.now candidates.entry }
+        ensures { result ≡ admitted first.entry second.entry (all_held slots.now candidates.entry) }
     {
-        Visits { slots, candidates }
+        Visits {
+            slots,
+            candidates,
+            first,
+            second,
+        }
     }
 }
 
@@ -98,6 +119,6 @@ impl<'a> Iterator for Visits<'a> {
     ghost remaining = { item_count (λ v. v) };
 
     fn next(&mut self) -> Option<Compiled<'a>> {
-        next_compiled(self.slots, &mut self.candidates)
+        next_compiled(self.slots, &mut self.candidates, &self.first, &self.second)
     }
 }
