@@ -40,8 +40,13 @@ def access(policies, r):
 
 
 def tries(policies, r):
-    """How many policies have values of the two upper levels with which the request's begin: the others are passed over by their marks."""
-    return sum(r["database"].startswith(p["database"]) and r["table"].startswith(p["table"]) for p in policies)
+    """How many values are filed under prefixes of the request's at the level that has fewest, the first of several; a column is `*`, filed
+    under the empty text. Marks pass over those whose database the request's doesn't begin with: the definition's first two levels are
+    database and url, and no request names a url."""
+    databases = [p for p in policies if r["database"].startswith(p["database"])]
+    tables = [p for p in policies if r["table"].startswith(p["table"])]
+    fewest = min((databases, tables, policies), key=len)
+    return sum(r["database"].startswith(p["database"]) for p in fewest)
 
 
 def main(seed, n, m):
