@@ -3,16 +3,23 @@
 usage: bench/gate.py [WORD]..      (the words of `rt ci`; none: all crates)
 
 The table comes behind what `rt ci` prints; the status is that of `rt ci`. Figures come from looking at its processes every
-half second, so shorter work isn't told apart, and goes into `rest`."""
+half second, so shorter work isn't told apart, and goes into `rest`. Where RT_JOBS doesn't say how many proofs run side by side, as
+many do as there are processors, and memory for the largest that were measured. While memory is short the youngest of them are held
+still, so that the system needn't kill one."""
 import os
 import re
 import resource
+import signal
 import subprocess
 import sys
 import time
 from collections import defaultdict
 
 TICK = os.sysconf("SC_CLK_TCK")
+# What the four largest programs take together is under four times this. (What rt reckons with by itself leaves processors idle.)
+BYTES_OF_A_JOB = 5.5e9
+# With less memory left the youngest process is held; with more again the one that was held first goes on.
+SHORT, ENOUGH = 1.5e9, 4e9
 CRATE = re.compile(r"crate-name\0(\w+)")
 
 
@@ -42,25 +49,59 @@ def is_below(pid, top):
 
 
 def look(seen, top):
-    """Notes the processor time of each process below this one that checks or builds a crate."""
+    """Notes the processor time of each process below this one that checks or builds a crate, and gives these, the oldest first."""
+    found = []
     for pid in map(int, filter(str.isdigit, os.listdir("/proc"))):
         try:
             with open(f"/proc/{pid}/cmdline", "rb") as it:
                 words = it.read().decode(errors="replace")
             kind = kind_of(words, os.readlink(f"/proc/{pid}/cwd"))
             if kind is not None and is_below(pid, top):
+                fields = fields_of(pid)
                 # (its own time, and that of the children it waited for)
-                seen[pid, kind] = sum(map(int, fields_of(pid)[11:15])) / TICK
+                seen[pid, kind] = sum(map(int, fields[11:15])) / TICK
+                found.append((int(fields[19]), pid))
         except OSError:
             # (it has ended)
             pass
+    return [pid for _, pid in sorted(found)]
+
+
+def free_bytes():
+    with open("/proc/meminfo") as it:
+        return 1024 * int(re.search(r"MemAvailable:\s+(\d+)", it.read())[1])
+
+
+def signal_to(pid, number):
+    try:
+        os.kill(pid, number)
+    except OSError:
+        # (it has ended)
+        pass
+
+
+def hold(running, held):
+    """Holds the youngest process where memory is short, but never the last; lets one go on where there is enough, or where none runs."""
+    held[:] = [pid for pid in held if pid in running]
+    active, left = [pid for pid in running if pid not in held], free_bytes()
+    if left < SHORT and len(active) > 1:
+        held.append(active[-1])
+        signal_to(active[-1], signal.SIGSTOP)
+    elif held and (left > ENOUGH or not active):
+        signal_to(held.pop(0), signal.SIGCONT)
+
+
+def jobs():
+    """How many proofs run side by side."""
+    memory = os.sysconf("SC_PAGE_SIZE") * os.sysconf("SC_PHYS_PAGES")
+    return max(1, min(len(os.sched_getaffinity(0)), int(memory / BYTES_OF_A_JOB)))
 
 
 def main(words):
-    seen, start = {}, time.monotonic()
-    gate = subprocess.Popen(["rt", "ci", *words])
+    seen, held, start = {}, [], time.monotonic()
+    gate = subprocess.Popen(["rt", "ci", *words], env={"RT_JOBS": str(jobs()), **os.environ})
     while gate.poll() is None:
-        look(seen, gate.pid)
+        hold(look(seen, gate.pid), held)
         time.sleep(0.5)
     used = resource.getrusage(resource.RUSAGE_CHILDREN)
     total, clock = (used.ru_utime + used.ru_stime) / 60, (time.monotonic() - start) / 60

@@ -3,7 +3,7 @@
 
     checks/bad_lines.py kinds SCRIPT OUTPUT      a line of each kind that is bad, with its cause: stdin and stdout of crates/rangerd_check
     checks/bad_lines.py commands SCRIPT OUTPUT   every command with every key missing, null, of another kind and out of range:
-                                                 commands.script and commands.output of crates/test_readers/data
+                                                 commands.script and commands.output of crates/test_forms/data
 
 The causes stand in the tables below, which were written from docs/FORMATS.md and docs/RULES.md.
 """

@@ -1,7 +1,8 @@
 #!/usr/bin/env python3
 """Prints what the program test_kept is to print without words, from the rules: what keeping.py prints; what `keep` prints over a keeper of whose
-calls one fails or that holds a record which is none, with which status it ends, and how many records stand then; and what commands in a file
-make. Of each run of `keep` it is looked at besides whether a failed one printed a beginning of the whole text, and kept the first of all records.
+calls one fails or that holds a record which is none, with which status it ends, how many records stand then, and how many decisions were
+audited; and what commands in a file make. Of each run of `keep` it is looked at besides whether a failed one printed a beginning of the whole
+text, and kept the first of all records.
 
 usage: checks/kept.py | cmp - crates/test_kept/stdout
 """
@@ -17,7 +18,8 @@ AGAIN = b'reopen\nadmin root {"command":"listPolicies","service":"hive1"}\n'
 
 def row(name, script, keeper):
     text, status = kept_model.worked(script, keeper)
-    return "%s: status %d, %d records: %s" % (name, status, len(keeper.records), text.replace("\n", "~"))
+    audited = text.count('"audited":true')
+    return "%s: status %d, %d records, %d audited: %s" % (name, status, len(keeper.records), audited, text.replace("\n", "~"))
 
 
 def failures(script):

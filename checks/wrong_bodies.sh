@@ -4,9 +4,9 @@
 #        checks/wrong_bodies.sh --list                  (these crates, each with the number of its edits)
 # A line tells of each edit, and the last line is 'N refused, N not refused, N bad'. The status is 1 where one isn't refused: the crate is still
 # proved with it, it cannot be applied or read (bad), or it wasn't tried, as where the crate as it stands isn't proved.
-# `rt ci CRATE..` does the work, in a copy of the crates and of those that they stand on. So nothing that it proved before on this machine is
-# proved again, an edit is tried again only once its crate or one below has changed, and what is proved here counts for the gate. It tells of
-# its progress on standard error. --jobs N makes N checks at a time, whatever memory is left; else processors and memory say how many.
+# `rt ci` does the work, in a copy of the crates and of those that they stand on. A toolchain that keeps what it proved on this machine proves
+# none of it again, and tries an edit again only once its crate or one below has changed. It tells of its progress on standard error. --jobs N
+# makes N checks at a time, whatever memory is left; else processors and memory say how many.
 set -u
 shopt -s nullglob
 cd "$(dirname "$0")/.." || exit 2
@@ -97,7 +97,7 @@ cp HANDLES "$copy/"
 while read -r crate _; do copy_crate "${crate%:}"; done < "$copy/crates.txt"
 for crate in "${crates[@]}"; do give_edits "$crate"; done
 
-exec 3< <(cd "$copy" && TMPDIR=$room/tmp exec rt ci "${crates[@]}" 2>&1)
+exec 3< <(cd "$copy" && TMPDIR=$room/tmp exec rt ci 2>&1)
 running=$!
 while IFS= read -r line <&3; do
   told=${line#rt: must-fail }

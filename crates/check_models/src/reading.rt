@@ -10,7 +10,7 @@ use rg_policy::{AccessRequest, Policy};
 use rg_sound::facts_fault;
 use rg_tags::TagRow;
 use rg_wire::{read_def, read_facts, read_policy, read_request, read_tag_row, read_zone};
-use rg_zones::ZoneRow;
+use rg_zone_rules::ZoneRow;
 use std::alloc::Global;
 
 pub(crate) fn facts(alloc: Global, text: &str) -> Result<Facts, NoMemory> {

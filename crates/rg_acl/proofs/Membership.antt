@@ -22,8 +22,8 @@ use Rattle.rg_roles.specs.Faults.{fault_of, first_row, is_absent, is_on_cycle, n
 use Rattle.rg_roles.specs.Members.{name_at, names_of, names_role}
 use Rattle.rg_roles.specs.declared.fault.RoleFault.TheVariants.{Duplicate, Unknown, Cycle}
 use Rattle.rg_roles.specs.declared.row.RoleRow.{RoleRow}
-use Rattle.rg_zones.specs.Overlap.{first_overlap}
-use Rattle.rg_zones.specs.Rules.{all_maps_fit, listing_fits, subjects_exist}
+use Rattle.rg_zone_rules.specs.Overlap.{first_overlap}
+use Rattle.rg_zone_rules.specs.Rules.{all_maps_fit, listing_fits, subjects_exist}
 use Rattle.rg_facts.specs.Sound.{all_policies, defs_sound, ids_sound, is_tag_def, policies_sound, roles_sound, sound, tag_rows_sound, versions_fit, zone_names_sound, zones_sound}
 use Rattle.rg_facts.specs.declared.facts.Facts.{Facts}
 use Rattle.rg_acl.specs.Strangers.{members_from, with_member, with_members}

@@ -1,106 +1,75 @@
 -- The counts of prints are those of the policies after every step.
-use Rattle.std.proofs.Common.{◌≡◌, ◌≤◌, ◌+◌, ◌||◌, ℕ, ℤ, Bool, true, false, not, cond, List, [], ◌∷◌, ◌++◌, Option, Some, None, arith, refl, ap, sym, ◌∙◌, subst}
+use Rattle.std.proofs.Common.{◌≡◌, ◌+◌, ◌-◌, ◌||◌, ℕ, Bool, true, false, not, cond, List, [], ◌∷◌, ◌++◌, Option, Some, None, option_map, arith, refl, ap, sym, ◌∙◌, subst}
 use Rattle.std.specs.List.{find, list_any, sum_by}
 use Rattle.std.specs.Ordering.{int_eq}
-use Rattle.std.proofs.lemmas.Bool.{and_parts, false≢true}
-use Rattle.std.proofs.lemmas.Bool.Decides.{Decides-int_eq}
+use Rattle.std.proofs.lemmas.Bool.{and_parts}
 use Rattle.std.proofs.lemmas.List.Sums.{sum_by-append}
 use Rattle.std.proofs.lemmas.Option.{none-some, same_Some}
-use Rattle.rg_base.proofs.Lists.{any_from, any_holds}
+use Rattle.rg_base.proofs.Lists.{any_holds}
 use Rattle.rg_base.specs.Texts.{all_distinct}
-use Rattle.rg_policy.specs.Maps.{maps_of}
+use Rattle.rg_base.specs.declared.numbers.PolicyId.{PolicyId}
+use Rattle.rg_base.specs.declared.numbers.Version.{Version}
 use Rattle.rg_policy.specs.declared.policy.Policy.{Policy}
-use Rattle.rg_twins.specs.Counts.{IsCounted, has_print, lowered_at, raised_at}
-use Rattle.rg_twins.specs.Prints.{print_of}
-use Rattle.rg_twins.proofs.Counting.{counted_less, counted_more, sum_next}
+use Rattle.rg_twins.specs.Counts.{IsCounted, count_of, has_print}
+use Rattle.rg_twins.specs.Prints.{name_print_of, prints_of}
+use Rattle.rg_twins.specs.declared.prints.Prints.{Prints}
+use Rattle.rg_twins.proofs.Counting.{sum_next}
 use Rattle.rg_cmd.specs.Lists.{put, without}
 use Rattle.rg_cmd.specs.Lookups.{has_id, policy_at}
 use Rattle.rg_cmd.specs.declared.ask.AdminCommand.{AdminCommand}
 use Rattle.rg_cmd.specs.declared.ask.AdminCommand.TheVariants.{CreatePolicy, DeletePolicy, UpdatePolicy}
 use Rattle.rg_cmd.specs.declared.ask.AdminReply.{AdminReply}
 use Rattle.rg_cmd.specs.declared.ask.Ask.{Ask}
-use Rattle.rg_cmd.specs.declared.rule.Rule.{Rule}
 use Rattle.rg_cmd.specs.declared.state.State.{State}
 use Rattle.rg_validate.specs.Valid.{IsKept}
+use Rattle.rg_validate.proofs.Places.{one_id}
 use Rattle.rg_machine.specs.Changes.{after_command, created_form, updated_form}
-use Rattle.rg_machine.specs.Laws.{is_refused}
 use Rattle.rg_machine.specs.Logs.{Administration}
-use Rattle.rg_machine.specs.Steps.{fault, reply_to, step, step_by}
+use Rattle.rg_machine.specs.Steps.{step_by}
 use Rattle.rg_machine.proofs.Lists.{find_none, replaced, some_there}
-use Rattle.rg_admin.specs.Counting.{lowered_by, print_at, shift_of, shifted, shifted_by}
-use Rattle.rg_admin.specs.Stepped.{IsStep}
+use Rattle.rg_admin.specs.Counting.{IsCountedIn, IsCountedOut, shift_of, times}
+use Rattle.rg_admin.specs.Stepped.{IsAccepted}
+use Rattle.rg_admin.proofs.Firsts.{none_after, none_replaced, none_taken}
 
 -- ---- sums over a list that is changed
 
-module _ {X : Type 0} (f : X → ℕ) (same : X → Bool) where
-  sum_more : (xs : List X) (x : X) → sum_by f (xs ++ x ∷ []) ≡ sum_by f xs + f x
-  sum_more xs x = let parts : sum_by f (xs ++ x ∷ []) ≡ sum_by f xs + sum_by f (x ∷ []) = sum_by-append f xs (x ∷ []) in omega (arith, parts, sum_next f x [])
+sum_more : {X : Type 0} (f : X → ℕ) (xs : List X) (x : X) → sum_by f (xs ++ x ∷ []) ≡ sum_by f xs + f x
+sum_more f xs x = let parts : sum_by f (xs ++ x ∷ []) ≡ sum_by f xs + sum_by f (x ∷ []) = sum_by-append f xs (x ∷ []) in omega (arith, parts, sum_next f x [])
 
-  sum_left : (xs : List X) → sum_by f (without same xs) ≤ sum_by f xs
-  sum_left [] = omega arith
-  sum_left (y ∷ xs) = at (same y) (sum_left xs)
+module _ {X : Type 0} (alike : X → X → Bool) (same : X → Bool) (shared : (a b : X) → same a ≡ true → same b ≡ true → alike a b ≡ true) (f : X → ℕ) where
+  -- the one that is the same is gone
+  sum_without : (xs : List X) (o : X) → all_distinct alike xs ≡ true → find same xs ≡ Some o → sum_by f (without same xs) + f o ≡ sum_by f xs
+  sum_without [] o distinct is = absurd (none-some o is)
+  sum_without (y ∷ xs) o distinct is = at (same y) refl is (sum_without xs o parts.1)
     where
-      at : (b : Bool) → sum_by f (without same xs) ≤ sum_by f xs → sum_by f (cond (not b) (y ∷ without same xs) (without same xs)) ≤ sum_by f (y ∷ xs)
-      at true rest = omega (arith, rest, sum_next f y xs)
-      at false rest = omega (arith, rest, sum_next f y xs, sum_next f y (without same xs))
+      parts : (not (list_any (alike y) xs) ≡ true) × (all_distinct alike xs ≡ true)
+      parts = and_parts (not (list_any (alike y) xs)) (all_distinct alike xs) distinct
 
-  -- all but those that are the same, and the first of these
-  sum_without : (xs : List X) (o : X) → find same xs ≡ Some o → sum_by f (without same xs ++ o ∷ []) ≤ sum_by f xs
-  sum_without [] o is = absurd (none-some o is)
-  sum_without (y ∷ xs) o is = at (same y) refl is (sum_without xs o)
+      at : (b : Bool) → same y ≡ b → cond b (Some y) (find same xs) ≡ Some o → (find same xs ≡ Some o → sum_by f (without same xs) + f o ≡ sum_by f xs)
+          → sum_by f (cond (not b) (y ∷ without same xs) (without same xs)) + f o ≡ sum_by f (y ∷ xs)
+      at true e first rest =
+          let its : f y ≡ f o = ap f (same_Some y o first) in
+          let others : sum_by f (without same xs) ≡ sum_by f xs = ap (sum_by f) (none_taken alike same shared xs (none_after alike same shared y xs e parts.0)) in
+          omega (arith, its, others, sum_next f y xs)
+      at false e later rest = let held = rest later in omega (arith, held, sum_next f y xs, sum_next f y (without same xs))
+
+  -- the new one is in the place of the one that is the same
+  sum_replaced : (x : X) (xs : List X) (o : X) → all_distinct alike xs ≡ true → find same xs ≡ Some o → sum_by f (replaced same x xs) + f o ≡ sum_by f xs + f x
+  sum_replaced x [] o distinct is = absurd (none-some o is)
+  sum_replaced x (y ∷ xs) o distinct is = at (same y) refl is (sum_replaced x xs o parts.1)
     where
-      at : (b : Bool) → same y ≡ b → cond b (Some y) (find same xs) ≡ Some o → (find same xs ≡ Some o → sum_by f (without same xs ++ o ∷ []) ≤ sum_by f xs)
-          → sum_by f (cond (not b) (y ∷ without same xs) (without same xs) ++ o ∷ []) ≤ sum_by f (y ∷ xs)
-      at true e first rest = let its : f y ≡ f o = ap f (same_Some y o first) in omega (arith, its, sum_more (without same xs) o, sum_left xs, sum_next f y xs)
-      at false e later rest = let held = rest later in omega (arith, held, sum_next f y (without same xs ++ o ∷ []), sum_next f y xs)
+      parts : (not (list_any (alike y) xs) ≡ true) × (all_distinct alike xs ≡ true)
+      parts = and_parts (not (list_any (alike y) xs)) (all_distinct alike xs) distinct
 
-  module _ (x : X) (apart : X → X → Bool) (shared : (a b : X) → same a ≡ true → same b ≡ true → apart a b ≡ true) where
-    untouched : (xs : List X) → list_any same xs ≡ false → replaced same x xs ≡ xs
-    untouched [] none = refl
-    untouched (y ∷ xs) none = at (same y) none (untouched xs)
-      where
-        at : (b : Bool) → (b || list_any same xs) ≡ false → (list_any same xs ≡ false → replaced same x xs ≡ xs) → cond b x y ∷ replaced same x xs ≡ y ∷ xs
-        at true h rest = absurd (false≢true (sym h))
-        at false h rest = ap (λ zs. y ∷ zs) (rest h)
-
-    alone_in : (y : X) (xs : List X) → same y ≡ true → not (list_any (apart y) xs) ≡ true → list_any same xs ≡ false
-    alone_in y xs is none = at (list_any same xs) refl
-      where
-        at : (b : Bool) → list_any same xs ≡ b → list_any same xs ≡ false
-        at false e = e
-        at true e =
-            let z = any_holds same xs e in
-            absurd (false≢true (sym (ap not (any_from (apart y) xs z.0 z.1 (shared y z.0 is z.2))) ∙ none))
-
-    -- the new one in the place of the one that is the same, and this one
-    sum_replaced : (xs : List X) (o : X) → all_distinct apart xs ≡ true → find same xs ≡ Some o → sum_by f (replaced same x xs ++ o ∷ []) ≤ sum_by f (xs ++ x ∷ [])
-    sum_replaced [] o distinct is = absurd (none-some o is)
-    sum_replaced (y ∷ xs) o distinct is = at (same y) refl is (sum_replaced xs o parts.1)
-      where
-        parts : (not (list_any (apart y) xs) ≡ true) × (all_distinct apart xs ≡ true)
-        parts = and_parts (not (list_any (apart y) xs)) (all_distinct apart xs) distinct
-
-        at : (b : Bool) → same y ≡ b → cond b (Some y) (find same xs) ≡ Some o → (find same xs ≡ Some o → sum_by f (replaced same x xs ++ o ∷ []) ≤ sum_by f (xs ++ x ∷ []))
-            → sum_by f (cond b x y ∷ (replaced same x xs ++ o ∷ [])) ≤ sum_by f (y ∷ (xs ++ x ∷ []))
-        at true e first rest =
-            let its : f y ≡ f o = ap f (same_Some y o first) in
-            let others : sum_by f (replaced same x xs) ≡ sum_by f xs = ap (sum_by f) (untouched xs (alone_in y xs e parts.0)) in
-            omega (arith, its, others, sum_next f x (replaced same x xs ++ o ∷ []), sum_more (replaced same x xs) o, sum_next f y (xs ++ x ∷ []), sum_more xs x)
-        at false e later rest = let held = rest later in omega (arith, held, sum_next f y (replaced same x xs ++ o ∷ []), sum_next f y (xs ++ x ∷ []))
+      at : (b : Bool) → same y ≡ b → cond b (Some y) (find same xs) ≡ Some o → (find same xs ≡ Some o → sum_by f (replaced same x xs) + f o ≡ sum_by f xs + f x)
+          → sum_by f (cond b x y ∷ replaced same x xs) + f o ≡ sum_by f (y ∷ xs) + f x
+      at true e first rest =
+          let its : f y ≡ f o = ap f (same_Some y o first) in
+          let others : sum_by f (replaced same x xs) ≡ sum_by f xs = ap (sum_by f) (none_replaced alike same shared x xs (none_after alike same shared y xs e parts.0)) in
+          omega (arith, its, others, sum_next f x (replaced same x xs), sum_next f y xs)
+      at false e later rest = let held = rest later in omega (arith, held, sum_next f y (replaced same x xs), sum_next f y xs)
 
 -- ---- a change of the policies
-
-fewer_counted : (counts : List ℕ) (ps qs : List Policy) → ((k : ℕ) → sum_by (has_print k) qs ≤ sum_by (has_print k) ps) → IsCounted counts ps → IsCounted counts qs
-unfolding IsCounted
-fewer_counted counts ps qs fewer counted k few = let most = counted k few in let less = fewer k in omega (arith, most, less)
-
--- the first of the two lists, and one more, is within the second
-one_gone : (counts : List ℕ) (ps qs : List Policy) (o : Policy) → ((k : ℕ) → sum_by (has_print k) (qs ++ o ∷ []) ≤ sum_by (has_print k) ps) → IsCounted counts ps → IsCounted (lowered_at (print_of (maps_of o)) counts) qs
-one_gone counts ps qs o fewer counted =
-    counted_less o (qs ++ o ∷ []) qs counts (λ k. sym (sum_more (has_print k) (λ p. true) qs o)) (fewer_counted counts ps (qs ++ o ∷ []) fewer counted)
-
-one_more : (counts : List ℕ) (ps : List Policy) (p : Policy) → IsCounted counts ps → IsCounted (raised_at (print_of (maps_of p)) counts) (ps ++ p ∷ [])
-one_more counts ps p = counted_more p ps (ps ++ p ∷ []) counts (λ k. sum_more (has_print k) (λ q. true) ps p)
 
 not_there : {X : Type 0} (p : X → Bool) (xs : List X) → find p xs ≡ None → list_any p xs ≡ false
 not_there p xs none = at (list_any p xs) refl
@@ -109,63 +78,72 @@ not_there p xs none = at (list_any p xs) refl
     at false e = e
     at true e = let y = any_holds p xs e in absurd (find_none p xs none y.0 y.1 y.2)
 
-one_id : (id : ℤ) (p q : Policy) → has_id id p ≡ true → has_id id q ≡ true → int_eq p.id.0 q.id.0 ≡ true
-one_id id p q x y = (Decides-int_eq p.id.0 q.id.0).1 ((Decides-int_eq p.id.0 id).0 x ∙ sym ((Decides-int_eq q.id.0 id).0 y))
+abbrev same_id : Policy → Policy → Bool
+same_id p q = int_eq p.id.0 q.id.0
 
-counted_change : (s : State) (c : AdminCommand) (counts : List ℕ) → IsKept s → IsCounted counts s.policies.items → IsCounted (shifted (shift_of s c) counts) (after_command s c).policies.items
-counted_change s (CreatePolicy p) counts kept counted = one_more counts s.policies.items (created_form s p) counted
-counted_change s (UpdatePolicy p) counts kept counted = at (policy_at s p.id.0) refl
+none_less : (n : ℕ) → n + 0 ≡ n
+none_less n = omega arith
+
+-- neither the id nor the version plays a part
+same_prints : (k : ℕ) (p : Policy) (id : PolicyId) (version : Version) → has_print k (record p { id = id; version = version }) ≡ has_print k p
+unfolding name_print_of
+same_prints k p id version = refl
+
+stored : (k n : ℕ) (p : Policy) (id : PolicyId) (version : Version) → n + has_print k (record p { id = id; version = version }) ≡ n + has_print k p
+stored k n p id version = ap (λ m. n + m) (same_prints k p id version)
+
+-- what is taken away is counted before, and what is brought after
+moved : (s : State) (c : AdminCommand) → IsKept s → (k : ℕ)
+    → sum_by (has_print k) (after_command s c).policies.items + times (shift_of s c).takes k ≡ sum_by (has_print k) s.policies.items + times (shift_of s c).brings k
+moved s (CreatePolicy p) kept k = none_less _ ∙ sum_more (has_print k) s.policies.items (created_form s p) ∙ stored k _ p (created_form s p).id (created_form s p).version
+moved s (UpdatePolicy p) kept k = at (policy_at s p.id.0) refl
   where
     xs : List Policy
     xs = s.policies.items
 
-    more : IsCounted (raised_at (print_of (maps_of p)) counts) (xs ++ updated_form s p ∷ [])
-    more = one_more counts xs (updated_form s p) counted
+    new : Policy
+    new = updated_form s p
 
-    at : (old : Option Policy) → policy_at s p.id.0 ≡ old → IsCounted (lowered_by (print_at old) (raised_at (print_of (maps_of p)) counts)) (put (has_id p.id.0) (updated_form s p) xs)
-    at None none = subst (λ b. IsCounted (raised_at (print_of (maps_of p)) counts) (cond b (replaced (has_id p.id.0) (updated_form s p) xs) (xs ++ updated_form s p ∷ []))) (sym (not_there (has_id p.id.0) xs none)) more
+    at : (old : Option Policy) → policy_at s p.id.0 ≡ old → sum_by (has_print k) (put (has_id p.id.0) new xs) + times (option_map prints_of old) k ≡ sum_by (has_print k) xs + has_print k p
+    at None none =
+        subst (λ b. sum_by (has_print k) (cond b (replaced (has_id p.id.0) new xs) (xs ++ new ∷ [])) + 0 ≡ sum_by (has_print k) xs + has_print k p) (sym (not_there (has_id p.id.0) xs none))
+        (none_less _ ∙ sum_more (has_print k) xs new ∙ stored k _ p p.id new.version)
     at (Some o) is =
-        subst (λ b. IsCounted (lowered_at (print_of (maps_of o)) (raised_at (print_of (maps_of p)) counts)) (cond b (replaced (has_id p.id.0) (updated_form s p) xs) (xs ++ updated_form s p ∷ [])))
-        (sym (some_there (has_id p.id.0) xs o is))
-        (one_gone (raised_at (print_of (maps_of p)) counts) (xs ++ updated_form s p ∷ []) (replaced (has_id p.id.0) (updated_form s p) xs) o
-        (λ k. sum_replaced (has_print k) (has_id p.id.0) (updated_form s p) (λ (a b : Policy). int_eq a.id.0 b.id.0) (one_id p.id.0) xs o kept.valid.policy_ids is) more)
-counted_change s (DeletePolicy id) counts kept counted = at (policy_at s id.0) refl
+        subst (λ b. sum_by (has_print k) (cond b (replaced (has_id p.id.0) new xs) (xs ++ new ∷ [])) + has_print k o ≡ sum_by (has_print k) xs + has_print k p) (sym (some_there (has_id p.id.0) xs o is))
+        (sum_replaced same_id (has_id p.id.0) (one_id p.id.0) (has_print k) new xs o kept.valid.policy_ids is ∙ stored k _ p p.id new.version)
+moved s (DeletePolicy id) kept k = at (policy_at s id.0) refl
   where
     xs : List Policy
     xs = s.policies.items
 
-    at : (old : Option Policy) → policy_at s id.0 ≡ old → IsCounted (lowered_by (print_at old) counts) (without (has_id id.0) xs)
-    at None none = fewer_counted counts xs (without (has_id id.0) xs) (λ k. sum_left (has_print k) (has_id id.0) xs) counted
-    at (Some o) is = one_gone counts xs (without (has_id id.0) xs) o (λ k. sum_without (has_print k) (has_id id.0) xs o is) counted
-counted_change s c counts kept counted = counted
+    at : (old : Option Policy) → policy_at s id.0 ≡ old → sum_by (has_print k) (without (has_id id.0) xs) + times (option_map prints_of old) k ≡ sum_by (has_print k) xs + 0
+    at None none = ap (λ ps. sum_by (has_print k) ps + 0) (none_taken same_id (has_id id.0) (one_id id.0) xs (not_there (has_id id.0) xs none))
+    at (Some o) is = sum_without same_id (has_id id.0) (one_id id.0) (has_print k) xs o kept.valid.policy_ids is ∙ sym (none_less _)
+moved s c kept k = refl
 
--- ---- a step
+counted_change : (s : State) (c : AdminCommand) (before between after : List (ℕ × ℕ)) → IsKept s → IsCounted before s.policies.items
+    → IsCountedIn (shift_of s c).brings before between → IsCountedOut (shift_of s c).takes between after → IsCounted after (after_command s c).policies.items
+unfolding IsCounted
+counted_change s c before between after kept counted brings takes k =
+    let old = counted k in
+    let more = brings k in
+    let less = takes k in
+    let sums = moved s c kept k in
+    omega (arith, old, more, less, sums)
 
--- what is answered by a refusal, though it passes every rule, changes no policy
-unshifted : (a : Administration) (actor : List ℕ) (c : AdminCommand) (counts : List ℕ) → is_refused (reply_to a actor c) ≡ true → shifted (shift_of a.state c) counts ≡ counts
-unshifted a actor (CreatePolicy p) counts refused = absurd (false≢true refused)
-unshifted a actor (UpdatePolicy p) counts refused = absurd (false≢true refused)
-unshifted a actor (DeletePolicy id) counts refused = absurd (false≢true refused)
-unshifted a actor c counts refused = refl
+-- ---- an ask that is answered
 
-counted_step : (a : Administration) (ask : Ask) (counts : List ℕ) → IsKept a.state → IsCounted counts a.state.policies.items
-    → IsCounted (shifted_by (is_refused (step a ask).1) (shift_of a.state ask.command) counts) (step a ask).0.state.policies.items
-counted_step a ask counts kept counted = go (fault a.state ask)
-  where
-    done : IsCounted (shifted (shift_of a.state ask.command) counts) (after_command a.state ask.command).policies.items
-    done = counted_change a.state ask.command counts kept counted
+pub counted_after : (a b : Administration) (ask : Ask) (reply : AdminReply) (before between after : List (ℕ × ℕ)) → IsKept a.state → IsCounted before a.state.policies.items → IsAccepted a ask b reply
+    → IsCountedIn (shift_of a.state ask.command).brings before between → IsCountedOut (shift_of a.state ask.command).takes between after → IsCounted after b.state.policies.items
+unfolding IsAccepted
+counted_after a b ask reply before between after kept counted accepted brings takes =
+    subst (λ (t : Administration × AdminReply). IsCounted after t.0.state.policies.items) (sym accepted) (counted_change a.state ask.command before between after kept counted brings takes)
 
-    by_reply : (b : Bool) → is_refused (reply_to a ask.actor ask.command) ≡ b → IsCounted (shifted_by b (shift_of a.state ask.command) counts) (after_command a.state ask.command).policies.items
-    by_reply false e = done
-    by_reply true e = subst (λ ns. IsCounted ns (after_command a.state ask.command).policies.items) (unshifted a ask.actor ask.command counts e) done
-
-    go : (r : Option Rule) → IsCounted (shifted_by (is_refused (step_by r a ask).1) (shift_of a.state ask.command) counts) (step_by r a ask).0.state.policies.items
-    go None = by_reply (is_refused (reply_to a ask.actor ask.command)) refl
-    go (Some rule) = counted
-
--- the same of a step that was answered
-pub counted_after : (a b : Administration) (ask : Ask) (reply : AdminReply) (counts : List ℕ) → IsKept a.state → IsCounted counts a.state.policies.items → IsStep a ask b reply
-    → IsCounted (shifted_by (is_refused reply) (shift_of a.state ask.command) counts) b.state.policies.items
-unfolding IsStep
-counted_after a b ask reply counts kept counted steps =
-    subst (λ (t : Administration × AdminReply). IsCounted (shifted_by (is_refused t.1) (shift_of a.state ask.command) counts) t.0.state.policies.items) (sym steps) (counted_step a ask counts kept counted)
+-- and one for which memory is refused
+pub counted_again : (ps : List Policy) (prints : Option Prints) (before between after : List (ℕ × ℕ)) → IsCounted before ps → IsCountedIn prints before between → IsCountedOut prints between after → IsCounted after ps
+unfolding IsCounted
+counted_again ps prints before between after counted brings takes k =
+    let old = counted k in
+    let more = brings k in
+    let less = takes k in
+    omega (arith, old, more, less)

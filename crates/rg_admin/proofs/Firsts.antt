@@ -13,41 +13,8 @@ use Rattle.rg_base.proofs.Lists.{Contains-slice_get, any_from, any_holds}
 use Rattle.rg_base.specs.Texts.{all_distinct}
 use Rattle.rg_admin.specs.InPlace.{put_at, without_at}
 use Rattle.rg_cmd.specs.Lists.{put, without}
+use Rattle.rg_validate.proofs.Places.{place_is, place_of}
 use Rattle.rg_machine.proofs.Lists.{case, none_passes, not_true, or_false}
-
--- the first place, by recursion
-abbrev place_of : {X : Type 0} → (X → Bool) → List X → Option ℕ
-place_of p [] = None
-place_of p (x ∷ xs) = cond (p x) (Some 0) (option_map suc (place_of p xs))
-
-module _ {X : Type 0} (p : X → Bool) where
-  place_from : (xs : List X) (n : ℕ) → position_from p n xs ≡ option_map (λ k. n + k) (place_of p xs)
-  place_from [] n = refl
-  place_from (x ∷ xs) n = by_case (p x) (place_of p xs) (place_from xs (n + 1)) where
-    by_case : (b : Bool) (o : Option ℕ) → position_from p (n + 1) xs ≡ option_map (λ k. n + 1 + k) o
-        → cond b (Some n) (position_from p (n + 1) xs) ≡ option_map (λ k. n + k) (cond b (Some 0) (option_map suc o))
-    by_case true o e = ap Some (omega arith)
-    by_case false None e = e
-    by_case false (Some k) e = e ∙ ap Some (omega arith)
-
-  place_is : (xs : List X) → position p xs ≡ place_of p xs
-  place_is xs = position_from-zero p xs ∙ place_from xs 0 ∙ by_case (place_of p xs) where
-    by_case : (o : Option ℕ) → option_map (λ k. 0 + k) o ≡ o
-    by_case None = refl
-    by_case (Some k) = ap Some (omega arith)
-
-  found_there : (xs : List X) → find p xs ≡ option_and_then (slice_get xs) (place_of p xs)
-  found_there [] = refl
-  found_there (x ∷ xs) = by_case (p x) (place_of p xs) (found_there xs) where
-    by_case : (b : Bool) (o : Option ℕ) → find p xs ≡ option_and_then (slice_get xs) o
-        → cond b (Some x) (find p xs) ≡ option_and_then (slice_get (x ∷ xs)) (cond b (Some 0) (option_map suc o))
-    by_case true o e = refl
-    by_case false None e = e
-    by_case false (Some k) e = e
-
-  -- the item at the first place is the one that is found
-  pub found_at : (xs : List X) → find p xs ≡ option_and_then (slice_get xs) (position p xs)
-  found_at xs = found_there xs ∙ ap (option_and_then (slice_get xs)) (sym (place_is xs))
 
 -- one place further on in a list that has one more before it
 put_later : {X : Type 0} (y x : X) (ys : List X) (o : Option ℕ) → y ∷ put_at o x ys ≡ put_at (option_map suc o) x (y ∷ ys)
@@ -59,18 +26,18 @@ taken_later y ys None = refl
 taken_later y ys (Some k) = refl
 
 module _ {X : Type 0} (alike : X → X → Bool) (same : X → Bool) (shared : (a b : X) → same a ≡ true → same b ≡ true → alike a b ≡ true) where
-  none_after : (y : X) (xs : List X) → same y ≡ true → not (list_any (alike y) xs) ≡ true → list_any same xs ≡ false
+  pub none_after : (y : X) (xs : List X) → same y ≡ true → not (list_any (alike y) xs) ≡ true → list_any same xs ≡ false
   none_after y xs is apart = case (λ b. list_any same xs ≡ b → b ≡ false) (list_any same xs)
       (λ _ some. let r = any_holds same xs some in absurd (false≢true (sym (not_true (list_any (alike y) xs) apart) ∙ any_from (alike y) xs r.0 r.1 (shared y r.0 is r.2))))
       (λ _ _. refl) refl
 
-  none_replaced : (x : X) (xs : List X) → list_any same xs ≡ false → map (λ y. cond (same y) x y) xs ≡ xs
+  pub none_replaced : (x : X) (xs : List X) → list_any same xs ≡ false → map (λ y. cond (same y) x y) xs ≡ xs
   none_replaced x [] none = refl
   none_replaced x (y ∷ ys) none =
       let both = or_false (same y) (list_any same ys) none in
       λ i. ap (λ b. cond b x y) both.0 i ∷ none_replaced x ys both.1 i
 
-  none_taken : (xs : List X) → list_any same xs ≡ false → without same xs ≡ xs
+  pub none_taken : (xs : List X) → list_any same xs ≡ false → without same xs ≡ xs
   none_taken [] none = refl
   none_taken (y ∷ ys) none =
       let both = or_false (same y) (list_any same ys) none in

@@ -1,8 +1,9 @@
 pub mod Counted
 pub mod Firsts
 pub mod Looking
+pub mod Placed
 pub mod Placing
-pub mod Putting
+pub mod PutRows
 pub mod Reaching
 pub mod Readying
 pub mod Serving

@@ -56,3 +56,8 @@ pub opened : {E : Type 0} (r : Result AdminReply E) (before : Administration) {s
 unfolding IsStep
 opened (Ok reply) before same ask after steps = steps ∙ ap (λ (a : Administration). step a ask) same
 opened (Err e) before same ask after steps = tt
+
+-- and where memory is refused
+pub stays : {E : Type 0} (r : Result AdminReply E) (before after : Administration) {seen : Administration} → before ≡ seen → OnErr r (after ≡ before) → OnErr r (after ≡ seen)
+stays (Ok reply) before after same is = tt
+stays (Err e) before after same is = is ∙ same

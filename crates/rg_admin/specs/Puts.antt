@@ -1,6 +1,7 @@
 -- For proofs alone: a state into which a configuration is being put, and what was put into it.
 use Rattle.std.specs.Prelude.{◌≡◌, pos, Bool, true, false, List, [], ◌++◌, map, None}
 use Rattle.rg_base.specs.Listed.{listed}
+use Rattle.rg_base.specs.Places.{IsIndex}
 use Rattle.rg_defs.specs.declared.service_def.ServiceDef.{ServiceDef}
 use Rattle.rg_cmd.specs.declared.ask.AdminCommand.{AdminCommand}
 use Rattle.rg_cmd.specs.declared.ask.AdminCommand.TheVariants.{CreateService, PutDef, PutUser}
@@ -10,6 +11,7 @@ use Rattle.rg_cmd.specs.declared.state.UserRow.{UserRow}
 use Rattle.rg_validate.specs.Valid.{IsValid}
 use Rattle.rg_machine.specs.Logs.{version}
 use Rattle.rg_cmd.specs.declared.config.Config.{Config}
+use Rattle.rg_admin.specs.declared.putting.Putting.{Putting}
 use Rattle.rg_admin.specs.Starting.{bare_state, put_all, put_fault, puts, started_state}
 
 -- the commands by which a configuration is put
@@ -32,6 +34,13 @@ pub record IsStarting (s : State) : Type 0 where
   pub defs : s.defs.spare ≡ 0
   pub services : s.services.spare ≡ 0
   pub users : s.users.spare ≡ 0
+
+-- the state is being put, and the places are those of the names in it
+pub record IsPutting (p : Putting) : Type 0 where
+  pub starting : IsStarting p.state
+  pub defs : IsIndex p.defs (map (λ (def : ServiceDef). def.name) p.state.defs.items)
+  pub services : IsIndex p.services (map (λ (row : ServiceRow). row.name) p.state.services.items)
+  pub users : IsIndex p.users (map (λ (row : UserRow). row.name) p.state.users.items)
 
 -- the commands put the one state into the other, and no rule fails
 pub record IsPut (s : State) (commands : List AdminCommand) (later : State) : Type 0 where

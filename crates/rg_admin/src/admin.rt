@@ -17,7 +17,7 @@ ghost use Rattle.rg_admin.specs.Reached.{IsPacked};
 ghost use Rattle.rg_admin.specs.Stepped.{IsAccepted, IsMade, IsStep, administration_in};
 
 use crate::change::{change, kept_is_tight};
-use crate::counting::{count_step, shift_of};
+use crate::counting::{count_in, count_out, shift_of};
 use crate::logs::ServiceLog;
 use crate::planning::{Due, plan, settle};
 use crate::reply::reply_of;
@@ -28,7 +28,7 @@ use rg_delegate::authority_fault;
 use rg_facts::Facts;
 use rg_machine::{states_are_kept, views_are_sound};
 use rg_turn::Machine;
-use rg_twins::MapCounts;
+use rg_twins::PrintCounts;
 use rg_validate::first_fault;
 use std::alloc::Global;
 use std::marker::Model;
@@ -40,7 +40,7 @@ const MOST_ENTRIES: u64 = 1 << 62;
 pub struct Admin {
     held: Held,
     // Of the state's policies.
-    counts: MapCounts,
+    counts: PrintCounts,
 }
 
 impl Drop for Admin {
@@ -73,7 +73,7 @@ impl Model for Admin {
 fn fault(
     alloc: Global,
     state: &State,
-    counts: &MapCounts,
+    counts: &PrintCounts,
     ask: &Ask,
 ) -> Result<Option<Rule>, NoMemory>
     requires kept { IsKept state.now }
@@ -153,21 +153,56 @@ fn answer(alloc: Global, held: &mut Held, ask: Ask) -> Result<AdminReply, NoMemo
     }
 }
 
+/// Answers an ask that passes every rule, with the counts of the policies before it and after it. What it brings is counted
+/// first, since that takes memory.
+fn answer_counted(
+    alloc: Global,
+    held: &mut Held,
+    counts: &mut PrintCounts,
+    ask: Ask,
+) -> Result<AdminReply, NoMemory>
+    requires kept { IsKept held.old.state }
+    requires packed { IsPacked held.old.state }
+    requires counted { IsCounted counts.old held.old.state.policies.items }
+    ensures ok { IfOk result (IsAccepted (administration_in held.old) ask (administration_in held.new)) }
+    ensures err { OnErr result (administration_in held.new ≡ administration_in held.old) }
+    ensures counted { IsCounted counts.new held.new.state.policies.items }
+{
+    let shift = shift_of(&held.state, &ask.command);
+    match count_in(counts, shift.brings) {
+        Ok(()) => match answer(alloc, held, ask) {
+            Ok(reply) => {
+                count_out(counts, shift.takes);
+                Ok(reply)
+            }
+            Err(refused) => {
+                count_out(counts, shift.brings);
+                Err(refused)
+            }
+        },
+        Err(refused) => {
+            drop(ask);
+            Err(refused)
+        }
+    }
+}
+
 /// Answers an ask.
 fn step_held(
     alloc: Global,
     held: &mut Held,
-    counts: &MapCounts,
+    counts: &mut PrintCounts,
     ask: Ask,
 ) -> Result<AdminReply, NoMemory>
     requires kept { IsKept held.old.state }
-    requires counted { IsCounted counts.now held.old.state.policies.items }
     requires packed { IsPacked held.old.state }
+    requires counted { IsCounted counts.old held.old.state.policies.items }
     ensures ok { IfOk result (IsStep (administration_in held.old) ask (administration_in held.new)) }
     ensures err { OnErr result (administration_in held.new ≡ administration_in held.old) }
+    ensures counted { IsCounted counts.new held.new.state.policies.items }
 {
     match fault(alloc, &held.state, counts, &ask) {
-        Ok(None) => answer(alloc, held, ask),
+        Ok(None) => answer_counted(alloc, held, counts, ask),
         Ok(Some(rule)) => {
             drop(ask);
             count_entry(&mut held.state);
@@ -182,7 +217,7 @@ fn step_held(
 
 impl Admin {
     /// The administration as it starts.
-    pub(crate) fn opened(state: State, logs: Vec<ServiceLog>, counts: MapCounts) -> Admin
+    pub(crate) fn opened(state: State, logs: Vec<ServiceLog>, counts: PrintCounts) -> Admin
         requires counted { IsCounted counts [] }
         requires starts { IsStart (administration_of state logs.items) }
         requires packed { IsPacked state }
@@ -204,7 +239,7 @@ impl Admin {
     }
 
     /// How many of its policies have each print.
-    pub fn counts(&self) -> &MapCounts
+    pub fn counts(&self) -> &PrintCounts
         ensures { IsCounted result.now self.now.state.policies.items }
     {
         &self.counts
@@ -245,14 +280,7 @@ impl Admin {
         ensures err { OnErr result (self.new ≡ self.old) }
     {
         states_are_kept();
-        let shift = shift_of(&self.held.state, &ask.command);
-        match step_held(alloc, &mut self.held, &self.counts, ask) {
-            Ok(reply) => {
-                count_step(&mut self.counts, shift, &reply);
-                Ok(reply)
-            }
-            Err(refused) => Err(refused),
-        }
+        step_held(alloc, &mut self.held, &mut self.counts, ask)
     }
 }
 

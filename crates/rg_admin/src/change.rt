@@ -7,7 +7,7 @@ ghost use Rattle.rg_cmd.specs.declared.state.State.{State};
 ghost use Rattle.rg_cmd.specs.declared.state.UserRow.{UserRow};
 ghost use Rattle.rg_defs.specs.declared.service_def.ServiceDef.{ServiceDef};
 ghost use Rattle.rg_roles.specs.declared.row.RoleRow.{RoleRow};
-ghost use Rattle.rg_zones.specs.declared.row.ZoneRow.{ZoneRow};
+ghost use Rattle.rg_zone_rules.specs.declared.row.ZoneRow.{ZoneRow};
 ghost use Rattle.rg_machine.specs.Changes.{after_command, with_roles_changed};
 ghost use Rattle.rg_validate.specs.Valid.{IsKept};
 ghost use Rattle.rg_admin.specs.Reached.{IsPacked};
@@ -20,7 +20,7 @@ use rg_cmd::{AdminCommand, ServiceRow, State, UserRow};
 use rg_defs::ServiceDef;
 use rg_roles::RoleRow;
 use rg_roles::laws::sound_in_lists;
-use rg_zones::ZoneRow;
+use rg_zone_rules::ZoneRow;
 use std::alloc::Global;
 
 pub(crate) fn put_def(alloc: Global, state: &mut State, def: ServiceDef) -> Result<(), NoMemory>

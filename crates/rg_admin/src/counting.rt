@@ -1,79 +1,73 @@
 // How the counts of prints follow the policies.
-ghost use Rattle.std.specs.Prelude.{◌≡◌, option_map};
-ghost use Rattle.rg_policy.specs.Maps.{maps_of};
-ghost use Rattle.rg_twins.specs.Prints.{print_of};
-ghost use Rattle.rg_cmd.specs.Lookups.{policy_at};
-ghost use Rattle.rg_machine.specs.Laws.{is_refused};
-ghost use Rattle.rg_admin.specs.Counting.{print_at, shift_of, shifted, shifted_by};
+ghost use Rattle.std.specs.Prelude.{◌≡◌, OnErr, OnOk, option_map};
+ghost use Rattle.rg_twins.specs.Counts.{IsSame};
+ghost use Rattle.rg_twins.specs.Prints.{prints_of};
+ghost use Rattle.rg_validate.specs.Valid.{IsValid};
+ghost use Rattle.rg_admin.specs.Counting.{IsCountedIn, IsCountedOut, policy_brought, shift_of};
+ghost use Rattle.rg_admin.specs.Planning.{policy_named};
 
-use crate::lookups::policy_at;
-use rg_base::PolicyId;
-use rg_cmd::{AdminCommand, AdminReply, State};
-use rg_twins::{MapCounts, print_of};
+use crate::lookups::policy_named;
+use rg_base::NoMemory;
+use rg_cmd::{AdminCommand, State};
+use rg_twins::{PrintCounts, Prints, prints_of};
 
-/// The print that a command brings, and the one that it takes away.
-#[derive(Drop)]
+/// The prints that a command brings, and those that it takes away.
+#[derive(Clone, Copy)]
 pub(crate) struct Shift {
-    brings: Option<usize>,
-    takes: Option<usize>,
+    pub(crate) brings: Option<Prints>,
+    pub(crate) takes: Option<Prints>,
 }
 
-/// The print of the policy of this id.
-fn print_at(state: &State, id: PolicyId) -> Option<usize>
-    ensures { result ≡ print_at (policy_at state.now id.0) }
+/// The prints of the policy that the command brings.
+fn prints_brought(command: &AdminCommand) -> Option<Prints>
+    ensures { result ≡ option_map prints_of (policy_brought command.now) }
 {
-    match policy_at(state, id) {
-        Some(policy) => Some(print_of(policy)),
+    match command {
+        AdminCommand::CreatePolicy { policy } => Some(prints_of(policy)),
+        AdminCommand::UpdatePolicy { policy } => Some(prints_of(policy)),
+        _ => None,
+    }
+}
+
+/// The prints of the policy that the command updates or deletes.
+fn prints_named(state: &State, command: &AdminCommand) -> Option<Prints>
+    requires { IsValid state.now }
+    ensures { result ≡ option_map prints_of (policy_named state.now command.now) }
+{
+    match policy_named(state, command) {
+        Some(policy) => Some(prints_of(policy)),
         None => None,
     }
 }
 
 /// What the command, once accepted, does to the prints.
 pub(crate) fn shift_of(state: &State, command: &AdminCommand) -> Shift
+    requires { IsValid state.now }
     ensures { result ≡ shift_of state.now command.now }
 {
-    match command {
-        AdminCommand::CreatePolicy { policy } => Shift {
-            brings: Some(print_of(policy)),
-            takes: None,
-        },
-        AdminCommand::UpdatePolicy { policy } => Shift {
-            brings: Some(print_of(policy)),
-            takes: print_at(state, policy.id),
-        },
-        AdminCommand::DeletePolicy { id } => Shift {
-            brings: None,
-            takes: print_at(state, *id),
-        },
-        _ => Shift {
-            brings: None,
-            takes: None,
-        },
+    Shift {
+        brings: prints_brought(command),
+        takes: prints_named(state, command),
     }
 }
 
-fn shift_by(counts: &mut MapCounts, shift: Shift)
-    ensures { counts.new ≡ shifted shift counts.old }
+/// Counts what has the prints, if there is something.
+pub(crate) fn count_in(counts: &mut PrintCounts, prints: Option<Prints>) -> Result<(), NoMemory>
+    ensures ok { OnOk result (IsCountedIn prints counts.old counts.new) }
+    ensures err { OnErr result (IsSame counts.old counts.new) }
 {
-    if let Some(print) = shift.brings {
-        counts.raise(print);
-    }
-    if let Some(print) = shift.takes {
-        counts.lower(print);
+    match prints {
+        Some(prints) => counts.add(prints),
+        None => Ok(()),
     }
 }
 
-fn is_refused(reply: &AdminReply) -> bool
-    ensures { result ≡ is_refused reply.now }
+/// Counts it no more. It takes no memory.
+pub(crate) fn count_out(counts: &mut PrintCounts, prints: Option<Prints>)
+    ensures { IsCountedOut prints counts.old counts.new }
 {
-    matches!(reply, AdminReply::Refused(_))
-}
-
-/// The counts after a step with this reply.
-pub(crate) fn count_step(counts: &mut MapCounts, shift: Shift, reply: &AdminReply)
-    ensures { counts.new ≡ shifted_by (is_refused reply.now) shift counts.old }
-{
-    if !is_refused(reply) {
-        shift_by(counts, shift);
+    match prints {
+        Some(prints) => counts.remove(prints),
+        None => {}
     }
 }

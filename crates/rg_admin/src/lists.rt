@@ -19,7 +19,7 @@ fn taken<T>(alloc: Global, list: &mut Seq<T>) -> Vec<T>
 }
 
 /// Puts the item in the place of the one there.
-fn replace_at<T: Drop>(alloc: Global, list: &mut Seq<T>, place: usize, item: T)
+pub(crate) fn replace_at<T: Drop>(alloc: Global, list: &mut Seq<T>, place: usize, item: T)
     requires { place < length list.old.items }
     ensures { list.new ≡ listed (slice_set list.old.items place item) }
 {

@@ -1,14 +1,15 @@
 // What a state holds under a name or an id.
 ghost use Rattle.std.specs.Prelude.{◌≡◌, ◌||◌, option_and_then, option_map};
-ghost use Rattle.rg_cmd.specs.Lookups.{has_def, has_tag_service, policy_at, service_at, tag_row_at, tag_service_in};
+ghost use Rattle.rg_cmd.specs.Lookups.{has_def, has_tag_service, service_at, tag_row_at, tag_service_in};
 ghost use Rattle.rg_validate.specs.Valid.{IsValid};
 ghost use Rattle.rg_admin.specs.Planning.{policy_named, tag_def_named, tag_row_named};
 
-use rg_base::{PolicyId, Text, find_named, is_empty, same_text};
+use rg_base::{Text, find_named, is_empty, same_text};
 use rg_cmd::{AdminCommand, ServiceRow, State};
 use rg_defs::tag_name;
 use rg_policy::Policy;
 use rg_tags::TagRow;
+use rg_validate::policy_at;
 
 /// The service of this name.
 pub(crate) fn service_at<'a>(state: &'a State, name: &Text) -> Option<&'a ServiceRow>
@@ -85,17 +86,6 @@ pub(crate) fn has_tag_service(row: Option<&ServiceRow>, name: &Text) -> bool
     }
 }
 
-/// The policy of this id.
-pub(crate) fn policy_at(state: &State, id: PolicyId) -> Option<&Policy>
-    ensures { option_map (λ p. p.now) result ≡ policy_at state.now id.0 }
-{
-    state
-        .policies
-        .as_slice()
-        .iter()
-        .find(|policy| policy.id.0 == id.0)
-}
-
 /// The tag row of this id.
 pub(crate) fn tag_row_at(state: &State, id: i64) -> Option<&TagRow>
     ensures { option_map (λ r. r.now) result ≡ tag_row_at state.now id }
@@ -105,6 +95,7 @@ pub(crate) fn tag_row_at(state: &State, id: i64) -> Option<&TagRow>
 
 /// The policy that the command updates or deletes.
 pub(crate) fn policy_named<'a>(state: &'a State, command: &AdminCommand) -> Option<&'a Policy>
+    requires { IsValid state.now }
     ensures { option_map (λ p. p.now) result ≡ policy_named state.now command.now }
 {
     match command {

@@ -1,6 +1,7 @@
 // Policies and tag rows, which have ids, changed in place.
-ghost use Rattle.std.specs.Prelude.{◌≡◌, ◌<◌, IfSome, OnErr, OnOk, length, option_and_then, position, slice_get};
+ghost use Rattle.std.specs.Prelude.{◌≡◌, ◌<◌, IfSome, OnErr, OnOk, length, option_and_then, position, slice_get, true};
 ghost use Rattle.std.specs.Ordering.{int_eq};
+ghost use Rattle.rg_base.specs.Texts.{all_distinct};
 ghost use Rattle.rg_cmd.specs.Lookups.{has_id, has_row_id};
 ghost use Rattle.rg_cmd.specs.declared.ask.AdminCommand.TheVariants.{CreatePolicy, DeletePolicy, DeleteTags, PutTags, UpdatePolicy};
 ghost use Rattle.rg_machine.specs.Changes.{after_command, stored_row, version_after};
@@ -13,21 +14,16 @@ use rg_base::{NoMemory, PolicyId, Seq, Version};
 use rg_cmd::State;
 use rg_policy::Policy;
 use rg_tags::TagRow;
+use rg_validate::place_of_policy;
 use std::alloc::Global;
 
-fn has_id(policy: &Policy, id: PolicyId) -> bool
-    ensures { result ≡ has_id id.0 policy.now }
-{
-    policy.id.0 == id.0
-}
-
-/// The place of the first policy of this id.
-fn place_of_policy(policies: &Seq<Policy>, id: PolicyId) -> Option<usize>
+/// The place of the policy of this id.
+fn place_of(policies: &Seq<Policy>, id: PolicyId) -> Option<usize>
+    requires { all_distinct (λ (p q : Policy). int_eq p.id.0 q.id.0) policies.now.items ≡ true }
     ensures first { result ≡ position (has_id id.0) policies.now.items }
     ensures within { IfSome result (λ p. p < length policies.now.items) }
 {
-    let mut policies = policies.as_slice().iter();
-    policies.position(|policy| has_id(policy, id))
+    place_of_policy(policies.as_slice(), id)
 }
 
 /// The policy as it is created.
@@ -82,7 +78,7 @@ pub(crate) fn update_policy(
     ensures ok { OnOk result (state.new ≡ after_command state.old (UpdatePolicy policy)) }
     ensures err { OnErr result (state.new ≡ state.old) }
 {
-    let place = place_of_policy(&state.policies, policy.id);
+    let place = place_of(&state.policies, policy.id);
     let version = version_after(&state.policies, place);
     put_at(alloc, &mut state.policies, place, updated(policy, version))
 }
@@ -92,7 +88,7 @@ pub(crate) fn delete_policy(alloc: Global, state: &mut State, id: PolicyId)
     requires { IsTightList (λ (p q : Policy). int_eq p.id.0 q.id.0) state.old.policies }
     ensures { state.new ≡ after_command state.old (DeletePolicy id) }
 {
-    let place = place_of_policy(&state.policies, id);
+    let place = place_of(&state.policies, id);
     take_away(alloc, &mut state.policies, place);
 }
 

@@ -1,28 +1,24 @@
 // How an administration starts from a configuration.
-ghost use Rattle.std.specs.Prelude.{◌≡◌, [], MatchResult, IfErr, IfOk, None, OnOk, filter, map, not, true};
+ghost use Rattle.std.specs.Prelude.{◌≡◌, MatchResult, IfErr, IfOk, None, OnOk, filter, map, not};
 ghost use Rattle.std.specs.Str.{bytes_eq};
 ghost use Rattle.rg_defs.specs.Rules.{tag_name};
-ghost use Rattle.rg_cmd.specs.declared.config.Config.{Config as Configuration};
 ghost use Rattle.rg_cmd.specs.declared.state.ServiceRow.{ServiceRow as Row};
-ghost use Rattle.rg_twins.specs.Counts.{IsCounted};
 ghost use Rattle.rg_validate.specs.Failing.{first_failing};
-ghost use Rattle.rg_machine.specs.Changes.{after_command};
 ghost use Rattle.rg_machine.specs.Starts.{IsStart, new_logs};
 ghost use Rattle.rg_admin.specs.Held.{logs_of};
-ghost use Rattle.rg_admin.specs.Puts.{IsPut, IsPutWhole, IsStarting, is_put, rows_put};
+ghost use Rattle.rg_admin.specs.Puts.{IsPut, IsPutWhole, IsPutting, rows_put};
 ghost use Rattle.rg_admin.specs.Reached.{IsPacked};
 ghost use Rattle.rg_admin.specs.Held.{administration_of};
-ghost use Rattle.rg_admin.specs.Starting.{IsCause, bare_state, last_rules, put_fault, puts, start_fault, start_rules, started};
+ghost use Rattle.rg_admin.specs.Starting.{IsCause, bare_state, last_rules, put_fault, puts, start_fault, started};
 
 use crate::admin::Admin;
-use crate::change::change;
 use crate::logs::ServiceLog;
-use rg_base::{NoMemory, Seq, Text, Version, same_text};
-use rg_cmd::{AdminCommand, Config, Rule, ServiceRow, State, UserRow};
+use crate::putting::{Configured, Putting, bare_state, nothing_put};
+use rg_base::{NoMemory, Seq, same_text};
+use rg_cmd::{Config, Rule, ServiceRow, State, UserRow};
 use rg_defs::{ServiceDef, tag_name};
-use rg_twins::MapCounts;
-use rg_validate::{command_fault, plugin_fits, service_exists, time_zones_read};
-use rg_zones::zones_apart_by_pairs;
+use rg_twins::PrintCounts;
+use rg_validate::{plugin_fits, service_exists, time_zones_read};
 use std::alloc::Global;
 
 /// Why a configuration starts no administration.
@@ -44,97 +40,19 @@ impl From<NoMemory> for StartFault {
     }
 }
 
-/// A row of a configuration.
-trait Configured {
-    ghost use Rattle.std.specs.Prelude.{◌≡◌, true};
-    ghost use Rattle.rg_cmd.specs.declared.ask.AdminCommand.{AdminCommand as Commands};
-    ghost use Rattle.rg_admin.specs.Puts.{is_put};
-
-    /// The command that puts it.
-    ghost put_by: { Self → Commands };
-
-    /// The command that puts it.
-    fn command(self) -> AdminCommand
-        ensures command { result ≡ put_by self }
-        ensures puts { is_put result ≡ true };
-}
-
-impl Configured for ServiceDef {
-    ghost use Rattle.rg_cmd.specs.declared.ask.AdminCommand.TheVariants.{PutDef};
-
-    ghost put_by = { λ def. PutDef def };
-
-    fn command(self) -> AdminCommand {
-        AdminCommand::PutDef { def: self }
-    }
-}
-
-impl Configured for ServiceRow {
-    ghost use Rattle.rg_cmd.specs.declared.ask.AdminCommand.TheVariants.{CreateService};
-
-    ghost put_by = { λ row. CreateService row };
-
-    fn command(self) -> AdminCommand {
-        AdminCommand::CreateService { service: self }
-    }
-}
-
-impl Configured for UserRow {
-    ghost use Rattle.rg_cmd.specs.declared.ask.AdminCommand.TheVariants.{PutUser};
-
-    ghost put_by = { λ row. PutUser row };
-
-    fn command(self) -> AdminCommand {
-        AdminCommand::PutUser { user: self }
-    }
-}
-
-/// Puts one row. No policy, zone or tag row is there that C1 could ask about.
-fn put(
-    alloc: Global,
-    state: &mut State,
-    counts: &MapCounts,
-    command: AdminCommand,
-) -> Result<(), StartFault>
-    requires starting { IsStarting state.old }
-    requires counted { IsCounted counts.now [] }
-    requires puts { is_put command ≡ true }
-    ensures ok { OnOk result ((first_failing (start_rules state.old command) ≡ None) × (state.new ≡ after_command state.old command)) }
-    ensures starting { OnOk result (IsStarting state.new) }
-    ensures err { IfErr result (λ fault. IsCause fault (first_failing (start_rules state.old command))) }
-{
-    zones_apart_by_pairs();
-    match command_fault(alloc, state, counts, &command) {
-        Ok(None) => match change(alloc, state, command) {
-            Ok(()) => Ok(()),
-            Err(_) => Err(StartFault::NoMemory),
-        },
-        Ok(Some(rule)) => {
-            drop(command);
-            Err(StartFault::Rule(rule))
-        }
-        Err(_) => {
-            drop(command);
-            Err(StartFault::NoMemory)
-        }
-    }
-}
-
 /// Puts the rows one after the other.
 fn put_all<T: Configured + Drop>(
     alloc: Global,
-    state: &mut State,
-    counts: &MapCounts,
+    putting: &mut Putting,
     rows: Vec<T>,
 ) -> Result<(), StartFault>
-    requires starting { IsStarting state.old }
-    requires counted { IsCounted counts.now [] }
-    ensures ok { OnOk result (IsPut state.old (map T.put_by rows.items) state.new) }
-    ensures starting { OnOk result (IsStarting state.new) }
-    ensures err { IfErr result (λ fault. IsCause fault (put_fault state.old (map T.put_by rows.items))) }
+    requires { IsPutting putting.old }
+    ensures ok { OnOk result (IsPut putting.old.state (map T.put_by rows.items) putting.new.state) }
+    ensures putting { OnOk result (IsPutting putting.new) }
+    ensures err { IfErr result (λ fault. IsCause fault (put_fault putting.old.state (map T.put_by rows.items))) }
 {
     for row in rows {
-        if let Err(fault) = put(alloc, state, counts, row.command()) {
+        if let Err(fault) = row.put(alloc, putting) {
             return Err(fault);
         }
     }
@@ -159,27 +77,6 @@ fn parted(
         }
     }
     Ok((tags, others))
-}
-
-/// The state before anything is put.
-fn bare_state(alloc: Global, admins: Seq<Text>, plugin: Text) -> State
-    ensures { (c : Configuration) → c.admins ≡ admins → c.plugin ≡ plugin → result ≡ bare_state c }
-{
-    State {
-        admins,
-        users: Seq::new(alloc),
-        time_zones: Seq::new(alloc),
-        defs: Seq::new(alloc),
-        services: Seq::new(alloc),
-        policies: Seq::new(alloc),
-        zones: Seq::new(alloc),
-        roles: Seq::new(alloc),
-        tag_rows: Seq::new(alloc),
-        plugin,
-        next_id: 1,
-        count: 0,
-        role_version: Version(1),
-    }
 }
 
 /// The first that fails of the rules that are asked once everything is put.
@@ -213,35 +110,40 @@ fn new_logs(alloc: Global, services: &[ServiceRow]) -> Result<Vec<ServiceLog>, N
 /// Puts definitions, services, those of definition `tag` first, and users.
 fn put_rows(
     alloc: Global,
-    state: &mut State,
-    counts: &MapCounts,
+    putting: &mut Putting,
     defs: Vec<ServiceDef>,
     tags: Vec<ServiceRow>,
     others: Vec<ServiceRow>,
     users: Vec<UserRow>,
 ) -> Result<(), StartFault>
-    requires starting { IsStarting state.old }
-    requires counted { IsCounted counts.now [] }
-    ensures { MatchResult result (λ _. IsPut state.old (rows_put defs.items tags.items others.items users.items) state.new × IsStarting state.new) (λ fault. IsCause fault (put_fault state.old (rows_put defs.items tags.items others.items users.items))) }
+    requires { IsPutting putting.old }
+    ensures ok { OnOk result (IsPut putting.old.state (rows_put defs.items tags.items others.items users.items) putting.new.state) }
+    ensures putting { OnOk result (IsPutting putting.new) }
+    ensures err { IfErr result (λ fault. IsCause fault (put_fault putting.old.state (rows_put defs.items tags.items others.items users.items))) }
 {
-    if let Err(fault) = put_all(alloc, state, counts, defs) {
+    if let Err(fault) = put_all(alloc, putting, defs) {
         return Err(fault);
     }
-    if let Err(fault) = put_all(alloc, state, counts, tags) {
+    if let Err(fault) = put_all(alloc, putting, tags) {
         return Err(fault);
     }
-    if let Err(fault) = put_all(alloc, state, counts, others) {
+    if let Err(fault) = put_all(alloc, putting, others) {
         return Err(fault);
     }
-    if let Err(fault) = put_all(alloc, state, counts, users) {
+    if let Err(fault) = put_all(alloc, putting, users) {
         return Err(fault);
     }
     Ok(())
 }
 
+fn state_of(putting: Putting) -> State
+    ensures { result ≡ putting.state }
+{
+    putting.state
+}
+
 /// The state once all rows of the configuration are put.
-fn put_config(alloc: Global, counts: &MapCounts, config: Config) -> Result<State, StartFault>
-    requires { IsCounted counts.now [] }
+fn put_config(alloc: Global, config: Config) -> Result<State, StartFault>
     ensures { MatchResult result (λ state. IsPutWhole config state) (λ fault. IsCause fault (put_fault (bare_state config) (puts config))) }
 {
     let Config {
@@ -256,11 +158,10 @@ fn put_config(alloc: Global, counts: &MapCounts, config: Config) -> Result<State
         Ok(lists) => lists,
         Err(NoMemory) => return Err(StartFault::NoMemory),
     };
-    let mut state = bare_state(alloc, admins, plugin);
+    let mut putting = nothing_put(alloc, bare_state(alloc, admins, plugin));
     if let Err(fault) = put_rows(
         alloc,
-        &mut state,
-        counts,
+        &mut putting,
         defs.into_vec(),
         tags,
         others,
@@ -268,6 +169,7 @@ fn put_config(alloc: Global, counts: &MapCounts, config: Config) -> Result<State
     ) {
         return Err(fault);
     }
+    let mut state = state_of(putting);
     state.time_zones = time_zones;
     Ok(state)
 }
@@ -284,13 +186,11 @@ fn with_logs(alloc: Global, state: State) -> Result<(State, Vec<ServiceLog>), No
 /// The state and the logs of the administration that the configuration starts.
 pub(crate) fn start_parts(
     alloc: Global,
-    counts: &MapCounts,
     config: Config,
 ) -> Result<(State, Vec<ServiceLog>), StartFault>
-    requires { IsCounted counts.now [] }
     ensures { MatchResult result (λ parts. (start_fault config ≡ None) × (administration_of parts.0 parts.1.items ≡ started config) × IsStart (administration_of parts.0 parts.1.items) × IsPacked parts.0) (λ fault. IsCause fault (start_fault config)) }
 {
-    let state = match put_config(alloc, counts, config) {
+    let state = match put_config(alloc, config) {
         Ok(state) => state,
         Err(fault) => return Err(fault),
     };
@@ -314,16 +214,9 @@ impl Admin {
         ensures starts { IfOk result IsStart }
         ensures err { IfErr result (λ fault. IsCause fault (start_fault config)) }
     {
-        let Ok(counts) = MapCounts::new(alloc) else {
-            drop(config);
-            return Err(StartFault::NoMemory);
-        };
-        match start_parts(alloc, &counts, config) {
-            Ok((state, logs)) => Ok(Admin::opened(state, logs, counts)),
-            Err(fault) => {
-                drop(counts);
-                Err(fault)
-            }
+        match start_parts(alloc, config) {
+            Ok((state, logs)) => Ok(Admin::opened(state, logs, PrintCounts::new(alloc))),
+            Err(fault) => Err(fault),
         }
     }
 }

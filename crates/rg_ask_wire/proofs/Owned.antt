@@ -7,8 +7,8 @@ use Rattle.rg_base.specs.declared.pair.Pair.{Pair}
 use Rattle.rg_cmd.specs.declared.ask.AdminCommand.{AdminCommand}
 use Rattle.rg_defs.specs.declared.service_def.AccessType.{AccessType}
 use Rattle.rg_policy.specs.declared.policy.PolicyResource.{PolicyResource}
-use Rattle.rg_zones.specs.declared.row.ZoneLevel.{ZoneLevel}
-use Rattle.rg_zones.specs.declared.row.ZoneService.{ZoneService}
+use Rattle.rg_zone_rules.specs.declared.row.ZoneLevel.{ZoneLevel}
+use Rattle.rg_zone_rules.specs.declared.row.ZoneService.{ZoneService}
 use Rattle.rg_json.specs.declared.fault.Fault.{Fault}
 use Rattle.rg_json.specs.Faults.{fault_of}
 use Rattle.rg_json.specs.Fields.{list_at, map_at, map_of, text_of, within}

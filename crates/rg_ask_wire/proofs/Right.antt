@@ -23,9 +23,9 @@ use Rattle.rg_policy.specs.declared.policy.PolicyResource.{PolicyResource}
 use Rattle.rg_policy.specs.declared.tags.Tag.{Tag}
 use Rattle.rg_roles.specs.declared.row.RoleRow.{RoleRow}
 use Rattle.rg_tags.specs.declared.row.TagRow.{TagRow}
-use Rattle.rg_zones.specs.declared.row.ZoneLevel.{ZoneLevel}
-use Rattle.rg_zones.specs.declared.row.ZoneRow.{ZoneRow}
-use Rattle.rg_zones.specs.declared.row.ZoneService.{ZoneService}
+use Rattle.rg_zone_rules.specs.declared.row.ZoneLevel.{ZoneLevel}
+use Rattle.rg_zone_rules.specs.declared.row.ZoneRow.{ZoneRow}
+use Rattle.rg_zone_rules.specs.declared.row.ZoneService.{ZoneService}
 use Rattle.rg_wire.specs.declared.key.Key.{Key}
 use Rattle.rg_wire.specs.declared.key.Key.TheVariants as key
 use Rattle.rg_wire.specs.Names.{name_of}

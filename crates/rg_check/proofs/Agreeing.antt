@@ -7,8 +7,8 @@ use Rattle.rg_base.specs.declared.numbers.Moment.{Moment}
 use Rattle.rg_defs.specs.declared.service_def.ServiceDef.{ServiceDef}
 use Rattle.rg_facts.specs.Sound.{sound}
 use Rattle.rg_facts.specs.declared.facts.Facts.{Facts}
-use Rattle.rg_zones.specs.Overlap.{first_overlap, zones_overlap}
-use Rattle.rg_zones.specs.declared.row.ZoneRow.{ZoneRow}
+use Rattle.rg_zone_rules.specs.Overlap.{first_overlap, zones_overlap}
+use Rattle.rg_zone_rules.specs.declared.row.ZoneRow.{ZoneRow}
 use Rattle.rg_turn.specs.History.{state_at}
 use Rattle.rg_turn.specs.declared.rule.Entry.{Entry}
 use Rattle.rg_cmd.specs.declared.ask.AdminReply.{AdminReply}

@@ -3,8 +3,8 @@ use Rattle.std.proofs.Common.{◌≡◌, ◌∙◌, ℕ, true, List, [], ◌∷�
 use Rattle.std.specs.Option.{option_or}
 use Rattle.rg_base.specs.Texts.{all_distinct}
 use Rattle.rg_defs.specs.declared.service_def.ServiceDef.{ServiceDef}
-use Rattle.rg_zones.specs.Overlap.{first_overlap, zones_overlap}
-use Rattle.rg_zones.specs.declared.row.ZoneRow.{ZoneRow}
+use Rattle.rg_zone_rules.specs.Overlap.{first_overlap, zones_overlap}
+use Rattle.rg_zone_rules.specs.declared.row.ZoneRow.{ZoneRow}
 use Rattle.rg_cmd.specs.declared.ask.AdminCommand.{AdminCommand}
 use Rattle.rg_cmd.specs.declared.ask.AdminCommand.TheVariants.{CreateService, PutDef, PutUser}
 use Rattle.rg_cmd.specs.declared.config.Config.{Config}
@@ -14,7 +14,7 @@ use Rattle.rg_machine.specs.Changes.{after_command}
 use Rattle.rg_machine.specs.Starts.{IsStart}
 use Rattle.rg_admin.specs.Puts.{IsStarting, is_put}
 use Rattle.rg_admin.specs.Starting.{bare_state, last_rules, put_all, put_fault, puts, start_fault, start_rules, started, started_state, tag_services_first}
-use Rattle.rg_admin.proofs.Putting.{bare_starts, is_start, put_starts, same_rules}
+use Rattle.rg_admin.proofs.PutRows.{bare_starts, is_start, put_starts, same_rules}
 
 -- each of the commands puts a row
 abbrev ArePuts : List AdminCommand → Type 0

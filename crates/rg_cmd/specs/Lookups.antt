@@ -9,7 +9,7 @@ use Rattle.rg_defs.specs.declared.service_def.ServiceDef.{ServiceDef}
 use Rattle.rg_policy.specs.declared.policy.Policy.{Policy}
 use Rattle.rg_roles.specs.declared.row.RoleRow.{RoleRow}
 use Rattle.rg_tags.specs.declared.row.TagRow.{TagRow}
-use Rattle.rg_zones.specs.declared.row.ZoneRow.{ZoneRow}
+use Rattle.rg_zone_rules.specs.declared.row.ZoneRow.{ZoneRow}
 use Rattle.rg_cmd.specs.declared.state.ServiceRow.{ServiceRow}
 use Rattle.rg_cmd.specs.declared.state.State.{State}
 use Rattle.rg_cmd.specs.declared.state.UserRow.{UserRow}

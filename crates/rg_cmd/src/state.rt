@@ -6,7 +6,7 @@ use rg_defs::ServiceDef;
 use rg_policy::{Policy, TimeZoneRow};
 use rg_roles::RoleRow;
 use rg_tags::TagRow;
-use rg_zones::ZoneRow;
+use rg_zone_rules::ZoneRow;
 use std::alloc::Global;
 
 /// A service (RangerService).

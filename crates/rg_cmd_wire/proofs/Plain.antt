@@ -16,9 +16,9 @@ use Rattle.rg_defs.specs.declared.service_def.MaskType.{MaskType}
 use Rattle.rg_defs.specs.declared.service_def.ServiceDef.{ServiceDef}
 use Rattle.rg_roles.specs.declared.row.RoleRow.{RoleRow}
 use Rattle.rg_tags.specs.declared.row.TagRow.{TagRow}
-use Rattle.rg_zones.specs.declared.row.ZoneLevel.{ZoneLevel}
-use Rattle.rg_zones.specs.declared.row.ZoneRow.{ZoneRow}
-use Rattle.rg_zones.specs.declared.row.ZoneService.{ZoneService}
+use Rattle.rg_zone_rules.specs.declared.row.ZoneLevel.{ZoneLevel}
+use Rattle.rg_zone_rules.specs.declared.row.ZoneRow.{ZoneRow}
+use Rattle.rg_zone_rules.specs.declared.row.ZoneService.{ZoneService}
 use Rattle.rg_json.specs.Printing.{bool_data, list_data}
 use Rattle.rg_json.proofs.Plain.{Plain, PlainMembers, none_plain, put_plain, object_plain, list_plain, text_plain, bool_plain, integer_plain, count_plain, option_plain, texts_plain}
 use Rattle.rg_wire.specs.Printing.{policy_data}

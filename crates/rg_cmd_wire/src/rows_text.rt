@@ -13,7 +13,7 @@ use rg_policy::{Tag, TimeZoneRow};
 use rg_roles::RoleRow;
 use rg_tags::TagRow;
 use rg_wire::{Key, resources_json};
-use rg_zones::{ZoneLevel, ZoneRow, ZoneService};
+use rg_zone_rules::{ZoneLevel, ZoneRow, ZoneService};
 use serde_json::{Map, Value};
 use std::alloc::Global;
 

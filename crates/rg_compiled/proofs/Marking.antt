@@ -33,20 +33,10 @@ use Rattle.rg_evalr.specs.Sources.{Source}
 use Rattle.rg_evalr.specs.declared.frame.Frame.{Frame}
 use Rattle.rg_evalr.specs.declared.frame.Side.{Side}
 use Rattle.rg_defs.proofs.Few.{levels_hold}
+use Rattle.rg_index.proofs.PatternLaws.{PrefixLaw, StandsLaw, TwinLaw}
 use Rattle.rg_compiled.specs.Marks.{Asked, admits, agrees, asked_at, found_key, key_beside, mark_at, mark_of, named_key, only_key, policy_key, resource_key, source_mark, unasked, value_agrees}
 use Rattle.rg_compiled.specs.Seen.{source}
 use Rattle.rg_compiled.proofs.Passing.{values_pass}
-
--- ---- laws of patterns
-
-abbrev pub StandsLaw : Type 0
-StandsLaw = (fold : Bool) (user : List ℕ) (p : List Atom) (t : List ℕ) → (IsTrue (stands fold user p t) → Stands fold user p t) × (Stands fold user p t → IsTrue (stands fold user p t))
-
-abbrev pub PrefixLaw : Type 0
-PrefixLaw = (fold : Bool) (user : List ℕ) (p : List Atom) (t : List ℕ) → Stands fold user p t → starts_with nat_eq (folded fold t) (literal_prefix fold p) ≡ true
-
-abbrev pub TwinLaw : Type 0
-TwinLaw = (fold : Bool) (user : List ℕ) (p : List Atom) (t : List ℕ) → Stands fold user (twin p) t → starts_with nat_eq (folded fold t) (literal_prefix fold p) ≡ true
 
 -- ---- hashes
 

@@ -13,7 +13,7 @@ ghost use Rattle.rg_compiled.specs.Seen.{row_source, source};
 use crate::marks::{Asked, Mark};
 use rg_base::{Ledger, NoMemory, Seq, Steps, TryCopy};
 use rg_defs::ServiceDef;
-use rg_evalr::{Evaluator, Frame, Side};
+use rg_evalr::{Evaluator, Frame, Side, def_of};
 use rg_index::Form;
 use rg_policy::{Policy, ResourceMap, maps_of};
 use rg_resmatch::{Matcher, Reach};
@@ -33,19 +33,6 @@ pub(crate) trait Fileable: Drop {
     /// Its form with the ordinal as its id.
     fn form(&self, alloc: Global, ordinal: i64) -> Result<Form, NoMemory>
         ensures { IfOk result (λ form. form ≡ renumbered ordinal (form_of self.now)) };
-}
-
-/// The definition of the policies of a side.
-pub(crate) fn def_of(frame: &Frame, side: Side) -> &ServiceDef
-    ensures { result.now ≡ def_of frame.now side }
-{
-    match side {
-        Side::Resource => &frame.def,
-        Side::Tag => match &frame.tag_def {
-            Some(def) => def,
-            None => &frame.def,
-        },
-    }
 }
 
 /// A policy with its evaluator, and its marks at the first two levels of its definition. Contracts see what was compiled.

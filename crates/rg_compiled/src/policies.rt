@@ -21,7 +21,7 @@ ghost use Rattle.rg_compiled.specs.Seen.{source};
 
 use crate::compilers::PolicyCompiler;
 use crate::filling::compile_slots;
-use crate::held::{HeldPolicy, def_of};
+use crate::held::HeldPolicy;
 use crate::marks::{Asked, lying_policies_agree};
 use crate::shelf::Shelf;
 use crate::sides::policy_plan;
@@ -30,7 +30,7 @@ use crate::visits::Visits;
 use rg_base::{Ledger, NoMemory, Seq, Steps, TryCopy};
 use rg_cmd::PolicyChange;
 use rg_defs::{Level, ServiceDef};
-use rg_evalr::{Frame, Side};
+use rg_evalr::{Frame, Side, def_of};
 use rg_policy::{Policy, Resource};
 use std::alloc::Global;
 use std::marker::Model;

@@ -1,38 +1,39 @@
 -- From the parts of a run of `keep` to the whole.
-use Rattle.std.proofs.Common.{◌≡◌, ◌⊎◌, ◌∙◌, ◌++◌, ◌≤◌, ◌<◌, ℕ, zero, suc, true, false, List, [], ◌∷◌, take, Option, Some, None, arith, inl, inr, refl, ap, sym, subst}
-use Rattle.rg_base.specs.declared.numbers.Moment.{Moment}
-use Rattle.rg_script.specs.Lines.{lines_of}
+use Rattle.std.proofs.Common.{◌≡◌, ◌⊎◌, ◌≤◌, ◌<◌, ℕ, true, false, List, [], Option, Some, None, arith, inl, inr, refl, subst}
 use Rattle.rg_work.specs.declared.status.Status.{Status}
 use Rattle.rg_work.specs.declared.status.Status.TheVariants.{Done, Usage, BadLine, ReadFault, WriteFault, NetFault, TooLong, KeepFault, NoMemory, BadRecord}
-use Rattle.rg_work.specs.Follow.{Comes, Output}
+use Rattle.rg_work.specs.Follow.{Decided}
+use Rattle.rg_work.specs.Hooked.{AreAudited, AreAuditedInPart, Hooks}
 use Rattle.rg_work.specs.Limits.{is_too_long}
 use Rattle.rg_work.specs.Ports.{Ports}
-use Rattle.rg_work.specs.Runs.{CountsReads, CountsWrites, Follows, IsRun, IsUnread}
+use Rattle.rg_work.specs.Runs.{CountsReads, CountsWrites, IsRun, IsUnread}
 use Rattle.rg_work.specs.Streams.{IsAll, Wrote, WrotePrefix}
-use Rattle.rg_work.proofs.Runs.{follows}
-use Rattle.rg_custody.specs.Custody.{ByRecords, CountsKeeps, IsBegun, Keeps, Told, Untold, shelf}
-use Rattle.rg_custody.specs.Keeps.{State, at, keeps}
-use Rattle.rg_custody.specs.Stages.{CanEnd, CutOff, Ended, EndsSo}
-use Rattle.rg_custody.proofs.Growing.{begun_by, grows_none, worked_grows}
+use Rattle.rg_work.proofs.Hooks.{audited_none}
+use Rattle.rg_custody.specs.Custody.{ByRecords, Came, CountsKeeps, IsCutOff, IsWorkedTo, Keeps, Told, Untold, shelf}
+use Rattle.rg_custody.specs.Stages.{CanEnd, CutOff, Ended}
 
 -- ---- nothing was worked
 
-module _ (told : Option (List (List ℕ))) (faults : ℕ) (p q : Ports) where
-  unread_told : (t : Option (List (List ℕ))) (status : Status) → IsUnread p q status → ByRecords t t p q status
-  unread_told None ReadFault is = (refl, is)
-  unread_told None TooLong is = (refl, is)
-  unread_told None WriteFault is = (refl, tt)
-  unread_told None NoMemory is = (refl, is.0)
+-- nothing was decided
+none_in_part : (h : Hooks) → AreAuditedInPart [] h h
+none_in_part h = record { audited = []; ran = h.enrichers; first = ([], refl); after = audited_none h; run = inl refl }
+
+module _ (told : Option (List (List ℕ))) (faults : ℕ) (h : Hooks) (p q : Ports) where
+  unread_told : (t : Option (List (List ℕ))) (status : Status) → IsUnread p q status → ByRecords t t h h p q status
+  unread_told None ReadFault is = (refl, (is.0, is.1, refl))
+  unread_told None TooLong is = (refl, (is.0, is.1, is.2, refl))
+  unread_told None WriteFault is = (refl, ([], audited_none h))
+  unread_told None NoMemory is = (refl, (is.0, ([], none_in_part h)))
   unread_told None Done is = absurd is
   unread_told None Usage is = absurd is
   unread_told None BadLine is = absurd is
   unread_told None NetFault is = absurd is
   unread_told None KeepFault is = absurd is
   unread_told None BadRecord is = absurd is
-  unread_told (Some found) ReadFault is = (found, refl, (is.0, is.1, refl))
-  unread_told (Some found) TooLong is = (found, refl, (is.0, is.1, is.2, refl))
-  unread_told (Some found) WriteFault is = (found, refl, inl (is.0, is.1, is.2, refl))
-  unread_told (Some found) NoMemory is = (found, refl, (is.0, inl (is.1, refl)))
+  unread_told (Some found) ReadFault is = (found, refl, (is.0, is.1, refl, refl))
+  unread_told (Some found) TooLong is = (found, refl, (is.0, is.1, is.2, refl, refl))
+  unread_told (Some found) WriteFault is = (found, refl, inl (is.0, is.1, is.2, refl, refl))
+  unread_told (Some found) NoMemory is = (found, refl, (is.0, inl (is.1, refl, refl)))
   unread_told (Some found) Done is = absurd is
   unread_told (Some found) Usage is = absurd is
   unread_told (Some found) BadLine is = absurd is
@@ -52,7 +53,7 @@ module _ (told : Option (List (List ℕ))) (faults : ℕ) (p q : Ports) where
   unread_counts KeepFault is = absurd is
   unread_counts BadRecord is = omega arith
 
-  pub unread_keeps : (status : Status) → IsRun IsUnread p q status → IsRun (Keeps (shelf told faults) (shelf told faults)) p q status
+  pub unread_keeps : (status : Status) → IsRun IsUnread p q status → IsRun (Keeps (shelf told faults) (shelf told faults) h h) p q status
   unread_keeps status run = record {
     stands = (unread_told told status run.stands, unread_counts status run.stands);
     reads = run.reads;
@@ -85,49 +86,25 @@ steady p q NetFault ends reads writes = absurd ends
 steady p q TooLong ends reads writes = absurd ends
 steady p q NoMemory ends reads writes = absurd ends
 
-pub not_early : (status : Status) (P : Type 0) → CanEnd status → (status ≡ ReadFault) ⊎ (status ≡ TooLong) → P
+-- a script that was worked doesn't end as one that wasn't read
+pub not_early : (status : Status) (P : Type 0) → CanEnd status → (status ≡ Usage) ⊎ ((status ≡ ReadFault) ⊎ (status ≡ TooLong)) → P
 not_early status P ends (inl is) = absurd (subst CanEnd is ends)
-not_early status P ends (inr is) = absurd (subst CanEnd is ends)
-
--- ---- texts
-
--- a front of a front is a front
-take_fronts : (k n : ℕ) (xs : List ℕ) → (j : ℕ) × (take k (take n xs) ≡ take j xs)
-take_fronts zero n xs = (0, refl)
-take_fronts (suc k) zero xs = (0, refl)
-take_fronts (suc k) (suc n) [] = (0, refl)
-take_fronts (suc k) (suc n) (x ∷ xs) = let r = take_fronts k n xs in (suc r.0, ap (λ l. x ∷ l) r.1)
-
-front_of_front : (old new : Option (List ℕ)) (text all : List ℕ) → (n : ℕ) × (text ≡ take n all) → WrotePrefix old new text → WrotePrefix old new all
-front_of_front old new text all (n, is) (k, wrote) =
-    let r = take_fronts k n all in (r.0, subst (Wrote old new) (ap (take k) is ∙ r.1) wrote)
-
-all_of : (old new : Option (List ℕ)) (text all : List ℕ) → (n : ℕ) × (text ≡ take n all) → Wrote old new text → WrotePrefix old new all
-all_of old new text all (n, is) wrote = (n, subst (Wrote old new) is wrote)
+not_early status P ends (inr (inl is)) = absurd (subst CanEnd is ends)
+not_early status P ends (inr (inr is)) = absurd (subst CanEnd is ends)
 
 -- ---- all was read
 
-module _ (p q : Ports) (got seen text printed : List ℕ) (all : IsAll p.left got) (ended : q.ended ≡ true) (within : is_too_long got ≡ false) (same : seen ≡ got) (spelled : printed ≡ text) where
-  followed : (found : List (List ℕ)) (later : List Moment) (output : Output State) → Comes State (keeps found) seen p.given q.given later output → Follows State (keeps found) p q later output
-  followed found later output comes = follows (keeps found) p q got seen later output all ended within same comes
-
-  -- the records at the end are those that were found and more
-  whole_begun : (found now : List (List ℕ)) (later : List Moment) (output : Output State) → Comes State (keeps found) seen p.given q.given later output → now ≡ output.state.records
-      → IsBegun found output.state.records now
-  whole_begun found now later output comes is =
-      let grown = worked_grows (at None found) 1 (lines_of seen) (comes.moments ++ later) output comes.defined in
-      subst (IsBegun found output.state.records) (sym is) (begun_by found output.state.records output.state.records grown (grows_none output.state.records))
+module _ (h k : Hooks) (p q : Ports) (got seen text printed : List ℕ) (all : IsAll p.left got) (ended : q.ended ≡ true) (within : is_too_long got ≡ false) (same : seen ≡ got) (spelled : printed ≡ text) where
+  worked_to : (found now : List (List ℕ)) (status : Status) → Came found now h k seen p.given q.given text status → IsWorkedTo found now h k p q text status
+  worked_to found now status came =
+      (got, record { all = all; ended = ended; within = within }, subst (λ bytes. Came found now h k bytes p.given q.given text status) same came)
 
   -- and all was written
-  whole : (found now : List (List ℕ)) (status : Status) → EndsSo found now seen p.given q.given text status → Wrote p.held q.held printed → Told found now p q status
-  whole found now Done (output, comes, text_is, status_is, good, records_are) wrote =
-      (output, followed found [] output comes, subst (Wrote p.held q.held) (spelled ∙ sym text_is) wrote, status_is, good, records_are)
-  whole found now BadLine (output, comes, text_is, status_is, good, records_are) wrote =
-      (output, followed found [] output comes, subst (Wrote p.held q.held) (spelled ∙ sym text_is) wrote, status_is, good, records_are)
-  whole found now KeepFault (later, output, comes, front, begun) wrote =
-      (later, output, followed found later output comes, all_of p.held q.held text output.text front (subst (Wrote p.held q.held) spelled wrote), begun)
-  whole found now BadRecord (later, output, comes, (place, bad, text_is), records_are) wrote =
-      (place, (later, output, followed found later output comes, bad, records_are), subst (Wrote p.held q.held) (spelled ∙ text_is) wrote)
+  whole : (found now : List (List ℕ)) (status : Status) → Came found now h k seen p.given q.given text status → Wrote p.held q.held printed → Told found now h k p q status
+  whole found now Done came wrote = (text, worked_to found now Done came, subst (Wrote p.held q.held) spelled wrote)
+  whole found now BadLine came wrote = (text, worked_to found now BadLine came, subst (Wrote p.held q.held) spelled wrote)
+  whole found now KeepFault came wrote = (text, worked_to found now KeepFault came, subst (Wrote p.held q.held) spelled wrote)
+  whole found now BadRecord came wrote = (text, worked_to found now BadRecord came, subst (Wrote p.held q.held) spelled wrote)
   whole found now Usage never wrote = absurd never
   whole found now ReadFault never wrote = absurd never
   whole found now WriteFault never wrote = absurd never
@@ -135,47 +112,34 @@ module _ (p q : Ports) (got seen text printed : List ℕ) (all : IsAll p.left go
   whole found now TooLong never wrote = absurd never
   whole found now NoMemory never wrote = absurd never
 
-  untold : (status : Status) → CanEnd status → Untold p q status
-  untold Done ends = tt
-  untold BadLine ends = tt
-  untold KeepFault ends = tt
-  untold BadRecord ends = tt
-  untold Usage ends = absurd ends
-  untold ReadFault ends = absurd ends
-  untold WriteFault ends = absurd ends
-  untold NetFault ends = absurd ends
-  untold TooLong ends = absurd ends
-  untold NoMemory ends = absurd ends
+  untold : (status : Status) → CanEnd status → (decided : List Decided) × AreAudited decided h k → Untold h k p q status
+  untold Done ends audited = audited
+  untold BadLine ends audited = audited
+  untold KeepFault ends audited = audited
+  untold BadRecord ends audited = audited
+  untold Usage ends audited = absurd ends
+  untold ReadFault ends audited = absurd ends
+  untold WriteFault ends audited = absurd ends
+  untold NetFault ends audited = absurd ends
+  untold TooLong ends audited = absurd ends
+  untold NoMemory ends audited = absurd ends
 
-  whole_told : (told told' : Option (List (List ℕ))) (status : Status) → CanEnd status → Ended told told' seen p.given q.given text status → Wrote p.held q.held printed → ByRecords told told' p q status
-  whole_told None told' status ends is wrote = (is, untold status ends)
-  whole_told (Some found) told' status ends (records, tells, is) wrote = (records, tells, whole found records status is wrote)
+  whole_told : (told told' : Option (List (List ℕ))) (status : Status) → CanEnd status → Ended told told' h k seen p.given q.given text status → Wrote p.held q.held printed
+      → ByRecords told told' h k p q status
+  whole_told None told' status ends (none, audited) wrote = (none, untold status ends audited)
+  whole_told (Some found) told' status ends (records, tells, came) wrote = (records, tells, whole found records status came wrote)
 
   -- a part was written
-  part : (found now : List (List ℕ)) (status : Status) → EndsSo found now seen p.given q.given text status → WrotePrefix p.held q.held printed → Told found now p q WriteFault
-  part found now Done (output, comes, text_is, status_is, good, records_are) wrote =
-      inr (inl ([], output, followed found [] output comes, subst (WrotePrefix p.held q.held) (spelled ∙ sym text_is) wrote, whole_begun found now [] output comes records_are))
-  part found now BadLine (output, comes, text_is, status_is, good, records_are) wrote =
-      inr (inl ([], output, followed found [] output comes, subst (WrotePrefix p.held q.held) (spelled ∙ sym text_is) wrote, whole_begun found now [] output comes records_are))
-  part found now KeepFault (later, output, comes, front, begun) wrote =
-      inr (inl (later, output, followed found later output comes, front_of_front p.held q.held text output.text front (subst (WrotePrefix p.held q.held) spelled wrote), begun))
-  part found now BadRecord (later, output, comes, (place, bad, text_is), records_are) wrote =
-      inr (inr (place, (later, output, followed found later output comes, bad, records_are), subst (WrotePrefix p.held q.held) (spelled ∙ text_is) wrote))
-  part found now Usage never wrote = absurd never
-  part found now ReadFault never wrote = absurd never
-  part found now WriteFault never wrote = absurd never
-  part found now NetFault never wrote = absurd never
-  part found now TooLong never wrote = absurd never
-  part found now NoMemory never wrote = absurd never
+  part_told : (told told' : Option (List (List ℕ))) (status : Status) → Ended told told' h k seen p.given q.given text status → WrotePrefix p.held q.held printed
+      → ByRecords told told' h k p q WriteFault
+  part_told None told' status (none, audited) wrote = (none, audited)
+  part_told (Some found) told' status (records, tells, came) wrote =
+      (records, tells, inr (text, status, worked_to found records status came, subst (WrotePrefix p.held q.held) spelled wrote))
 
-  part_told : (told told' : Option (List (List ℕ))) (status : Status) → Ended told told' seen p.given q.given text status → WrotePrefix p.held q.held printed → ByRecords told told' p q WriteFault
-  part_told None told' status is wrote = (is, tt)
-  part_told (Some found) told' status (records, tells, is) wrote = (records, tells, part found records status is wrote)
-
-  module _ (told told' : Option (List (List ℕ))) (faults faults' : ℕ) (status : Status) (is : Ended told told' seen p.given q.given text status) (ends : CanEnd status)
+  module _ (told told' : Option (List (List ℕ))) (faults faults' : ℕ) (status : Status) (is : Ended told told' h k seen p.given q.given text status) (ends : CanEnd status)
       (grown : faults ≤ faults') (reads : q.read_faults ≡ p.read_faults) where
     pub written : (status ≡ KeepFault → faults < faults') → Wrote p.held q.held printed → q.write_faults ≡ p.write_faults
-        → IsRun (Keeps (shelf told faults) (shelf told' faults')) p q status
+        → IsRun (Keeps (shelf told faults) (shelf told' faults') h k) p q status
     written failed wrote writes =
         let counts = steady p q status ends reads writes in
         record {
@@ -184,16 +148,16 @@ module _ (p q : Ports) (got seen text printed : List ℕ) (all : IsAll p.left go
           writes = counts.1;
         }
 
-    pub broken : WrotePrefix p.held q.held printed → p.write_faults < q.write_faults → IsRun (Keeps (shelf told faults) (shelf told' faults')) p q WriteFault
+    pub broken : WrotePrefix p.held q.held printed → p.write_faults < q.write_faults → IsRun (Keeps (shelf told faults) (shelf told' faults') h k) p q WriteFault
     broken wrote writes = record { stands = (part_told told told' status is wrote, grown); reads = reads; writes = writes }
 
 -- memory was refused
-module _ (p q : Ports) (got seen : List ℕ) (all : IsAll p.left got) (ended : q.ended ≡ true) (within : is_too_long got ≡ false) (same : seen ≡ got) (held : q.held ≡ p.held) where
-  cut_told : (told told' : Option (List (List ℕ))) → CutOff told told' seen p.given q.given → ByRecords told told' p q NoMemory
-  cut_told None told' is = (is, held)
-  cut_told (Some found) told' (records, tells, (later, output, comes, begun)) =
-      (records, tells, (held, inr (later, output, follows (keeps found) p q got seen later output all ended within same comes, begun)))
+module _ (h k : Hooks) (p q : Ports) (got seen : List ℕ) (all : IsAll p.left got) (ended : q.ended ≡ true) (within : is_too_long got ≡ false) (same : seen ≡ got) (held : q.held ≡ p.held) where
+  cut_told : (told told' : Option (List (List ℕ))) → CutOff told told' h k seen p.given q.given → ByRecords told told' h k p q NoMemory
+  cut_told None told' (none, audited) = (none, (held, audited))
+  cut_told (Some found) told' (records, tells, cut) =
+      (records, tells, (held, inr (got, record { all = all; ended = ended; within = within }, subst (λ bytes. IsCutOff found records h k bytes p.given q.given) same cut)))
 
-  pub unfinished : (told told' : Option (List (List ℕ))) (faults faults' : ℕ) → CutOff told told' seen p.given q.given → faults ≤ faults' → q.read_faults ≡ p.read_faults → q.write_faults ≡ p.write_faults
-      → IsRun (Keeps (shelf told faults) (shelf told' faults')) p q NoMemory
+  pub unfinished : (told told' : Option (List (List ℕ))) (faults faults' : ℕ) → CutOff told told' h k seen p.given q.given → faults ≤ faults' → q.read_faults ≡ p.read_faults → q.write_faults ≡ p.write_faults
+      → IsRun (Keeps (shelf told faults) (shelf told' faults') h k) p q NoMemory
   unfinished told told' faults faults' is grown reads writes = record { stands = (cut_told told told' is, grown); reads = reads; writes = writes }

@@ -1,4 +1,5 @@
 pub mod Finishing
 pub mod Following
+pub mod Fronts
 pub mod Growing
 pub mod Staging

@@ -1,8 +1,8 @@
 -- What a stage does with a line, by its kind.
-use Rattle.std.proofs.Common.{◌≡◌, ⊎_elim, ◌∙◌, ◌==◌, ◌&&◌, ◌++◌, ◌<◌, ℕ, Bool, true, false, not, true≢false, if◌then◌else◌, List, [], ◌∷◌, length, Option, Some, None, option_map, append-nil, inl, inr, refl, ap, ap₂, sym, subst}
+use Rattle.std.proofs.Common.{◌≡◌, ⊎_elim, ◌∙◌, ◌==◌, ◌&&◌, ◌++◌, ◌<◌, ℕ, Bool, true, false, not, true≢false, if◌then◌else◌, List, [], ◌∷◌, length, Option, Some, None, option_map, inl, inr, refl, ap, ap₂, sym, subst}
 use Rattle.rg_base.specs.declared.numbers.Moment.{Moment}
 use Rattle.rg_policy.specs.declared.request.AccessRequest.{AccessRequest}
-use Rattle.rg_facts.specs.declared.decision.Decision.{Decision}
+use Rattle.rg_hook.specs.Enriching.{EnricherState, Enriching}
 use Rattle.rg_cmd.specs.declared.ask.AdminReply.{AdminReply}
 use Rattle.rg_cmd.specs.declared.ask.Ask.{Ask}
 use Rattle.rg_cmd.specs.declared.config.Config.{Config}
@@ -26,9 +26,11 @@ use Rattle.rg_keeping.specs.Opened.{IsLaterCause}
 use Rattle.rg_keeping.specs.declared.line.KeepLine.{KeepLine}
 use Rattle.rg_keeping.specs.declared.line.KeepLine.TheVariants as line
 use Rattle.rg_work.specs.Follow.{IsWorked, Work}
-use Rattle.rg_work.specs.Printed.{deciding, decision_line, quiet, reply_line}
-use Rattle.rg_custody.specs.Keeps.{Opened, State, ask_work, at, config_work, decide_work, full_line, kept_line, line_work, opened_by, opened_unless, prints, reopen_work, replied}
-use Rattle.rg_custody.specs.Stages.{Goes, Makes, MayAdd, Stops, kept_reply_line, line_step, stop_of_cause, stop_of_fault}
+use Rattle.rg_work.specs.Hooked.{AreAudited, Hooked, Hooks, IsAudited, IsJudged, carrying, decided_as, hooked}
+use Rattle.rg_work.specs.Printed.{quiet, reply_line}
+use Rattle.rg_work.proofs.Hooks.{audited_none, carried, carried_silent, carries_hooks, judged_audited, judged_worked}
+use Rattle.rg_custody.specs.Keeps.{Opened, State, ask_work, at, config_work, full_line, judge_work, kept_line, line_work, opened_by, opened_unless, prints, reopen_work, replied}
+use Rattle.rg_custody.specs.Stages.{Goes, GoesOn, IsLeft, Makes, MayAdd, MayKeep, Stops, StopsAt, kept_reply_line, line_step, stop_of_cause, stop_of_fault}
 use Rattle.rg_custody.specs.declared.stage.KeepStop.{KeepStop}
 use Rattle.rg_custody.specs.declared.stage.KeepStop.TheVariants as stop
 
@@ -229,62 +231,146 @@ reopen_failed told (cause.BadRecord place) before after is failed = absurd (cc f
 reopen_failed told cause.Failed before after is failed = is
 reopen_failed told cause.NoMemory before after is failed = absurd (cc failed)
 
+-- ---- with hooks
+
+carried_goes : (told told' : Option (List (List ℕ))) (work : List (List ℕ) → Option (Work State)) (o : Option Opened) (h : Hooks) (old new : List ℕ) → Goes told work told' o old new
+    → GoesOn told (λ records. option_map (carrying h.enrichers) (work records)) told' o h h old new
+carried_goes None told' work o h old new goes = (goes, ([], audited_none h))
+carried_goes (Some records) told' work o h old new (now, tells, is) =
+    (now, tells, carried (work records) (at o now) h.enrichers old new is, carries_hooks (work records) h.enrichers h)
+
+-- nothing was printed, whatever was before
+carried_silent_goes : (told told' : Option (List (List ℕ))) (work : List (List ℕ) → Option (Work State)) (o : Option Opened) (h : Hooks) (text : List ℕ) → Goes told work told' o [] []
+    → GoesOn told (λ records. option_map (carrying h.enrichers) (work records)) told' o h h text text
+carried_silent_goes None told' work o h text goes = (goes, ([], audited_none h))
+carried_silent_goes (Some records) told' work o h text (now, tells, is) =
+    (now, tells, carried_silent (work records) (at o now) h.enrichers text is, carries_hooks (work records) h.enrichers h)
+
+carried_adds : (records : List (List ℕ)) (es : List EnricherState) (work : Option (Work State)) (told' : Option (List (List ℕ))) → MayAdd records work told' → MayKeep records (option_map (carrying es) work) told'
+carried_adds records es work told' may = ⊎_elim
+    (λ (same : told' ≡ Some records). (let m : MayKeep records (option_map (carrying es) work) told' = inl same in m))
+    (λ (added : (w : Work State) × (work ≡ Some w) × (told' ≡ Some w.state.records)).
+    (let m : MayKeep records (option_map (carrying es) work) told' = inr (carrying es added.0, ap (option_map (carrying es)) added.1, added.2) in m))
+    may
+
+carried_stops : (told told' : Option (List (List ℕ))) (why : KeepStop) (work : List (List ℕ) → Option (Work State)) (o : Option Opened) (es : List EnricherState) → Stops why told work o told'
+    → StopsAt why told (λ records. option_map (carrying es) (work records)) o es told'
+carried_stops None told' why work o es stops = stops
+carried_stops (Some records) told' stop.Bad work o es stops = (stops.0, ap (option_map (carrying es)) stops.1)
+carried_stops (Some records) told' (stop.BadRecord place) work o es stops = (stops.0, stops.1, ap (option_map (carrying es)) stops.2)
+carried_stops (Some records) told' stop.Failed work o es stops = carried_adds records es (work records) told' stops
+carried_stops (Some records) told' stop.NoMemory work o es stops = carried_adds records es (work records) told' stops
+
+bad_stops_at : (told : Option (List (List ℕ))) (work : List (List ℕ) → Option (Work (Hooked State))) (o : Option Opened) (es : List EnricherState) → ((records : List (List ℕ)) → work records ≡ None)
+    → StopsAt stop.Bad told work o es told
+bad_stops_at None work o es bad = refl
+bad_stops_at (Some records) work o es bad = (refl, bad records)
+
+pub same_stops_at : (told told' : Option (List (List ℕ))) (work : List (List ℕ) → Option (Work (Hooked State))) (o : Option Opened) (es : List EnricherState) → told' ≡ told → StopsAt stop.NoMemory told work o es told'
+same_stops_at None told' work o es same = same
+same_stops_at (Some records) told' work o es same = inl same
+
+-- hooks that were left alone
+pub left_alone : (why : KeepStop) (h : Hooks) → IsLeft why h h
+left_alone stop.Bad h = refl
+left_alone (stop.BadRecord place) h = refl
+left_alone stop.Failed h = refl
+left_alone stop.NoMemory h = (refl, inl refl)
+
 -- ---- a decision
 
-pub unopened_decide : (told : Option (List (List ℕ))) (q : AccessRequest) → Stops stop.Bad told (λ records. decide_work None records q) None told
-unfolding decide_work
-unopened_decide told q = bad_stops told (λ records. decide_work None records q) None (λ _. refl)
+pub unopened_judge : (told : Option (List (List ℕ))) (es : List EnricherState) (q : AccessRequest) → StopsAt stop.Bad told (λ records. judge_work None records es q) None es told
+unfolding judge_work
+unopened_judge told es q = bad_stops_at told (λ records. judge_work None records es q) None es (λ _. refl)
 
-decided_makes : (told : Option (List (List ℕ))) (o : Opened) (q : AccessRequest) (d : Decision) → decision_now o.admin q ≡ Some d
-    → Makes told (λ records. decide_work (Some o) records q) told (Some o) (decision_line d)
-unfolding decide_work
-decided_makes None o q d is = refl
-decided_makes (Some records) o q d is = (deciding (at (Some o) records) o.admin.state.plugin q d, ap (option_map (deciding (at (Some o) records) o.admin.state.plugin q)) is, refl, refl, refl)
+module _ (o : Opened) (q : AccessRequest) (h k : Hooks) (old new : List ℕ) (is : IsJudged o.admin.state.plugin (decision_now o.admin) q h k old new) where
+  judged_so : AreAudited (decided_as o.admin.state.plugin q is.request is.decision ∷ []) h k
+  judged_so = record {
+    lines = is.given;
+    enriched = (sym (ap (λ (e : Enriching). e.request) is.enriched), sym (ap (λ (e : Enriching). e.enrichers) is.enriched));
+  }
 
-pub decided_goes : (told : Option (List (List ℕ))) (o : Opened) (q : AccessRequest) (d : Decision) (old new : List ℕ) → decision_now o.admin q ≡ Some d → new ≡ old ++ decision_line d
-    → Goes told (λ records. decide_work (Some o) records q) told (Some o) old new
-decided_goes told o q d old new is printed =
-    makes_goes told (λ records. decide_work (Some o) records q) told (Some o) (decision_line d) old new (decided_makes told o q d is) printed
+  pub judged_goes : (told : Option (List (List ℕ))) → GoesOn told (λ records. judge_work (Some o) records h.enrichers q) told (Some o) h k old new
+  unfolding judge_work
+  judged_goes None = (refl, (decided_as o.admin.state.plugin q is.request is.decision ∷ [], judged_so))
+  judged_goes (Some records) = (
+    records,
+    refl,
+    judged_worked (at (Some o) records) o.admin.state.plugin (decision_now o.admin) q h k old new is,
+    judged_audited (at (Some o) records) o.admin.state.plugin (decision_now o.admin) q h k old new is,
+  )
 
 -- ---- a line that was read
 
-module _ (o : Option Opened) (bytes : List ℕ) (m : Moment) (read : Option KeepLine) (is : keep_line_of bytes m ≡ read) where
-  same_step : (records : List (List ℕ)) → line_work o records read ≡ line_step o bytes m records
-  same_step records = sym (ap (line_work o records) is)
+module _ (o : Option Opened) (es : List EnricherState) (bytes : List ℕ) (m : Moment) (read : Option KeepLine) (is : keep_line_of bytes m ≡ read) where
+  same_step : (records : List (List ℕ)) → line_work o records es read ≡ line_step o es bytes m records
+  same_step records = sym (ap (line_work o records es) is)
 
-  pub read_goes : (told told' : Option (List (List ℕ))) (o' : Option Opened) (old new : List ℕ) → Goes told (λ records. line_work o records read) told' o' old new
-      → Goes told (line_step o bytes m) told' o' old new
-  read_goes None told' o' old new goes = goes
-  read_goes (Some records) told' o' old new goes = (goes.0, goes.1, subst (λ x. IsWorked x (at o' goes.0) old new) (same_step records) goes.2)
-
-  pub read_stops : (told told' : Option (List (List ℕ))) (why : KeepStop) → Stops why told (λ records. line_work o records read) o told' → Stops why told (line_step o bytes m) o told'
+  read_stops : (told told' : Option (List (List ℕ))) (why : KeepStop) → StopsAt why told (λ records. line_work o records es read) o es told' → StopsAt why told (line_step o es bytes m) o es told'
   read_stops None told' why stops = stops
   read_stops (Some records) told' stop.Bad stops = (stops.0, sym (same_step records) ∙ stops.1)
   read_stops (Some records) told' (stop.BadRecord place) stops = (stops.0, stops.1, sym (same_step records) ∙ stops.2)
-  read_stops (Some records) told' stop.Failed stops = subst (λ x. MayAdd records x told') (same_step records) stops
-  read_stops (Some records) told' stop.NoMemory stops = subst (λ x. MayAdd records x told') (same_step records) stops
+  read_stops (Some records) told' stop.Failed stops = subst (λ x. MayKeep records x told') (same_step records) stops
+  read_stops (Some records) told' stop.NoMemory stops = subst (λ x. MayKeep records x told') (same_step records) stops
 
--- a blank line
-pub blank_goes : (told : Option (List (List ℕ))) (o : Option Opened) (bytes : List ℕ) (m : Moment) (text : List ℕ) → keep_line_of bytes m ≡ Some line.Blank
-    → Goes told (line_step o bytes m) told o text text
-blank_goes told o bytes m text is = read_goes o bytes m (Some line.Blank) is told told o text text (by told)
+read_goes : (o : Option Opened) (bytes : List ℕ) (m : Moment) (read : Option KeepLine) (h k : Hooks) → keep_line_of bytes m ≡ read → (told told' : Option (List (List ℕ))) (o' : Option Opened) (old new : List ℕ)
+    → GoesOn told (λ records. line_work o records h.enrichers read) told' o' h k old new → GoesOn told (line_step o h.enrichers bytes m) told' o' h k old new
+read_goes o bytes m read h k is None told' o' old new goes = goes
+read_goes o bytes m read h k is (Some records) told' o' old new goes = (
+  goes.0,
+  goes.1,
+  subst (λ x. IsWorked x (hooked (at o' goes.0) k.enrichers) old new) (same_step o h.enrichers bytes m read is records) goes.2,
+  subst (λ x. IsAudited x h k) (same_step o h.enrichers bytes m read is records) goes.3,
+)
+
+-- a line of each kind goes on, or stops
+pub blank_on : (o : Option Opened) (bytes : List ℕ) (m : Moment) (told : Option (List (List ℕ))) (h : Hooks) (text : List ℕ) → keep_line_of bytes m ≡ Some line.Blank
+    → GoesOn told (line_step o h.enrichers bytes m) told o h h text text
+blank_on o bytes m told h text is =
+    read_goes o bytes m (Some line.Blank) h h is told told o text text (carried_silent_goes told told (λ records. Some (quiet (at o records))) o h text (by told))
   where
-    by : (t : Option (List (List ℕ))) → Goes t (λ records. line_work o records (Some line.Blank)) t o text text
+    by : (t : Option (List (List ℕ))) → Goes t (λ records. Some (quiet (at o records))) t o [] []
     by None = refl
-    by (Some records) = (records, refl, (refl, sym (append-nil text)))
+    by (Some records) = (records, refl, (refl, refl))
+
+module _ (o : Option Opened) (bytes : List ℕ) (m : Moment) (told told' : Option (List (List ℕ))) (h : Hooks) where
+  pub config_on : (config : Config) (o' : Option Opened) (text : List ℕ) → keep_line_of bytes m ≡ Some (line.Config config) → Goes told (λ records. config_work o records config) told' o' [] []
+      → GoesOn told (line_step o h.enrichers bytes m) told' o' h h text text
+  config_on config o' text is goes =
+      read_goes o bytes m (Some (line.Config config)) h h is told told' o' text text (carried_silent_goes told told' (λ records. config_work o records config) o' h text goes)
+
+  pub ask_on : (ask : Ask) (o' : Option Opened) (old new : List ℕ) → keep_line_of bytes m ≡ Some (line.Ask ask) → Goes told (λ records. ask_work o records ask) told' o' old new
+      → GoesOn told (line_step o h.enrichers bytes m) told' o' h h old new
+  ask_on ask o' old new is goes =
+      read_goes o bytes m (Some (line.Ask ask)) h h is told told' o' old new (carried_goes told told' (λ records. ask_work o records ask) o' h old new goes)
+
+  pub reopen_on : (o' : Option Opened) (old new : List ℕ) → keep_line_of bytes m ≡ Some line.Reopen → Goes told (reopen_work o) told' o' old new
+      → GoesOn told (line_step o h.enrichers bytes m) told' o' h h old new
+  reopen_on o' old new is goes =
+      read_goes o bytes m (Some line.Reopen) h h is told told' o' old new (carried_goes told told' (reopen_work o) o' h old new goes)
+
+  pub decide_on : (q : AccessRequest) (k : Hooks) (o' : Option Opened) (old new : List ℕ) → keep_line_of bytes m ≡ Some (line.Decide q) → GoesOn told (λ records. judge_work o records h.enrichers q) told' o' h k old new
+      → GoesOn told (line_step o h.enrichers bytes m) told' o' h k old new
+  decide_on q k o' old new is goes = read_goes o bytes m (Some (line.Decide q)) h k is told told' o' old new goes
+
+module _ (o : Option Opened) (bytes : List ℕ) (m : Moment) (told told' : Option (List (List ℕ))) (es : List EnricherState) (why : KeepStop) where
+  pub config_stops : (config : Config) → keep_line_of bytes m ≡ Some (line.Config config) → Stops why told (λ records. config_work o records config) o told'
+      → StopsAt why told (line_step o es bytes m) o es told'
+  config_stops config is stops =
+      read_stops o es bytes m (Some (line.Config config)) is told told' why (carried_stops told told' why (λ records. config_work o records config) o es stops)
+
+  pub ask_line_stops : (ask : Ask) → keep_line_of bytes m ≡ Some (line.Ask ask) → Stops why told (λ records. ask_work o records ask) o told' → StopsAt why told (line_step o es bytes m) o es told'
+  ask_line_stops ask is stops = read_stops o es bytes m (Some (line.Ask ask)) is told told' why (carried_stops told told' why (λ records. ask_work o records ask) o es stops)
+
+  pub reopen_line_stops : keep_line_of bytes m ≡ Some line.Reopen → Stops why told (reopen_work o) o told' → StopsAt why told (line_step o es bytes m) o es told'
+  reopen_line_stops is stops = read_stops o es bytes m (Some line.Reopen) is told told' why (carried_stops told told' why (reopen_work o) o es stops)
+
+  pub decide_line_stops : (q : AccessRequest) → keep_line_of bytes m ≡ Some (line.Decide q) → StopsAt why told (λ records. judge_work o records es q) o es told' → StopsAt why told (line_step o es bytes m) o es told'
+  decide_line_stops q is stops = read_stops o es bytes m (Some (line.Decide q)) is told told' why stops
 
 -- a line that isn't read
-pub unread_stops : (told : Option (List (List ℕ))) (o : Option Opened) (bytes : List ℕ) (m : Moment) → keep_line_of bytes m ≡ None → Stops stop.Bad told (line_step o bytes m) o told
-unread_stops told o bytes m is = read_stops o bytes m None is told told stop.Bad (bad_stops told (λ records. line_work o records None) o (λ _. refl))
-
--- a line that prints nothing, whatever was printed before
-silent : (x : Option (Work State)) (s : State) (text : List ℕ) → IsWorked x s [] [] → IsWorked x s text text
-silent None s text is = is
-silent (Some w) s text is = (is.0, sym (append-nil text) ∙ ap (λ t. text ++ t) is.1)
-
-pub silent_goes : (told told' : Option (List (List ℕ))) (work : List (List ℕ) → Option (Work State)) (o : Option Opened) (text : List ℕ) → Goes told work told' o [] [] → Goes told work told' o text text
-silent_goes None told' work o text goes = goes
-silent_goes (Some records) told' work o text goes = (goes.0, goes.1, silent (work records) (at o goes.0) text goes.2)
+pub unread_stops : (told : Option (List (List ℕ))) (o : Option Opened) (es : List EnricherState) (bytes : List ℕ) (m : Moment) → keep_line_of bytes m ≡ None → StopsAt stop.Bad told (line_step o es bytes m) o es told
+unread_stops told o es bytes m is = read_stops o es bytes m None is told told stop.Bad (bad_stops_at told (λ records. line_work o records es None) o es (λ _. refl))
 
 pub ruleset starting = (start_failed)
 
@@ -292,6 +378,4 @@ pub ruleset asking = (unopened_ask, ask_failed)
 
 pub ruleset reopening = (unopened_reopen, reopened_goes, same_stops, reopen_stops, reopen_failed)
 
-pub ruleset deciding_now = (unopened_decide, same_stops)
-
-pub ruleset lines = (blank_goes, unread_stops, same_stops, silent_goes)
+pub ruleset deciding_now = (unopened_judge, same_stops_at, left_alone)

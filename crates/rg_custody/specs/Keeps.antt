@@ -1,5 +1,6 @@
--- The command `keep`: a script of an administration whose commands are kept. To be read after Follow of rg_work and Replay of rg_keep.
-use Rattle.std.specs.Prelude.{ℕ, ◌++◌, List, [], codes, decimal, length, Option, Some, None, option_map, option_and_then, if◌then◌else◌}
+-- The command `keep`: a script of an administration whose commands are kept. To be read after Follow and Hooked of rg_work and Replay of
+-- rg_keep.
+use Rattle.std.specs.Prelude.{ℕ, ◌++◌, List, [], codes, decimal, length, Option, Some, None, option_map, if◌then◌else◌}
 use Rattle.rg_base.specs.declared.numbers.Moment.{Moment}
 use Rattle.rg_policy.specs.declared.request.AccessRequest.{AccessRequest}
 use Rattle.rg_cmd.specs.declared.ask.Ask.{Ask}
@@ -14,8 +15,10 @@ use Rattle.rg_keep.specs.Replay.{first_bad, is_kept, replayed, stepped}
 use Rattle.rg_keeping.specs.Lines.{keep_line_of}
 use Rattle.rg_keeping.specs.declared.line.KeepLine.{KeepLine}
 use Rattle.rg_keeping.specs.declared.line.KeepLine.TheVariants as line
+use Rattle.rg_hook.specs.Enriching.{EnricherState}
 use Rattle.rg_work.specs.Follow.{Output, Work, worked}
-use Rattle.rg_work.specs.Printed.{deciding, quiet, reply_line}
+use Rattle.rg_work.specs.Hooked.{Hooked, carrying, hooked, judged, with_enrichers}
+use Rattle.rg_work.specs.Printed.{quiet, reply_line}
 
 -- a configuration, and the administration since
 pub record Opened : Type 0 where
@@ -76,34 +79,31 @@ unfoldable pub reopen_work : Option Opened → List (List ℕ) → Option (Work 
 reopen_work None records = None
 reopen_work (Some o) records = Some (prints (kept_line (length records)) (at (Some (record { config = o.config; admin = replayed o.config records })) records))
 
--- the service that requests go to
-abbrev pub service_of : Option Opened → List ℕ
-service_of None = []
-service_of (Some o) = o.admin.state.plugin
+-- and requests are enriched, and decided over what the plugin sees then
+unfoldable pub judge_work : Option Opened → List (List ℕ) → List EnricherState → AccessRequest → Option (Work (Hooked State))
+judge_work None records es q = None
+judge_work (Some o) records es q = judged (at (Some o) records) o.admin.state.plugin es (decision_now o.admin) q
 
--- and requests are decided over what the plugin sees then
-unfoldable pub decide_work : Option Opened → List (List ℕ) → AccessRequest → Option (Work State)
-decide_work o records q = option_map (deciding (at o records) (service_of o) q) (option_and_then (λ (opened : Opened). decision_now opened.admin q) o)
-
-abbrev pub line_work : Option Opened → List (List ℕ) → Option KeepLine → Option (Work State)
-line_work o records None = None
-line_work o records (Some line.Blank) = Some (quiet (at o records))
-line_work o records (Some (line.Config config)) = config_work o records config
-line_work o records (Some (line.Ask ask)) = ask_work o records ask
-line_work o records (Some line.Reopen) = reopen_work o records
-line_work o records (Some (line.Decide q)) = decide_work o records q
+-- the other lines leave the enrichers alone
+abbrev pub line_work : Option Opened → List (List ℕ) → List EnricherState → Option KeepLine → Option (Work (Hooked State))
+line_work o records es None = None
+line_work o records es (Some line.Blank) = Some (carrying es (quiet (at o records)))
+line_work o records es (Some (line.Config config)) = option_map (carrying es) (config_work o records config)
+line_work o records es (Some (line.Ask ask)) = option_map (carrying es) (ask_work o records ask)
+line_work o records es (Some line.Reopen) = option_map (carrying es) (reopen_work o records)
+line_work o records es (Some (line.Decide q)) = judge_work o records es q
 
 -- after a bad record nothing more is worked
-abbrev pub unless_bad : Option ℕ → State → Option (Work State) → Option (Work State)
-unless_bad None s work = work
-unless_bad (Some place) s work = Some (quiet s)
+abbrev pub unless_bad : Option ℕ → State → List EnricherState → Option (Work (Hooked State)) → Option (Work (Hooked State))
+unless_bad None s es work = work
+unless_bad (Some place) s es work = Some (carrying es (quiet s))
 
 -- ---- the script
 
--- a line in a state at its moment
-abbrev pub keep_step : State → List ℕ → Moment → Option (Work State)
-keep_step s bytes now = unless_bad s.bad s (line_work s.opened s.records (keep_line_of bytes now))
+-- a line in a state and with these enrichers, at its moment
+abbrev pub keep_step : State → List EnricherState → List ℕ → Moment → Option (Work (Hooked State))
+keep_step s es bytes now = unless_bad s.bad s es (line_work s.opened s.records es (keep_line_of bytes now))
 
--- what the lines come to over the records that were found, each read and worked at its moment
-abbrev pub keeps : List (List ℕ) → List (List ℕ) → List Moment → Option (Output State)
-keeps found = worked keep_step (at None found) 1
+-- what the lines come to with these enrichers and over the records that were found, each read and worked at its moment
+abbrev pub keeps : List EnricherState → List (List ℕ) → List (List ℕ) → List Moment → Option (Output (Hooked State))
+keeps es found = worked (with_enrichers keep_step) (hooked (at None found) es) 1

@@ -1,6 +1,7 @@
 -- For proofs: a script of a kept administration on its way.
-use Rattle.std.specs.Prelude.{◌≡◌, ◌⊎◌, ◌++◌, ℕ, List, [], take, Option, Some, None}
+use Rattle.std.specs.Prelude.{◌≡◌, ◌⊎◌, ◌++◌, ℕ, List, Option, Some, None}
 use Rattle.rg_base.specs.declared.numbers.Moment.{Moment}
+use Rattle.rg_hook.specs.Enriching.{EnricherState}
 use Rattle.rg_keep.specs.declared.kept_admin.KeptReply.{KeptReply}
 use Rattle.rg_keep.specs.declared.kept_admin.KeptReply.TheVariants as reply
 use Rattle.rg_keep.specs.declared.reopen.ReopenCause.{ReopenCause}
@@ -9,10 +10,11 @@ use Rattle.rg_keeper.specs.declared.keeper.KeeperFault.{KeeperFault}
 use Rattle.rg_keeper.specs.declared.keeper.KeeperFault.TheVariants as fault
 use Rattle.rg_work.specs.declared.status.Status.{Status}
 use Rattle.rg_work.specs.declared.status.Status.TheVariants.{Done, BadLine, KeepFault, BadRecord}
-use Rattle.rg_work.specs.Follow.{Comes, IsWorked, Output, Work, bad_line_text}
+use Rattle.rg_work.specs.Follow.{Decided, IsWorked, Work, bad_line_text}
+use Rattle.rg_work.specs.Hooked.{AreAudited, AreAuditedInPart, HaveRunOn, Hooked, Hooks, IsAudited, carrying, hooked}
 use Rattle.rg_work.specs.Printed.{quiet, reply_line}
-use Rattle.rg_custody.specs.Custody.{IsBegun, bad_record_text}
-use Rattle.rg_custody.specs.Keeps.{Opened, State, at, full_line, keep_step, keeps}
+use Rattle.rg_custody.specs.Custody.{Came, IsCutOff, bad_record_text}
+use Rattle.rg_custody.specs.Keeps.{Opened, State, at, full_line, keep_step}
 use Rattle.rg_custody.specs.declared.stage.KeepStop.{KeepStop}
 use Rattle.rg_custody.specs.declared.stage.KeepStop.TheVariants as stop
 use Rattle.rg_custody.specs.declared.stage.Stage.{Stage}
@@ -41,15 +43,11 @@ abbrev pub stop_of_fault : KeeperFault → KeepStop
 stop_of_fault fault.Failed = stop.Failed
 stop_of_fault fault.NoMemory = stop.NoMemory
 
--- ---- a line, from the records that the keeper tells before it to those after it
+-- ---- a line without hooks, from the records that the keeper tells before it to those after it
 
 abbrev pub kept_reply_line : KeptReply → List ℕ
 kept_reply_line (reply.Reply r) = reply_line r
 kept_reply_line reply.Full = full_line
-
--- the work of a line over the records
-abbrev pub line_step : Option Opened → List ℕ → Moment → List (List ℕ) → Option (Work State)
-line_step o line now records = keep_step (at o records) line now
 
 -- the work is this, but for what it prints
 abbrev pub Makes : Option (List (List ℕ)) → (List (List ℕ) → Option (Work State)) → Option (List (List ℕ)) → Option Opened → List ℕ → Type 0
@@ -77,6 +75,37 @@ Stops (stop.BadRecord place) (Some records) work o told = (told ≡ Some records
 Stops stop.Failed (Some records) work o told = MayAdd records (work records) told
 Stops stop.NoMemory (Some records) work o told = MayAdd records (work records) told
 
+-- ---- the same with hooks
+
+-- the work of a line over the records
+abbrev pub line_step : Option Opened → List EnricherState → List ℕ → Moment → List (List ℕ) → Option (Work (Hooked State))
+line_step o es line now records = keep_step (at o records) es line now
+
+-- the line was worked, and its decision audited
+abbrev pub GoesOn : Option (List (List ℕ)) → (List (List ℕ) → Option (Work (Hooked State))) → Option (List (List ℕ)) → Option Opened → Hooks → Hooks → List ℕ → List ℕ → Type 0
+GoesOn None work told o h k old new = (told ≡ None) × ((decided : List Decided) × AreAudited decided h k)
+GoesOn (Some records) work told o h k old new =
+    (now : List (List ℕ)) × (told ≡ Some now) × IsWorked (work records) (hooked (at o now) k.enrichers) old new × IsAudited (work records) h k
+
+-- the records are as before, or as the line leaves them
+abbrev pub MayKeep : List (List ℕ) → Option (Work (Hooked State)) → Option (List (List ℕ)) → Type 0
+MayKeep records work told = (told ≡ Some records) ⊎ ((w : Work (Hooked State)) × (work ≡ Some w) × (told ≡ Some w.state.state.records))
+
+-- the script stops at the line
+abbrev pub StopsAt : KeepStop → Option (List (List ℕ)) → (List (List ℕ) → Option (Work (Hooked State))) → Option Opened → List EnricherState → Option (List (List ℕ)) → Type 0
+StopsAt why None work o es told = told ≡ None
+StopsAt stop.Bad (Some records) work o es told = (told ≡ Some records) × (work records ≡ None)
+StopsAt (stop.BadRecord place) (Some records) work o es told = (told ≡ Some records) × (o ≡ None) × (work records ≡ Some (carrying es (quiet (spoiled records place))))
+StopsAt stop.Failed (Some records) work o es told = MayKeep records (work records) told
+StopsAt stop.NoMemory (Some records) work o es told = MayKeep records (work records) told
+
+-- where a script stops its hooks are as before, but that enrichers may have run where memory was refused
+abbrev pub IsLeft : KeepStop → Hooks → Hooks → Type 0
+IsLeft stop.Bad h k = k ≡ h
+IsLeft (stop.BadRecord place) h k = k ≡ h
+IsLeft stop.Failed h k = k ≡ h
+IsLeft stop.NoMemory h k = (k.sinks ≡ h.sinks) × HaveRunOn h.enrichers k.enrichers
+
 -- the text and the status where a script stops at line n
 abbrev pub IsNamed : KeepStop → ℕ → List ℕ → List ℕ → Status → Type 0
 IsNamed stop.Bad n old new status = (status ≡ BadLine) × (new ≡ old ++ bad_line_text n)
@@ -84,21 +113,9 @@ IsNamed (stop.BadRecord place) n old new status = (status ≡ BadRecord) × (new
 IsNamed stop.Failed n old new status = (status ≡ KeepFault) × (new ≡ old)
 IsNamed stop.NoMemory n old new status = ⊥
 
--- ---- all lines, from the records that were found to those that are there now
+-- ---- all lines, from the records and hooks that were found to those that are there now
 
--- the script came to its end, or stopped with this text and status
-abbrev pub EndsSo : List (List ℕ) → List (List ℕ) → List ℕ → Option (List Moment) → Option (List Moment) → List ℕ → Status → Type 0
-EndsSo found now bytes clock clock' text Done = (output : Output State) × Comes State (keeps found) bytes clock clock' [] output
-    × (output.text ≡ text) × (output.status ≡ Done) × (output.state.bad ≡ None) × (now ≡ output.state.records)
-EndsSo found now bytes clock clock' text BadLine = (output : Output State) × Comes State (keeps found) bytes clock clock' [] output
-    × (output.text ≡ text) × (output.status ≡ BadLine) × (output.state.bad ≡ None) × (now ≡ output.state.records)
-EndsSo found now bytes clock clock' text KeepFault = (later : List Moment) × (output : Output State) × Comes State (keeps found) bytes clock clock' later output
-    × ((n : ℕ) × (text ≡ take n output.text)) × IsBegun found output.state.records now
-EndsSo found now bytes clock clock' text BadRecord = (later : List Moment) × (output : Output State) × Comes State (keeps found) bytes clock clock' later output
-    × ((place : ℕ) × (output.state.bad ≡ Some place) × (text ≡ bad_record_text place)) × (now ≡ found)
-EndsSo found now bytes clock clock' text _ = ⊥
-
--- these are the statuses that it ends with
+-- these are the statuses that a script ends with
 abbrev pub CanEnd : Status → Type 0
 CanEnd Done = Unit {0}
 CanEnd BadLine = Unit {0}
@@ -106,12 +123,12 @@ CanEnd KeepFault = Unit {0}
 CanEnd BadRecord = Unit {0}
 CanEnd _ = ⊥
 
-abbrev pub Ended : Option (List (List ℕ)) → Option (List (List ℕ)) → List ℕ → Option (List Moment) → Option (List Moment) → List ℕ → Status → Type 0
-Ended None told bytes clock clock' text status = told ≡ None
-Ended (Some found) told bytes clock clock' text status = (records : List (List ℕ)) × (told ≡ Some records) × EndsSo found records bytes clock clock' text status
+-- the script came to its end, or stopped with this text and status
+abbrev pub Ended : Option (List (List ℕ)) → Option (List (List ℕ)) → Hooks → Hooks → List ℕ → Option (List Moment) → Option (List Moment) → List ℕ → Status → Type 0
+Ended None told h k bytes clock clock' text status = (told ≡ None) × ((decided : List Decided) × AreAudited decided h k)
+Ended (Some found) told h k bytes clock clock' text status = (records : List (List ℕ)) × (told ≡ Some records) × Came found records h k bytes clock clock' text status
 
 -- it was cut off for want of memory
-abbrev pub CutOff : Option (List (List ℕ)) → Option (List (List ℕ)) → List ℕ → Option (List Moment) → Option (List Moment) → Type 0
-CutOff None told bytes clock clock' = told ≡ None
-CutOff (Some found) told bytes clock clock' = (records : List (List ℕ)) × (told ≡ Some records)
-    × ((later : List Moment) × (output : Output State) × Comes State (keeps found) bytes clock clock' later output × IsBegun found output.state.records records)
+abbrev pub CutOff : Option (List (List ℕ)) → Option (List (List ℕ)) → Hooks → Hooks → List ℕ → Option (List Moment) → Option (List Moment) → Type 0
+CutOff None told h k bytes clock clock' = (told ≡ None) × ((decided : List Decided) × AreAuditedInPart decided h k)
+CutOff (Some found) told h k bytes clock clock' = (records : List (List ℕ)) × (told ≡ Some records) × IsCutOff found records h k bytes clock clock'

@@ -2,9 +2,11 @@
 ghost use Rattle.std.specs.Prelude.{◌≡◌, ◌≤◌, ◌<◌, ◌^◌, ◌++◌, length, IfOk, OnErr, string_bytes};
 ghost use Rattle.rg_custody.specs.Custody.{bad_record_text};
 ghost use Rattle.rg_custody.specs.Stages.{CanEnd, CutOff, Ended, IsNamed};
+ghost use Rattle.rg_work.specs.Hooked.{hooks_of};
 
 use crate::stage::{KeepStop, Stage};
 use rg_base::NoMemory;
+use rg_hook::RequestHooks;
 use rg_keeper::Keeper;
 use rg_ports::Clock;
 use rg_script::split_line;
@@ -42,16 +44,17 @@ fn name_stop(text: String, number: u64, stop: KeepStop) -> Result<Worked, NoMemo
 
 /// Works the lines of a script in order, each at the clock's next moment, up to the first bad one, which is named, or up to the
 /// one at which the keeper failed or a bad record was found. The keeper comes back.
-pub(crate) fn follow_kept<P: Keeper + Drop, C: Clock>(
+pub(crate) fn follow_kept<P: Keeper + Drop, C: Clock, H: RequestHooks>(
     alloc: Global,
     keeper: P,
     bytes: &[u8],
     clock: &mut C,
+    hooks: &mut H,
 ) -> (P, Result<Worked, NoMemory>)
     requires { length bytes.now < 2 ^ 32 }
-    ensures ended { IfOk result.1 (λ w. Ended (P.kept keeper) (P.kept result.0) bytes.now (C.given clock.old) (C.given clock.new) (string_bytes w.text) w.status) }
+    ensures ended { IfOk result.1 (λ w. Ended (P.kept keeper) (P.kept result.0) (hooks_of (H.sinks hooks.old) (H.enrichers hooks.old)) (hooks_of (H.sinks hooks.new) (H.enrichers hooks.new)) bytes.now (C.given clock.old) (C.given clock.new) (string_bytes w.text) w.status) }
     ensures ends { IfOk result.1 (λ w. CanEnd w.status) }
-    ensures cut_off { OnErr result.1 (CutOff (P.kept keeper) (P.kept result.0) bytes.now (C.given clock.old) (C.given clock.new)) }
+    ensures cut_off { OnErr result.1 (CutOff (P.kept keeper) (P.kept result.0) (hooks_of (H.sinks hooks.old) (H.enrichers hooks.old)) (hooks_of (H.sinks hooks.new) (H.enrichers hooks.new)) bytes.now (C.given clock.old) (C.given clock.new)) }
     ensures counted { P.faults keeper ≤ P.faults result.0 }
     ensures failed { IfOk result.1 (λ w. w.status ≡ Status.KeepFault → P.faults keeper < P.faults result.0) }
 {
@@ -62,7 +65,7 @@ pub(crate) fn follow_kept<P: Keeper + Drop, C: Clock>(
     'lines: while !rest.is_empty() {
         let (line, more) = split_line(rest);
         let now = clock.now();
-        let (next, worked) = stage.work(alloc, line, now, &mut text);
+        let (next, worked) = stage.work(alloc, line, now, &mut text, hooks);
         stage = next;
         match worked {
             Ok(()) => {}

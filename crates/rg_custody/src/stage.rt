@@ -1,17 +1,19 @@
 // A script of a kept administration on its way, line by line.
 ghost use Rattle.std.specs.Prelude.{◌≡◌, ◌≢◌, ◌≤◌, ◌<◌, ◌++◌, [], Err, OnOk, IfErr, string_bytes};
 ghost use Rattle.rg_ask_wire.specs.KeyOrder.{IsInKeyOrder};
-ghost use Rattle.rg_custody.specs.Keeps.{ask_work, config_work, decide_work, full_line, kept_line, reopen_work};
-ghost use Rattle.rg_custody.specs.Stages.{Goes, Stops, keeper_of, kept_reply_line, line_step, opened_of, stop_of_cause, stop_of_fault};
+ghost use Rattle.rg_custody.specs.Keeps.{ask_work, config_work, full_line, judge_work, kept_line, reopen_work};
+ghost use Rattle.rg_custody.specs.Stages.{Goes, GoesOn, IsLeft, Stops, StopsAt, keeper_of, kept_reply_line, line_step, opened_of, stop_of_cause, stop_of_fault};
+ghost use Rattle.rg_work.specs.Hooked.{hooks_of};
 
 use rg_base::{Moment, NoMemory};
 use rg_cmd::{Ask, Config};
+use rg_hook::RequestHooks;
 use rg_keep::{KeptReply, ReopenCause};
 use rg_keeper::{Keeper, KeeperFault};
 use rg_keeping::{KeepLine, Keeping, read_keep_line};
 use rg_policy::AccessRequest;
 use rg_script::LineFault;
-use rg_work::{add_decision, add_reply};
+use rg_work::{add_reply, judge};
 use std::alloc::Global;
 
 /// Why a script goes no further.
@@ -180,44 +182,47 @@ impl<P: Keeper + Drop> Stage<P> {
         }
     }
 
-    /// Prints the decision over what the plugin sees now.
+    /// Decides the request over what the plugin sees now, prints the decision, and audits it.
     #[tactic(auto, using(crate::proofs::Staging::deciding_now))]
-    fn decide(
-        &self,
+    fn decide<H: RequestHooks>(
+        self,
         alloc: Global,
-        request: &AccessRequest,
+        mut request: AccessRequest,
         text: &mut String,
-    ) -> Result<(), KeepStop>
-        ensures worked { OnOk result (Goes (P.kept (keeper_of self.now)) (λ records. decide_work (opened_of self.now) records request.now) (P.kept (keeper_of self.now)) (opened_of self.now) (string_bytes text.old) (string_bytes text.new)) }
-        ensures stopped { IfErr result (λ stop. Stops stop (P.kept (keeper_of self.now)) (λ records. decide_work (opened_of self.now) records request.now) (opened_of self.now) (P.kept (keeper_of self.now))) }
-        ensures unprinted { IfErr result (λ stop. stop ≢ KeepStop.NoMemory → string_bytes text.new ≡ string_bytes text.old) }
-        ensures unfailed { IfErr result (λ stop. stop ≢ KeepStop.Failed) }
+        hooks: &mut H,
+    ) -> (Stage<P>, Result<(), KeepStop>)
+        ensures same { result.0 ≡ self }
+        ensures worked { OnOk result.1 (GoesOn (P.kept (keeper_of self)) (λ records. judge_work (opened_of self) records (H.enrichers hooks.old) request) (P.kept (keeper_of self)) (opened_of self)
+            (hooks_of (H.sinks hooks.old) (H.enrichers hooks.old)) (hooks_of (H.sinks hooks.new) (H.enrichers hooks.new)) (string_bytes text.old) (string_bytes text.new)) }
+        ensures stopped { IfErr result.1 (λ stop. StopsAt stop (P.kept (keeper_of self)) (λ records. judge_work (opened_of self) records (H.enrichers hooks.old) request) (opened_of self) (H.enrichers hooks.old) (P.kept (keeper_of self))) }
+        ensures left { IfErr result.1 (λ stop. IsLeft stop (hooks_of (H.sinks hooks.old) (H.enrichers hooks.old)) (hooks_of (H.sinks hooks.new) (H.enrichers hooks.new))) }
+        ensures unprinted { IfErr result.1 (λ stop. stop ≢ KeepStop.NoMemory → string_bytes text.new ≡ string_bytes text.old) }
+        ensures unfailed { IfErr result.1 (λ stop. stop ≢ KeepStop.Failed) }
     {
-        let keeping = match self {
+        let mut keeping = match self {
             Stage::Opened(keeping) => keeping,
-            Stage::Closed(_) => return Err(KeepStop::Bad),
+            Stage::Closed(keeper) => return (Stage::Closed(keeper), Err(KeepStop::Bad)),
         };
-        let decision = match keeping.decide(alloc, request) {
-            Ok(decision) => decision,
-            Err(_) => return Err(KeepStop::NoMemory),
-        };
-        match add_decision(alloc, text, &decision) {
-            Ok(()) => Ok(()),
-            Err(_) => Err(KeepStop::NoMemory),
+        match judge(alloc, &mut keeping, &mut request, text, hooks) {
+            Ok(()) => (Stage::Opened(keeping), Ok(())),
+            Err(_) => (Stage::Opened(keeping), Err(KeepStop::NoMemory)),
         }
     }
 
-    /// Works a line, and puts what it prints behind the text. Where it stops nothing is printed, unless memory was refused.
-    #[tactic(auto, using(crate::proofs::Staging::lines))]
-    pub(crate) fn work(
+    /// Works a line, and puts what it prints behind the text. An audited decision is given to the sinks once its line is behind
+    /// the text. Where it stops nothing is printed, unless memory was refused.
+    pub(crate) fn work<H: RequestHooks>(
         self,
         alloc: Global,
         line: &[u8],
         now: Moment,
         text: &mut String,
+        hooks: &mut H,
     ) -> (Stage<P>, Result<(), KeepStop>)
-        ensures worked { OnOk result.1 (Goes (P.kept (keeper_of self)) (line_step (opened_of self) line.now now) (P.kept (keeper_of result.0)) (opened_of result.0) (string_bytes text.old) (string_bytes text.new)) }
-        ensures stopped { IfErr result.1 (λ stop. Stops stop (P.kept (keeper_of self)) (line_step (opened_of self) line.now now) (opened_of self) (P.kept (keeper_of result.0))) }
+        ensures worked { OnOk result.1 (GoesOn (P.kept (keeper_of self)) (line_step (opened_of self) (H.enrichers hooks.old) line.now now) (P.kept (keeper_of result.0)) (opened_of result.0)
+            (hooks_of (H.sinks hooks.old) (H.enrichers hooks.old)) (hooks_of (H.sinks hooks.new) (H.enrichers hooks.new)) (string_bytes text.old) (string_bytes text.new)) }
+        ensures stopped { IfErr result.1 (λ stop. StopsAt stop (P.kept (keeper_of self)) (line_step (opened_of self) (H.enrichers hooks.old) line.now now) (opened_of self) (H.enrichers hooks.old) (P.kept (keeper_of result.0))) }
+        ensures left { IfErr result.1 (λ stop. IsLeft stop (hooks_of (H.sinks hooks.old) (H.enrichers hooks.old)) (hooks_of (H.sinks hooks.new) (H.enrichers hooks.new))) }
         ensures unprinted { IfErr result.1 (λ stop. stop ≢ KeepStop.NoMemory → string_bytes text.new ≡ string_bytes text.old) }
         ensures counted { P.faults (keeper_of self) ≤ P.faults (keeper_of result.0) }
         ensures failed { result.1 ≡ Err KeepStop.Failed → P.faults (keeper_of self) < P.faults (keeper_of result.0) }
@@ -227,10 +232,7 @@ impl<P: Keeper + Drop> Stage<P> {
             Ok(KeepLine::Config(config)) => self.start(alloc, config),
             Ok(KeepLine::Ask(ask)) => self.ask(alloc, ask, text),
             Ok(KeepLine::Reopen) => self.reopen(alloc, text),
-            Ok(KeepLine::Decide(request)) => {
-                let decided = self.decide(alloc, &request, text);
-                (self, decided)
-            }
+            Ok(KeepLine::Decide(request)) => self.decide(alloc, request, text, hooks),
             Err(LineFault::Bad) => (self, Err(KeepStop::Bad)),
             Err(LineFault::NoMemory) => (self, Err(KeepStop::NoMemory)),
         }

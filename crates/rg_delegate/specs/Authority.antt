@@ -13,8 +13,8 @@ use Rattle.rg_policy.specs.declared.policy.Item.{Item}
 use Rattle.rg_policy.specs.declared.policy.Policy.{Policy}
 use Rattle.rg_policy.specs.Kinds.{access_policy}
 use Rattle.rg_roles.specs.declared.row.RoleRow.{RoleRow}
-use Rattle.rg_zones.specs.declared.row.Subjects.{Subjects as ZoneSubjects}
-use Rattle.rg_zones.specs.declared.row.ZoneRow.{ZoneRow}
+use Rattle.rg_zone_rules.specs.declared.row.Subjects.{Subjects as ZoneSubjects}
+use Rattle.rg_zone_rules.specs.declared.row.ZoneRow.{ZoneRow}
 use Rattle.rg_delegate.specs.Accesses.{accesses}
 use Rattle.rg_delegate.specs.Covering.{policy_covers}
 use Rattle.rg_cmd.specs.Lookups.{def_of, groups_of, zone_at}

@@ -20,7 +20,7 @@ use rg_cmd::State;
 use rg_defs::ServiceDef;
 use rg_effect::Subjects;
 use rg_policy::Policy;
-use rg_zones::Subjects as ZoneSubjects;
+use rg_zone_rules::Subjects as ZoneSubjects;
 use std::alloc::Global;
 
 /// Whether the actor is among the administrators.

@@ -7,7 +7,7 @@ use rg_base::{PolicyId, Text, find_named};
 use rg_cmd::State;
 use rg_defs::ServiceDef;
 use rg_policy::Policy;
-use rg_zones::ZoneRow;
+use rg_zone_rules::ZoneRow;
 
 /// The definition of the policy's service.
 pub(crate) fn def_for<'a>(state: &'a State, policy: &Policy) -> Option<&'a ServiceDef>

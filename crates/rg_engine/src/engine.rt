@@ -2,7 +2,7 @@
 ghost use Rattle.std.specs.Prelude.{◌≡◌, ◌≤◌, IfOk, IfErr, Err, None, true};
 ghost use Rattle.std.specs.Arc.{arc_value};
 ghost use Rattle.rg_defs.specs.Rules.{def_fault};
-ghost use Rattle.rg_zones.specs.Rules.{all_maps_fit};
+ghost use Rattle.rg_zone_rules.specs.Rules.{all_maps_fit};
 ghost use Rattle.rg_delta.specs.Applied.{applied, unless_new};
 ghost use Rattle.rg_engine.specs.Bases.{Tells, wrong_base};
 ghost use Rattle.rg_engine.specs.declared.fault.ApplyFault.TheVariants.{WrongBase};
@@ -244,7 +244,8 @@ impl Engine {
 
     /// A copy of the facts that it decides by.
     pub fn facts(&self, alloc: Global) -> Result<Facts, NoMemory>
-        ensures { IfOk result (λ facts. facts ≡ self.now) }
+        ensures copied { IfOk result (λ facts. facts ≡ self.now) }
+        ensures sound { IfOk result (λ facts. sound facts ≡ true) }
     {
         let lists = self.lists(alloc)?;
         let facts = self.setup.copy(alloc)?;

@@ -1,7 +1,7 @@
 // What a service has beside its policies and tag rows.
 ghost use Rattle.std.specs.Prelude.{◌≡◌, IfOk, None, OnOk, option_map, true};
 ghost use Rattle.rg_defs.specs.Rules.{def_fault};
-ghost use Rattle.rg_zones.specs.Rules.{all_maps_fit};
+ghost use Rattle.rg_zone_rules.specs.Rules.{all_maps_fit};
 ghost use Rattle.rg_delta.specs.Applied.{unless_new};
 ghost use Rattle.rg_facts.specs.Candidates.{frame_of, setting_of, zone_at};
 
@@ -11,7 +11,8 @@ use rg_evalr::Frame;
 use rg_facts::{Facts, Published, Setting, frame_of};
 use rg_policy::AccessRequest;
 use rg_roles::{RoleRow, Roles};
-use rg_zones::{ZoneMap, ZoneRow};
+use rg_zone_rules::ZoneRow;
+use rg_zones::ZoneMap;
 use std::alloc::Global;
 use std::marker::Model;
 

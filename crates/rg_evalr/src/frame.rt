@@ -40,8 +40,8 @@ pub enum Effect {
     Deny,
 }
 
-/// The definition of the policies of a side.
-pub(crate) fn def_of(frame: &Frame, side: Side) -> &ServiceDef
+/// The definition of the policies of a side. Where there is no tag definition, that of the service stands for it.
+pub fn def_of(frame: &Frame, side: Side) -> &ServiceDef
     ensures { result.now ≡ def_of frame.now side }
 {
     match side {

@@ -9,5 +9,5 @@ mod item;
 mod rules;
 
 pub use evaluator::Evaluator;
-pub use frame::{Effect, Frame, Side};
+pub use frame::{Effect, Frame, Side, def_of};
 pub use rules::policy_fault;

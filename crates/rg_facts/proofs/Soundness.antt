@@ -10,7 +10,7 @@ use Rattle.rg_defs.specs.declared.service_def.ServiceDef.{ServiceDef}
 use Rattle.rg_cond.specs.Zones.{bad_rule}
 use Rattle.rg_resmatch.specs.Rules.{tagged_fit}
 use Rattle.rg_tags.specs.declared.row.TagRow.{TagRow}
-use Rattle.rg_zones.specs.Rules.{all_maps_fit, listing_fits, subjects_exist}
+use Rattle.rg_zone_rules.specs.Rules.{all_maps_fit, listing_fits, subjects_exist}
 use Rattle.rg_roles.specs.Members.{names_of}
 use Rattle.rg_evalr.specs.Frames.{def_of}
 use Rattle.rg_evalr.specs.declared.frame.Side.TheVariants.{Resource, Tag}

@@ -10,8 +10,8 @@ use Rattle.rg_resmatch.specs.Tests.{lies}
 use Rattle.rg_resmatch.specs.declared.reach.Reach.TheVariants.{Down}
 use Rattle.rg_roles.specs.declared.row.RoleRow.{RoleRow}
 use Rattle.rg_tags.specs.declared.row.TagRow.{TagRow}
-use Rattle.rg_zones.specs.Zones.{zone_of}
-use Rattle.rg_zones.specs.declared.row.ZoneRow.{ZoneRow}
+use Rattle.rg_zone_rules.specs.Zones.{zone_of}
+use Rattle.rg_zone_rules.specs.declared.row.ZoneRow.{ZoneRow}
 use Rattle.rg_evalr.specs.Effects.{in_play}
 use Rattle.rg_evalr.specs.Items.{Context}
 use Rattle.rg_evalr.specs.Sources.{Source}

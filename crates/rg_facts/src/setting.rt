@@ -7,7 +7,7 @@ use rg_base::{is_among, is_empty, same_text};
 use rg_evalr::Side;
 use rg_policy::{AccessRequest, Policy};
 use rg_roles::Roles;
-use rg_zones::ZoneRow;
+use rg_zone_rules::ZoneRow;
 use std::marker::Model;
 
 /// A request, with the roles that there are, in the zone of its resource.

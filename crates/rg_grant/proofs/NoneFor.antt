@@ -14,7 +14,7 @@ use Rattle.rg_twins.proofs.OnePrint.{one_print}
 use Rattle.rg_grant.specs.Planning.{is_for, is_of_kind, map_of, policy_for}
 use Rattle.rg_grant.specs.declared.row.GrantRow.{GrantRow}
 
-pub none_counted : (counts : List ℕ) (s : State) (g : GrantRow) → IsCounted counts s.policies.items → count_of counts (print_of (map_of g)) ≡ 0 → policy_for s g ≡ None
+pub none_counted : (counts : List (ℕ × ℕ)) (s : State) (g : GrantRow) → IsCounted counts s.policies.items → count_of counts (print_of (map_of g)) ≡ 0 → policy_for s g ≡ None
 none_counted counts s g counted none = at (policy_for s g) refl
   where
     at : (found : Option Policy) → policy_for s g ≡ found → policy_for s g ≡ None

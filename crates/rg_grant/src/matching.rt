@@ -11,7 +11,7 @@ use crate::row::GrantRow;
 use rg_base::{NoMemory, same_text};
 use rg_cmd::State;
 use rg_policy::{ACCESS_POLICY, NORMAL, Policy, ResourceMap};
-use rg_twins::{MapCounts, print_of_map, same_levels};
+use rg_twins::{PrintCounts, print_of_map, same_levels};
 use std::alloc::Global;
 
 /// Whether each of the maps has the row's levels, flags and values.
@@ -62,7 +62,7 @@ fn is_for(alloc: Global, row: &GrantRow, policy: &Policy) -> Result<bool, NoMemo
 pub(crate) fn policy_for<'a>(
     alloc: Global,
     state: &'a State,
-    counts: &MapCounts,
+    counts: &PrintCounts,
     row: &GrantRow,
 ) -> Result<Option<&'a Policy>, NoMemory>
     requires { IsCounted counts.now state.now.policies.items }

@@ -9,14 +9,14 @@ use crate::matching::policy_for;
 use crate::row::GrantRow;
 use rg_base::NoMemory;
 use rg_cmd::{AdminCommand, Ask, State};
-use rg_twins::MapCounts;
+use rg_twins::PrintCounts;
 use std::alloc::Global;
 
 /// The command of a grant.
 fn grant_of(
     alloc: Global,
     state: &State,
-    counts: &MapCounts,
+    counts: &PrintCounts,
     row: &GrantRow,
 ) -> Result<AdminCommand, NoMemory>
     requires { IsCounted counts.now state.now.policies.items }
@@ -36,7 +36,7 @@ fn grant_of(
 fn revoke_of(
     alloc: Global,
     state: &State,
-    counts: &MapCounts,
+    counts: &PrintCounts,
     row: &GrantRow,
 ) -> Result<AdminCommand, NoMemory>
     requires { IsCounted counts.now state.now.policies.items }
@@ -57,7 +57,7 @@ fn revoke_of(
 pub(crate) fn plan(
     alloc: Global,
     state: &State,
-    counts: &MapCounts,
+    counts: &PrintCounts,
     ask: GrantAsk,
 ) -> Result<Ask, NoMemory>
     requires { IsCounted counts.now state.now.policies.items }

@@ -34,6 +34,7 @@ use Rattle.rg_index.specs.Kept.{LevelPairs, entries_of, indexed}
 use Rattle.rg_index.proofs.Changing.{all_apart, numbered_has, numbered_of}
 use Rattle.rg_index.proofs.Choosing.{attained}
 use Rattle.rg_index.proofs.Lists.{find_mapped}
+use Rattle.rg_index.proofs.PatternLaws.{PrefixLaw, StandsLaw, TwinLaw}
 use Rattle.rg_index.proofs.Ordered.{apart_filter, filter_in_order, into_new, length_in_order, ordered_from}
 
 -- one of the elements passes, so one is found
@@ -116,17 +117,6 @@ module _ (def : ServiceDef) (forms : List Form) where
         ∙ same_number n (bound def forms (x ∷ xs)) test where
           same_number : (m n : ℕ) → nat_eq m n ≡ true → m ≡ n
           same_number m n h = grind arith
-
--- ---- laws of patterns
-
-abbrev pub StandsLaw : Type 0
-StandsLaw = (fold : Bool) (user : List ℕ) (p : List Atom) (t : List ℕ) → (IsTrue (stands fold user p t) → Stands fold user p t) × (Stands fold user p t → IsTrue (stands fold user p t))
-
-abbrev pub PrefixLaw : Type 0
-PrefixLaw = (fold : Bool) (user : List ℕ) (p : List Atom) (t : List ℕ) → Stands fold user p t → starts_with nat_eq (folded fold t) (literal_prefix fold p) ≡ true
-
-abbrev pub TwinLaw : Type 0
-TwinLaw = (fold : Bool) (user : List ℕ) (p : List Atom) (t : List ℕ) → Stands fold user (twin p) t → starts_with nat_eq (folded fold t) (literal_prefix fold p) ≡ true
 
 empty_begins : (text : List ℕ) → starts_with nat_eq text [] ≡ true
 empty_begins [] = refl

@@ -6,4 +6,5 @@ mod Indexing
 mod Keying
 mod Lists
 mod Ordered
+pub mod PatternLaws
 pub mod Sent

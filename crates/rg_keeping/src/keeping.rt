@@ -1,9 +1,8 @@
 // A kept administration, and what its plugin decides.
-ghost use Rattle.std.specs.Prelude.{◌≡◌, ◌≤◌, ◌<◌, Some, None, IfOk, IfErr};
+ghost use Rattle.std.specs.Prelude.{◌≡◌, ◌≤◌, ◌<◌, None, IfOk, IfErr};
 ghost use Rattle.rg_ask_wire.specs.Asks.{ask_text};
 ghost use Rattle.rg_ask_wire.specs.KeyOrder.{IsInKeyOrder};
 ghost use Rattle.rg_admin.specs.Starting.{start_fault};
-ghost use Rattle.rg_current.specs.Current.{decision_now};
 ghost use Rattle.rg_keep.specs.Crashes.{MayTell};
 ghost use Rattle.rg_keep.specs.Keeping.{Adds, HasLength, IsAnswer, IsCause, IsReplayed, Reopens, adds, is_full, is_past};
 ghost use Rattle.rg_keeping.specs.Opened.{IsLaterCause};
@@ -15,6 +14,7 @@ use rg_facts::Decision;
 use rg_keep::{KeptAdmin, KeptReply, ReopenCause, ReopenFault, Stopped};
 use rg_keeper::{Keeper, KeeperFault};
 use rg_policy::AccessRequest;
+use rg_work::Decider;
 use std::alloc::Global;
 use std::marker::Model;
 
@@ -109,14 +109,6 @@ impl<P: Keeper + Drop> Keeping<P> {
         }
     }
 
-    /// Decides the request over what the plugin sees now. Nothing is published, so the serial is 0. Want of memory is also
-    /// answered once `2^62` entries are counted.
-    pub fn decide(&self, alloc: Global, request: &AccessRequest) -> Result<Decision, NoMemory>
-        ensures { IfOk result (λ d. decision_now self.now.desk.admin request.now ≡ Some d) }
-    {
-        decide_now(alloc, self.desk.admin(), request)
-    }
-
     /// How many commands are kept.
     pub fn kept(&self) -> u64
         ensures number { result ≡ self.now.desk.kept }
@@ -132,5 +124,23 @@ impl<P: Keeper + Drop> Keeping<P> {
         let Keeping { config, desk } = self;
         drop(config);
         desk.into_keeper()
+    }
+}
+
+impl<P: Keeper + Drop> Decider for Keeping<P> {
+    ghost use Rattle.rg_current.specs.Current.{decision_now};
+
+    ghost served = { λ k. k.desk.admin.state.plugin };
+
+    ghost decides = { λ k q. decision_now k.desk.admin q };
+
+    fn service(&self) -> &str {
+        self.desk.admin().state().plugin.as_str()
+    }
+
+    /// Decides the request over what the plugin sees now. Nothing is published, so the serial is 0. Want of memory is also
+    /// answered once `2^62` entries are counted.
+    fn decide(&mut self, alloc: Global, request: &AccessRequest) -> Result<Decision, NoMemory> {
+        decide_now(alloc, self.desk.admin(), request)
     }
 }

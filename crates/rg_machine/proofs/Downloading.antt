@@ -10,7 +10,7 @@ use Rattle.rg_policy.specs.declared.policy.TimeZoneRow.{TimeZoneRow}
 use Rattle.rg_defs.specs.declared.service_def.ServiceDef.{ServiceDef}
 use Rattle.rg_roles.specs.declared.row.RoleRow.{RoleRow}
 use Rattle.rg_tags.specs.declared.row.TagRow.{TagRow}
-use Rattle.rg_zones.specs.declared.row.ZoneRow.{ZoneRow}
+use Rattle.rg_zone_rules.specs.declared.row.ZoneRow.{ZoneRow}
 use Rattle.rg_facts.specs.declared.facts.Facts.{Facts}
 use Rattle.rg_cmd.specs.Lookups.{def_of, service_at}
 use Rattle.rg_cmd.specs.declared.changes.Log.{Log}

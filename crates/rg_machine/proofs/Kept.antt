@@ -21,9 +21,9 @@ use Rattle.rg_roles.specs.declared.fault.RoleFault.{RoleFault}
 use Rattle.rg_roles.specs.declared.row.RoleRow.{RoleRow}
 use Rattle.rg_turn.specs.History.{state_after, state_at}
 use Rattle.rg_turn.specs.declared.rule.Entry.{Entry}
-use Rattle.rg_zones.specs.Overlap.{first_overlap, zones_overlap}
-use Rattle.rg_zones.specs.Rules.{policy_zone_fits}
-use Rattle.rg_zones.specs.declared.row.ZoneRow.{ZoneRow}
+use Rattle.rg_zone_rules.specs.Overlap.{first_overlap, zones_overlap}
+use Rattle.rg_zone_rules.specs.Rules.{policy_zone_fits}
+use Rattle.rg_zone_rules.specs.declared.row.ZoneRow.{ZoneRow}
 use Rattle.rg_cmd.specs.Lists.{put, without}
 use Rattle.rg_cmd.specs.Lookups.{has_id, has_row_id, is_role, is_service, is_tag_service, is_user, is_zone}
 use Rattle.rg_cmd.specs.declared.ask.AdminCommand.{AdminCommand}

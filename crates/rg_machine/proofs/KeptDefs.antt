@@ -13,11 +13,11 @@ use Rattle.rg_defs.specs.Rules.{def_fault, rules_of}
 use Rattle.rg_defs.specs.declared.service_def.ServiceDef.{ServiceDef}
 use Rattle.rg_resmatch.specs.Rules.{tagged_fit}
 use Rattle.rg_tags.specs.declared.row.TagRow.{TagRow}
-use Rattle.rg_zones.specs.Overlap.{first_overlap}
-use Rattle.rg_zones.specs.Rules.{all_maps_fit, entry_levels_fit, maps_fit, zone_levels_fit, zone_values_fit}
-use Rattle.rg_zones.specs.Zones.{is_for}
-use Rattle.rg_zones.specs.declared.row.ZoneRow.{ZoneRow}
-use Rattle.rg_zones.specs.declared.row.ZoneService.{ZoneService}
+use Rattle.rg_zone_rules.specs.Overlap.{first_overlap}
+use Rattle.rg_zone_rules.specs.Rules.{all_maps_fit, entry_levels_fit, maps_fit, zone_levels_fit, zone_values_fit}
+use Rattle.rg_zone_rules.specs.Zones.{is_for}
+use Rattle.rg_zone_rules.specs.declared.row.ZoneRow.{ZoneRow}
+use Rattle.rg_zone_rules.specs.declared.row.ZoneService.{ZoneService}
 use Rattle.rg_cmd.specs.Lists.{put}
 use Rattle.rg_cmd.specs.Lookups.{def_at, def_of, has_def, is_def, is_service, service_at}
 use Rattle.rg_cmd.specs.declared.ask.AdminCommand.TheVariants.{PutDef}

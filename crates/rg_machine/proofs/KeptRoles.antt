@@ -16,8 +16,8 @@ use Rattle.rg_roles.specs.Chains.{Leads, leads}
 use Rattle.rg_roles.specs.Faults.{AreSound, IsApart, IsPut, NamesThere, fault_of}
 use Rattle.rg_roles.specs.Members.{names_of, names_role}
 use Rattle.rg_roles.specs.declared.row.RoleRow.{RoleRow}
-use Rattle.rg_zones.specs.Rules.{subjects_exist}
-use Rattle.rg_zones.specs.declared.row.ZoneRow.{ZoneRow}
+use Rattle.rg_zone_rules.specs.Rules.{subjects_exist}
+use Rattle.rg_zone_rules.specs.declared.row.ZoneRow.{ZoneRow}
 use Rattle.rg_cmd.specs.Lists.{put, without}
 use Rattle.rg_cmd.specs.Lookups.{is_role}
 use Rattle.rg_cmd.specs.declared.ask.AdminCommand.TheVariants.{DeleteRole, PutRole}

@@ -15,11 +15,11 @@ use Rattle.rg_defs.specs.Rules.{tag_name}
 use Rattle.rg_defs.specs.declared.service_def.ServiceDef.{ServiceDef}
 use Rattle.rg_resmatch.specs.Rules.{tagged_fit}
 use Rattle.rg_tags.specs.declared.row.TagRow.{TagRow}
-use Rattle.rg_zones.specs.Overlap.{first_overlap, maps_overlap, zones_overlap}
-use Rattle.rg_zones.specs.Rules.{entry_levels_fit, lists_service, policy_zone_fits}
-use Rattle.rg_zones.specs.Zones.{entry_maps, is_for, maps_for}
-use Rattle.rg_zones.specs.declared.row.ZoneRow.{ZoneRow}
-use Rattle.rg_zones.specs.declared.row.ZoneService.{ZoneService}
+use Rattle.rg_zone_rules.specs.Overlap.{first_overlap, maps_overlap, zones_overlap}
+use Rattle.rg_zone_rules.specs.Rules.{entry_levels_fit, lists_service, policy_zone_fits}
+use Rattle.rg_zone_rules.specs.Zones.{entry_maps, is_for, maps_for}
+use Rattle.rg_zone_rules.specs.declared.row.ZoneRow.{ZoneRow}
+use Rattle.rg_zone_rules.specs.declared.row.ZoneService.{ZoneService}
 use Rattle.rg_cmd.specs.Lists.{put, without}
 use Rattle.rg_cmd.specs.Lookups.{def_at, def_of, has_def, is_of, is_row_of, is_service, is_tag_service, service_at}
 use Rattle.rg_cmd.specs.declared.ask.AdminCommand.TheVariants.{CreateService, DeleteService, UpdateService}

@@ -8,9 +8,9 @@ use Rattle.rg_base.proofs.Lists.{Contains-filter, all_holds, any_from, any_holds
 use Rattle.rg_base.specs.Texts.{all_distinct, is_empty}
 use Rattle.rg_policy.specs.declared.policy.Policy.{Policy}
 use Rattle.rg_defs.specs.declared.service_def.ServiceDef.{ServiceDef}
-use Rattle.rg_zones.specs.Overlap.{first_overlap, zones_overlap}
-use Rattle.rg_zones.specs.Rules.{is_zone_of, lists_service, policy_zone_fits}
-use Rattle.rg_zones.specs.declared.row.ZoneRow.{ZoneRow}
+use Rattle.rg_zone_rules.specs.Overlap.{first_overlap, zones_overlap}
+use Rattle.rg_zone_rules.specs.Rules.{is_zone_of, lists_service, policy_zone_fits}
+use Rattle.rg_zone_rules.specs.declared.row.ZoneRow.{ZoneRow}
 use Rattle.rg_cmd.specs.Lists.{put, without}
 use Rattle.rg_cmd.specs.Lookups.{def_of, is_tag_service, is_zone}
 use Rattle.rg_cmd.specs.declared.ask.AdminCommand.TheVariants.{DeleteZone, PutZone}

@@ -27,11 +27,11 @@ use Rattle.rg_roles.specs.Members.{names_of}
 use Rattle.rg_tags.specs.Rules.{tags_fit}
 use Rattle.rg_tags.specs.declared.row.TagRow.{TagRow}
 use Rattle.rg_resmatch.specs.Rules.{policy_levels_fit, policy_values_fit, tagged_fit}
-use Rattle.rg_zones.specs.Overlap.{first_overlap}
-use Rattle.rg_zones.specs.Rules.{entry_levels_fit, entry_values_fit, is_zone_of, listing_fits, maps_fit, policy_zone_fits, same_name, service_names, subjects_exist, tag_policy_zone_fits, times_listed, times_tagged, zone_levels_fit, zone_values_fit}
-use Rattle.rg_zones.specs.Zones.{is_for}
-use Rattle.rg_zones.specs.declared.row.ZoneRow.{ZoneRow}
-use Rattle.rg_zones.specs.declared.row.ZoneService.{ZoneService}
+use Rattle.rg_zone_rules.specs.Overlap.{first_overlap}
+use Rattle.rg_zone_rules.specs.Rules.{entry_levels_fit, entry_values_fit, is_zone_of, listing_fits, maps_fit, policy_zone_fits, same_name, service_names, subjects_exist, tag_policy_zone_fits, times_listed, times_tagged, zone_levels_fit, zone_values_fit}
+use Rattle.rg_zone_rules.specs.Zones.{is_for}
+use Rattle.rg_zone_rules.specs.declared.row.ZoneRow.{ZoneRow}
+use Rattle.rg_zone_rules.specs.declared.row.ZoneService.{ZoneService}
 use Rattle.rg_facts.specs.Candidates.{frame_of}
 use Rattle.rg_facts.specs.Sound.{defs_sound, ids_sound, is_no_policy, is_tag_def, passes, policies_sound, roles_sound, row_sound, same_id, sound, tag_def_sound, tag_policies_pass, tag_rows_sound, versions_fit, zone_names_sound, zones_sound}
 use Rattle.rg_facts.specs.declared.facts.Facts.{Facts}

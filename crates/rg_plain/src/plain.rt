@@ -19,7 +19,8 @@ use rg_policy::{AccessRequest, Policy, Tag};
 use rg_resmatch::Matcher;
 use rg_roles::Roles;
 use rg_tags::TagRow;
-use rg_zones::{ZoneMap, ZoneRow};
+use rg_zone_rules::ZoneRow;
+use rg_zones::ZoneMap;
 use std::alloc::Global;
 use std::marker::Model;
 

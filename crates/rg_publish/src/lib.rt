@@ -8,4 +8,4 @@ mod shown;
 
 pub use history::Publication;
 pub use pass::{Pass, Told};
-pub use publisher::{Publisher, begin};
+pub use publisher::{Publications, Publisher, begin};

@@ -105,6 +105,22 @@ fn show<R: Wait>(rt: &R, writer: Copies, shown: Shown) -> Copies
     unreachable!()
 }
 
+/// All that a publisher has published. It takes no bytes.
+#[derive(Drop)]
+pub struct Publications {
+    known: Known,
+}
+
+impl Model for Publications {
+    ghost use Rattle.rg_publish.specs.Publications.{Published, published};
+
+    ghost Value = { Published };
+
+    ghost view = { λ p. published p.known };
+
+    ghost invariant = { λ p. Unit {0} };
+}
+
 /// What publishes. Contracts see its list. It keeps the handle, since letting it go waits for readers that are inside.
 pub struct Publisher<R: Wait + Drop> {
     writer: Option<Copies>,
@@ -139,6 +155,15 @@ impl<R: Wait + Drop> Publisher<R> {
         ensures { result.0 ≡ length self.now.list }
     {
         Serial(self.kept.serial)
+    }
+
+    /// All that was published so far. It takes no memory.
+    pub fn publications(&self) -> Publications
+        ensures { result ≡ self.now }
+    {
+        Publications {
+            known: self.kept.known.again(),
+        }
     }
 
     /// Ends the publisher. It waits for readers that are inside.

@@ -89,14 +89,24 @@ decide_work s q = option_map (deciding s (service_of s) q) (decision_by_newest s
 unfoldable pub judge_work : State → List EnricherState → AccessRequest → Option (Work (Hooked State))
 judge_work s es q = judged s (service_of s) es (decision_by_newest s) q
 
+-- a line up to what it decides: a request waits
+abbrev pub prepare_work : State → Line → Option (Work State)
+prepare_work s line.Blank = Some (quiet s)
+prepare_work s (line.Facts facts) = facts_work s facts
+prepare_work s (line.Config config) = config_work s config
+prepare_work s (line.Admin ask) = admin_work s ask
+prepare_work s line.Refresh = refresh_work s
+prepare_work s (line.Decide q) = Some (quiet s)
+
+-- the request that a line asks about
+abbrev pub request_in : Line → Option AccessRequest
+request_in (line.Decide q) = Some q
+request_in read = None
+
 abbrev pub line_work : State → Option Line → Option (Work State)
 line_work s None = None
-line_work s (Some line.Blank) = Some (quiet s)
-line_work s (Some (line.Facts facts)) = facts_work s facts
-line_work s (Some (line.Config config)) = config_work s config
-line_work s (Some (line.Admin ask)) = admin_work s ask
-line_work s (Some line.Refresh) = refresh_work s
 line_work s (Some (line.Decide q)) = decide_work s q
+line_work s (Some read) = prepare_work s read
 
 -- ---- the script
 

@@ -126,7 +126,7 @@ impl HookedWorker for Grants {
 
     ghost hooked_step = { grants_step };
 
-    #[tactic(auto, using(crate::proofs::Working::carrying))]
+    #[tactic(auto, using(crate::proofs::Working::undecided))]
     fn work_hooked<H: RequestHooks>(
         &mut self,
         alloc: Global,

@@ -1,11 +1,11 @@
 // The command `replay`: a script of facts, or of an administration and its plugin.
-ghost use Rattle.std.specs.Prelude.{◌≡◌, ◌++◌, [], Err, None, Some, true, IfOk, OnErr, OnOk, string_bytes};
+ghost use Rattle.std.specs.Prelude.{◌≡◌, ◌++◌, [], Err, None, Some, true, IfOk, OnErr, OnOk, option_map, string_bytes};
 ghost use Rattle.rg_facts.specs.Sound.{sound};
 ghost use Rattle.rg_admin.specs.Starting.{start_fault};
 ghost use Rattle.rg_running.specs.Running.{opened_unless};
 ghost use Rattle.rg_work.specs.Follow.{IsWorked};
 ghost use Rattle.rg_work.specs.Hooked.{HaveRunOn, IsAudited, hooked, hooks_of};
-ghost use Rattle.rg_replay.specs.Replay.{admin_work, config_work, facts_work, judge_work, published_facts, refresh_line, refresh_work};
+ghost use Rattle.rg_replay.specs.Replay.{admin_work, config_work, facts_work, judge_work, newest_of, prepare_work, published_facts, refresh_line, refresh_work, request_in};
 ghost use Rattle.rg_replay.specs.Report.{AreSound};
 
 use rg_base::{Moment, NoMemory, Serial, Steps, Text, TryCopy};
@@ -244,6 +244,18 @@ impl<'a, R: Wait> Replay<'a, R> {
         }
     }
 
+    /// A copy of the facts of what is published last; None where nothing is.
+    pub fn newest_facts(&self, alloc: Global) -> Result<Option<Facts>, NoMemory>
+        ensures newest { IfOk result (λ facts. facts ≡ option_map (λ p. p.facts) (newest_of self.now)) }
+        ensures sound { IfOk result (λ facts. AreSound facts) }
+    {
+        match &self.stage {
+            Stage::Empty => Ok(None),
+            Stage::Facts(published) => Ok(Some(published.engine().facts(alloc)?)),
+            Stage::Config(administered) => Ok(Some(administered.running.facts(alloc)?)),
+        }
+    }
+
     /// Publishes the facts, where the script begins with them and they are sound.
     #[tactic(auto, unfolding(crate::specs::Replay::facts_work))]
     fn begin(&mut self, alloc: Global, facts: Facts) -> Result<(), LineFault>
@@ -327,6 +339,40 @@ impl<'a, R: Wait> Replay<'a, R> {
         }
     }
 
+    /// Works a line up to what it decides: the request of a line that asks for a decision is given back.
+    pub fn prepare(
+        &mut self,
+        alloc: Global,
+        line: Line,
+        text: &mut String,
+    ) -> Result<Option<AccessRequest>, LineFault>
+        ensures request { IfOk result (λ request. request ≡ request_in line) }
+        ensures worked { OnOk result (IsWorked (prepare_work self.old line) self.new (string_bytes text.old) (string_bytes text.new)) }
+        ensures bad { result ≡ Err LineFault.Bad → prepare_work self.old line ≡ None }
+        ensures unchanged { result ≡ Err LineFault.Bad → (self.new ≡ self.old) × (string_bytes text.new ≡ string_bytes text.old) }
+    {
+        match line {
+            Line::Blank => Ok(None),
+            Line::Facts(facts) => {
+                self.begin(alloc, facts)?;
+                Ok(None)
+            }
+            Line::Config(config) => {
+                self.start(alloc, config)?;
+                Ok(None)
+            }
+            Line::Admin(ask) => {
+                self.ask(alloc, ask, text)?;
+                Ok(None)
+            }
+            Line::Refresh => {
+                self.refresh(alloc, text)?;
+                Ok(None)
+            }
+            Line::Decide(request) => Ok(Some(request)),
+        }
+    }
+
     /// Decides the request by what is published last, prints the decision, and audits it.
     #[tactic(auto, using(crate::proofs::Working::judging), unfolding(crate::specs::Replay::judge_work))]
     fn decide<H: RequestHooks>(
@@ -363,7 +409,7 @@ impl<'a, R: Wait> HookedWorker for Replay<'a, R> {
 
     ghost hooked_step = { replay_step_with };
 
-    #[tactic(auto, using(crate::proofs::Working::carrying))]
+    #[tactic(auto, using(crate::proofs::Working::preparing))]
     fn work_hooked<H: RequestHooks>(
         &mut self,
         alloc: Global,
@@ -372,13 +418,13 @@ impl<'a, R: Wait> HookedWorker for Replay<'a, R> {
         text: &mut String,
         hooks: &mut H,
     ) -> Result<(), LineFault> {
-        match read_line(alloc, line, now) {
-            Ok(Line::Blank) => Ok(()),
-            Ok(Line::Facts(facts)) => self.begin(alloc, facts),
-            Ok(Line::Config(config)) => self.start(alloc, config),
-            Ok(Line::Admin(ask)) => self.ask(alloc, ask, text),
-            Ok(Line::Refresh) => self.refresh(alloc, text),
-            Ok(Line::Decide(mut request)) => self.decide(alloc, &mut request, text, hooks),
+        let read = match read_line(alloc, line, now) {
+            Ok(read) => read,
+            Err(fault) => return Err(fault),
+        };
+        match self.prepare(alloc, read, text) {
+            Ok(None) => Ok(()),
+            Ok(Some(mut request)) => self.decide(alloc, &mut request, text, hooks),
             Err(fault) => Err(fault),
         }
     }

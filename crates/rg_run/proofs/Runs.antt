@@ -7,9 +7,10 @@ use Rattle.rg_work.specs.Ports.{Ports, ports}
 use Rattle.rg_work.specs.Runs.{IsRun, Overran, StandsHooked}
 use Rattle.rg_work.specs.Statuses.{number_of}
 use Rattle.rg_work.proofs.HookedRuns.{run_alone}
+use Rattle.rg_work.proofs.Hooks.{audited_none}
 use Rattle.rg_work.proofs.Runs.{completes, in_limits}
 use Rattle.rg_work.specs.Follow.{worked}
-use Rattle.rg_work.specs.Hooked.{Hooked, hooked, hooks_of, with_enrichers}
+use Rattle.rg_work.specs.Hooked.{Hooked, Hooks, hooked, hooks_of, with_enrichers}
 use Rattle.rg_replay.specs.Grants.{State, grants, grants_step}
 use Rattle.rg_replay.specs.Replay.{replayed_with}
 use Rattle.rg_replay.specs.Report.{reported}
@@ -24,21 +25,21 @@ use Rattle.rg_run.specs.Runs.{Answers, Around, IsEndOf, around}
 -- ---- the keeper's records
 
 -- memory was refused before anything was done
-unkept : (told : Option (List (List ℕ))) (p : Ports) → ByRecords told told p p NoMemory
-unkept None p = (refl, refl)
-unkept (Some found) p = (found, refl, (refl, inl (refl, refl)))
+unkept : (told : Option (List (List ℕ))) (h : Hooks) (p : Ports) → ByRecords told told h h p p NoMemory
+unkept None h p = (refl, (refl, ([], record { audited = []; ran = h.enrichers; first = ([], refl); after = audited_none h; run = inl refl })))
+unkept (Some found) h p = (found, refl, (refl, inl (refl, refl, refl)))
 
-overran : (told now : Option (List (List ℕ))) (p q : Ports) → ByRecords told now p q TooLong → Overran p.left q.left
-overran None now p q by = by.1.0
-overran (Some found) now p q by = by.2.0
+overran : (told now : Option (List (List ℕ))) (h k : Hooks) (p q : Ports) → ByRecords told now h k p q TooLong → Overran p.left q.left
+overran None now h k p q by = by.1.0
+overran (Some found) now h k p q by = by.2.0
 
-no_usage : (told now : Option (List (List ℕ))) (p q : Ports) → ByRecords told now p q Usage → ⊥
-no_usage None now p q by = by.1
-no_usage (Some found) now p q by = by.2
+no_usage : (told now : Option (List (List ℕ))) (h k : Hooks) (p q : Ports) → ByRecords told now h k p q Usage → ⊥
+no_usage None now h k p q by = by.1
+no_usage (Some found) now h k p q by = by.2
 
-no_links : (told now : Option (List (List ℕ))) (p q : Ports) → ByRecords told now p q NetFault → ⊥
-no_links None now p q by = by.1
-no_links (Some found) now p q by = by.2
+no_links : (told now : Option (List (List ℕ))) (h k : Hooks) (p q : Ports) → ByRecords told now h k p q NetFault → ⊥
+no_links None now h k p q by = by.1
+no_links (Some found) now h k p q by = by.2
 
 -- ---- a run of each command
 
@@ -50,7 +51,7 @@ undone workers a (Some (Serve address links)) p = record { stands = (inl (refl, 
 undone workers a (Some (Drill seed policies requests)) p = record { stands = refl; reads = refl; writes = refl }
 undone workers a (Some Grants) p = record { stands = (refl, inl (refl, refl)); reads = refl; writes = refl }
 undone workers a (Some Report) p = record { stands = (refl, inl refl); reads = refl; writes = refl }
-undone workers a (Some Keep) p = record { stands = (unkept a.shelf.records p, omega arith); reads = refl; writes = refl }
+undone workers a (Some Keep) p = record { stands = (unkept a.shelf.records a.hooks p, omega arith); reads = refl; writes = refl }
 
 -- how a command ends that nothing failed: with a bad record where it takes the keeper alone
 abbrev pub Ends : Bool → ℕ → Type 0
@@ -91,17 +92,17 @@ module _ (p q : Ports) (n : ℕ) (bytes : List ℕ) (reads : q.read_faults ≡ p
   served takes most workers d e BadRecord is run links = absurd run.stands.0
 
   -- a script of a kept administration was worked, or memory was refused, or a record is bad
-  kept : (s t : Shelf) (status : Status) → n ≡ number_of status → IsRun (Keeps s t) p q status → t.faults ≡ s.faults → Ends true n
-  kept s t Done is run keeper = inl is
-  kept s t BadLine is run keeper = inr (inl is)
-  kept s t NoMemory is run keeper = inr (inr (inl is))
-  kept s t BadRecord is run keeper = inr (inr (inr (refl, is)))
-  kept s t ReadFault is run keeper = absurd (omega (arith, run.reads))
-  kept s t WriteFault is run keeper = absurd (omega (arith, run.writes))
-  kept s t KeepFault is run keeper = absurd (omega (arith, run.stands.1))
-  kept s t TooLong is run keeper = absurd (in_limits p.left q.left bytes told within (overran s.records t.records p q run.stands.0))
-  kept s t Usage is run keeper = absurd (no_usage s.records t.records p q run.stands.0)
-  kept s t NetFault is run keeper = absurd (no_links s.records t.records p q run.stands.0)
+  kept : (s t : Shelf) (h k : Hooks) (status : Status) → n ≡ number_of status → IsRun (Keeps s t h k) p q status → t.faults ≡ s.faults → Ends true n
+  kept s t h k Done is run keeper = inl is
+  kept s t h k BadLine is run keeper = inr (inl is)
+  kept s t h k NoMemory is run keeper = inr (inr (inl is))
+  kept s t h k BadRecord is run keeper = inr (inr (inr (refl, is)))
+  kept s t h k ReadFault is run keeper = absurd (omega (arith, run.reads))
+  kept s t h k WriteFault is run keeper = absurd (omega (arith, run.writes))
+  kept s t h k KeepFault is run keeper = absurd (omega (arith, run.stands.1))
+  kept s t h k TooLong is run keeper = absurd (in_limits p.left q.left bytes told within (overran s.records t.records h k p q run.stands.0))
+  kept s t h k Usage is run keeper = absurd (no_usage s.records t.records h k p q run.stands.0)
+  kept s t h k NetFault is run keeper = absurd (no_links s.records t.records h k p q run.stands.0)
 
   -- for each command
   pub completed : (workers : ℕ) (a b : Around) (asked : Option Command) (command : Command) (status : Status) → asked ≡ Some command → n ≡ number_of status
@@ -113,7 +114,7 @@ module _ (p q : Ports) (n : ℕ) (bytes : List ℕ) (reads : q.read_faults ≡ p
   completed workers a b (Some Report) command status named is run links keeper = any_ends false n (completes reported p q n status bytes is run reads writes told within)
   completed workers a b (Some (Serve address most)) command status named is run links keeper = served false most workers a.door b.door status is run links
   completed workers a b (Some (Drill seed policies requests)) command status named is run links keeper = drilled false a b seed policies requests p q n status is run writes
-  completed workers a b (Some Keep) command status named is run links keeper = kept a.shelf b.shelf status is run keeper
+  completed workers a b (Some Keep) command status named is run links keeper = kept a.shelf b.shelf a.hooks b.hooks status is run keeper
   completed workers a b None command status named is run links keeper = cc
 
 pub ended_so : (command : Option Command) (n m : ℕ) → m ≡ n → IsEndOf command n → IsEndOf command m

@@ -99,4 +99,5 @@ takes_keeper _ = false
 abbrev pub judges : Option Command → Bool
 judges (Some Replay) = true
 judges (Some Grants) = true
+judges (Some Keep) = true
 judges _ = false

@@ -63,7 +63,7 @@ Answers n a b (Some (Serve address links)) p q status = ServesLinks links n a.do
 Answers n a b (Some (Drill seed policies requests)) p q status = Drilled seed policies requests p.held q.held status
 Answers n a b (Some Grants) p q status = StandsHooked _ (grants a.hooks.enrichers) a.hooks b.hooks p q status
 Answers n a b (Some Report) p q status = Stands _ reported p q status
-Answers n a b (Some Keep) p q status = Keeps a.shelf b.shelf p q status
+Answers n a b (Some Keep) p q status = Keeps a.shelf b.shelf a.hooks b.hooks p q status
 Answers n a b None p q status = IsTold p q status
 
 -- the number is that of some run of the command

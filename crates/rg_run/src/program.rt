@@ -93,23 +93,29 @@ fn judge_by<W: HookedWorker + Drop, S: Source, K: Sink, C: Clock, H: RequestHook
     status
 }
 
-/// Works a script over the keeper, and puts the keeper back into its place.
-fn keep<P: Keeper + Drop, S: Source, K: Sink, C: Clock>(
+/// Works a script over the keeper, which is put back into its place, with the hooks of worker 0.
+fn keep<P: Keeper + Drop, S: Source, K: Sink, C: Clock, H: RequestHooks>(
     alloc: Global,
     keeper: &mut Option<P>,
     source: &mut S,
     sink: &mut K,
     clock: &mut C,
+    hooks: &mut Vec<H>,
 ) -> Status
-    requires { IsSome keeper.old }
-    ensures run { IsRun (Keeps (shelf_of P.kept P.faults keeper.old) (shelf_of P.kept P.faults keeper.new))
+    requires keeper { IsSome keeper.old }
+    requires workers { 1 ≤ length hooks.old.items }
+    ensures run { IsRun (Keeps (shelf_of P.kept P.faults keeper.old) (shelf_of P.kept P.faults keeper.new)
+        (first_hooks H.sinks H.enrichers hooks.old.items) (first_hooks H.sinks H.enrichers hooks.new.items))
         (ports (S.left source.old) (S.ended source.old) (S.faults source.old) (C.given clock.old) (K.held sink.old) (K.faults sink.old))
         (ports (S.left source.new) (S.ended source.new) (S.faults source.new) (C.given clock.new) (K.held sink.new) (K.faults sink.new)) result }
     ensures clock_stays { (result ≡ Status.ReadFault) ⊎ (result ≡ Status.TooLong) → clock.new ≡ clock.old }
+    ensures unheard { (result ≡ Status.Usage) ⊎ ((result ≡ Status.ReadFault) ⊎ (result ≡ Status.TooLong)) → hooks.new.items ≡ hooks.old.items }
+    ensures others { drop 1 hooks.new.items ≡ drop 1 hooks.old.items }
+    ensures as_many { length hooks.new.items ≡ length hooks.old.items }
     ensures put_back { IsSome keeper.new }
 {
     let held = keeper.take().unwrap();
-    let (held, status) = keep_script(alloc, held, source, sink, clock);
+    let (held, status) = keep_script(alloc, held, source, sink, clock, &mut hooks[0]);
     *keeper = Some(held);
     status
 }
@@ -170,7 +176,7 @@ fn answer<
         ) => drill(rt, alloc, *seed, *policies, *requests, sink),
         Some(Command::Grants) => judge_by(alloc, Grants::new(), source, sink, clock, hooks),
         Some(Command::Report) => work_by(alloc, Reports::new(), source, sink, clock),
-        Some(Command::Keep) => keep(alloc, keeper, source, sink, clock),
+        Some(Command::Keep) => keep(alloc, keeper, source, sink, clock, hooks),
         None => match write_all(
             sink,
             b"usage: rangerd replay | serve ADDRESS LINKS | drill SEED POLICIES REQUESTS | grants | report | keep\n",
@@ -224,7 +230,8 @@ pub fn run<
     ensures put_back { takes_keeper (command_of (map string_bytes words.now)) ≡ true → IsSome keeper.new }
 
     // The hooks. `serve` takes them and leaves none. All other commands leave them there, and those of other workers than worker 0 as they
-    // were. `replay` and `grants` enrich and audit by those of worker 0, as `Answers` says; before a script is worked they are as they were.
+    // were. `replay`, `grants` and `keep` enrich and audit by those of worker 0, as `Answers` says; before a script is worked they are as
+    // they were.
     ensures taken { serves (command_of (map string_bytes words.now)) ≡ true → (hooks.new.items ≡ []) ⊎ ((result ≡ 9) × (hooks.new.items ≡ hooks.old.items)) }
     ensures others { serves (command_of (map string_bytes words.now)) ≡ false →
         (drop 1 hooks.new.items ≡ drop 1 hooks.old.items) × (length hooks.new.items ≡ length hooks.old.items) }

@@ -27,7 +27,7 @@ use Rattle.rg_session.specs.Right.{AreRightFor}
 use Rattle.rg_session.specs.declared.refresher.Refresh.{Refresh}
 use Rattle.rg_session.specs.declared.refresher.Refresh.TheVariants.{Unchanged, Published}
 use Rattle.rg_running.specs.Held.{IsHeld, held}
-use Rattle.rg_running.specs.Running.{IsRefreshed, Running, next_by, opened, refresh_publishes, running, serial_in, serial_of, with_next}
+use Rattle.rg_running.specs.Running.{IsRefreshed, Running, newest, next_by, opened, refresh_publishes, running, serial_in, serial_of, with_next}
 
 abbrev H : Type 0
 H = List (Entry Ask AdminReply)
@@ -195,3 +195,13 @@ opened_is admin turn seat service list start seat_is serves (f, viewed, listed) 
     ∙ ap (λ s. running admin s list) serves
     ∙ ap (running admin admin.state.plugin) listed
     ))
+
+-- ---- the newest publication
+
+-- what its engine decides by
+pub newest_facts : (list : List Publication) (seen : Running) (engine facts : Facts) → list ≡ seen.published → Ends list (λ p. engine ≡ p.facts) → facts ≡ engine
+    → option_map (λ (p : Publication). p.facts) (newest seen) ≡ Some facts
+newest_facts list seen engine facts same (p, last, is) copied =
+    ap (λ (l : List Publication). option_map (λ (p : Publication). p.facts) (slice_get l (length l - 1))) (sym same)
+    ∙ ap (option_map (λ (p : Publication). p.facts)) last
+    ∙ ap Some (sym (copied ∙ is))

@@ -1,17 +1,18 @@
 // An administration that is running, with what is published to its plugin.
-ghost use Rattle.std.specs.Prelude.{◌≡◌, Some, IfOk, length};
+ghost use Rattle.std.specs.Prelude.{◌≡◌, true, Some, IfOk, length, option_map};
 ghost use Rattle.std.specs.Str.{chars};
 ghost use Rattle.rg_admin.specs.Starting.{start_fault};
 ghost use Rattle.rg_engine.specs.Bounds.{TriesWithin, bound_on};
+ghost use Rattle.rg_facts.specs.Sound.{sound};
 ghost use Rattle.rg_machine.specs.Starts.{IsStart};
 ghost use Rattle.rg_machine.specs.Steps.{step};
 ghost use Rattle.rg_publish.specs.Passes.{Ends, decision_of};
-ghost use Rattle.rg_running.specs.Running.{IsRefreshed, asked, opened, opened_unless, serial_in};
+ghost use Rattle.rg_running.specs.Running.{IsRefreshed, asked, newest, opened, opened_unless, serial_in};
 
 use rg_admin::{Admin, StartFault};
 use rg_base::{Ledger, NoMemory, Serial, Steps};
 use rg_cmd::{AdminReply, Ask, Config};
-use rg_facts::Decision;
+use rg_facts::{Decision, Facts};
 use rg_policy::AccessRequest;
 use rg_publish::Pass;
 use rg_session::{Refresh, Refresher, Service, documents_lead, open, right_lists_stay_right};
@@ -152,6 +153,14 @@ impl<R: Wait + Drop> Running<R> {
             return Err(NoMemory);
         }
         Ok(decision)
+    }
+
+    /// A copy of the facts of the newest publication.
+    pub fn facts(&self, alloc: Global) -> Result<Facts, NoMemory>
+        ensures newest { IfOk result (λ facts. option_map (λ p. p.facts) (newest self.now) ≡ Some facts) }
+        ensures sound { IfOk result (λ facts. sound facts ≡ true) }
+    {
+        self.refresher.publisher.newest().facts(alloc)
     }
 
     /// The plugin's service.

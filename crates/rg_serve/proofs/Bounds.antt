@@ -2,9 +2,7 @@
 use Rattle.std.proofs.Common.{◌≡◌, ℕ, zero, suc, ◌+◌, ◌<◌, ◌≤◌, List, length, map, Some, slice_get, inl, inr, refl, arith}
 use Rattle.std.proofs.lemmas.List.{length-map}
 use Rattle.std.proofs.lemmas.Option.{slice_get_cases, slice_get_within}
-use mathlib.Core.List.{IsPrefix}
 use Rattle.rg_turn.specs.declared.rule.Entry.{Entry}
-use Rattle.rg_turn.proofs.Histories.{begins_length}
 use Rattle.rg_cmd.specs.declared.ask.AdminReply.{AdminReply}
 use Rattle.rg_cmd.specs.declared.ask.Ask.{Ask}
 use Rattle.rg_machine.specs.Logs.{Administration}
@@ -13,7 +11,6 @@ use Rattle.rg_machine.specs.World.{Parts}
 use Rattle.rg_machine.specs.World as world
 use Rattle.rg_publish.specs.declared.history.Publication.{Publication}
 use Rattle.rg_session.specs.Right.{AreRightFor, in_world}
-use Rattle.rg_serve.specs.Served.{ArePublished}
 
 stands : {A : Type 0} (xs : List A) (k : ℕ) → k < length xs → (x : A) × (slice_get xs k ≡ Some x)
 stands xs k lt = elim ((slice_get_cases xs k).1) [ inl there ↦ (there.0, there.2) | inr past ↦ absurd (omega (arith, lt, past.0)) ]
@@ -46,13 +43,3 @@ at_most start h list right =
     let plugin = start.state.plugin in
     let low = few (administration plugin) start h (map (in_world plugin) list) right in
     let many = length-map list (in_world plugin) in omega (arith, low, many)
-
-pub published : (start : Administration) (h : List (Entry Ask AdminReply)) (before list : List Publication) (number : ℕ) → IsPrefix before list → number ≡ length list → AreRightFor start h list
-    → ArePublished start h (length before) number
-published start h before list number more is right = record {
-  list = list;
-  right = right;
-  number_is = is;
-  more = omega (arith, begins_length before list more, is);
-  few = omega (arith, is, at_most start h list right);
-}

@@ -21,7 +21,6 @@ use Rattle.rg_publish.specs.Publications.{publication}
 use Rattle.rg_publish.specs.declared.history.Publication.{Publication}
 use Rattle.rg_publish.proofs.Lists.{get_last}
 use Rattle.rg_session.specs.Refreshing.{HasDownloaded, HasRefreshed, Publishes, is_unpublished}
-use Rattle.rg_session.specs.Right.{AreRightFor}
 use Rattle.rg_session.specs.declared.refresher.Refresh.{Refresh}
 use Rattle.rg_session.specs.declared.refresher.Refresh.TheVariants.{Unchanged, Published}
 use Rattle.rg_serve.specs.Held.{HasLast}
@@ -47,7 +46,7 @@ pub published_more : (n : ℕ) (facts : Facts) (before : List Publication) (refr
 published_more n facts before Unchanged after is = subst (λ (l : List Publication). IsPrefix before l) (sym is) (begins_self before)
 published_more n facts before (Published serial) after is = (publication serial.0 n facts ∷ [], sym is.1)
 
-same_self : (v : Versions) → same_versions v v ≡ true
+pub same_self : (v : Versions) → same_versions v v ≡ true
 same_self v = rw (eq-eqb v.policies.0 v.policies.0 refl, eq-eqb v.tags.0 v.tags.0 refl, eq-eqb v.roles.0 v.roles.0 refl) refl
 
 -- the newest publication has the versions of what the plugin sees
@@ -128,8 +127,8 @@ is_current start history list n past l begins whole =
 
 -- ---- what is held, where its parts are the same
 
-pub same_right : (x y : Administration) (history : H) (list : List Publication) → Some x ≡ Some y → AreRightFor x history list → AreRightFor y history list
-same_right x y history list same right = subst (λ (a : Administration). AreRightFor a history list) (same_Some x y same) right
+pub same_start : (Q : Administration → Type 0) (x y : Administration) → Some x ≡ Some y → Q x → Q y
+same_start Q x y same q = subst Q (same_Some x y same) q
 
 pub same_service : (history : H) (service service' : List ℕ) (before after : Seated) → service ≡ service' → Downloads history service before after → Downloads history service' before after
 same_service history service service' before after same d = subst (λ (s : List ℕ). Downloads history s before after) same d

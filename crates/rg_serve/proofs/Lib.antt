@@ -5,6 +5,9 @@ mod Counting
 mod Downloading
 mod Gathering
 mod Opening
+mod Passing
+mod Reaching
+mod Running
 mod Sent
 mod Standing
 mod Trailing

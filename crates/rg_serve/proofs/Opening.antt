@@ -23,13 +23,13 @@ use Rattle.rg_publish.specs.Passes.{Seeing, new_pass}
 use Rattle.rg_publish.specs.Publications.{Published as Shown, publication}
 use Rattle.rg_publish.specs.declared.history.Publication.{Publication}
 use Rattle.rg_session.specs.Refreshing.{HasDownloaded, HasRefreshed, Publishes}
-use Rattle.rg_session.specs.Right.{AreRightFor}
+use Rattle.rg_session.specs.Right.{AreDownloadedFor, AreRightFor}
 use Rattle.rg_session.specs.declared.refresher.Refresh.{Refresh}
 use Rattle.rg_serve.specs.Held.{IsFollowing, IsHeld, begun, held}
 use Rattle.rg_serve.specs.Opened.{IsAsked, IsRefreshed, Opened, opened}
 use Rattle.rg_serve.specs.Trails.{Downloads, Seated}
 use Rattle.rg_serve.proofs.Alls.{all_front, all_last}
-use Rattle.rg_serve.proofs.Downloading.{no_downloads, published_more, same_right}
+use Rattle.rg_serve.proofs.Downloading.{no_downloads, published_more, same_start}
 
 abbrev H : Type 0
 H = List (Entry Ask AdminReply)
@@ -74,8 +74,8 @@ module _ (workers : ℕ) (admin : Administration) (turn : TurnNow) (seat : Seate
   many = omega (arith, length-append rest (seat ∷ []), ap length all, length-replicate (workers + 1) unused)
 
   pub opened_held : (service : List ℕ) (p : Shown) (passes : List Seeing) → IsStart admin → (1 ≤ workers) × (workers ≤ 64) → turn.seats ≡ workers + 1 → service ≡ admin.state.plugin
-      → ((h : H) → AreRightFor admin h p.list) → (first : Publication) → p.list ≡ first ∷ [] → passes ≡ replicate workers (new_pass p) → IsHeld turn seat service p rest passes
-  opened_held service p passes starts some seats serves right first listed passes_are = record {
+      → ((h : H) → AreRightFor admin h p.list) → ((a : Administration) (h : H) (q : Publication) → AreDownloadedFor a h (q ∷ [])) → (first : Publication) → p.list ≡ first ∷ [] → passes ≡ replicate workers (new_pass p) → IsHeld turn seat service p rest passes
+  opened_held service p passes starts some seats serves right alone first listed passes_are = record {
     seated = ap (λ (s : Seated). s.turn) seat_unused;
     others = all_front IsUnused rest seat each_unused;
     all = omega (arith, many, seats);
@@ -86,6 +86,7 @@ module _ (workers : ℕ) (admin : Administration) (turn : TurnNow) (seat : Seate
     starts = subst IsStart (sym start) starts;
     serves = serves ∙ ap (λ (a : Administration). a.state.plugin) (sym start);
     right = subst (λ (a : Administration). AreRightFor a seat.history p.list) (sym start) (right seat.history);
+    made = subst (λ (l : List Publication). AreDownloadedFor turn.start seat.history l) (sym listed) (alone turn.start seat.history first);
     first = omega (arith, ap length listed);
     reads = subst (All (λ (q : Seeing). q ≡ new_pass (begun p))) (sym passes_are) (All-replicate (λ (q : Seeing). q ≡ new_pass (begun p)) workers (new_pass p) (ap new_pass (sym (begun_first p first listed))));
   }
@@ -188,8 +189,8 @@ module _ (before after : Seated) (service : List ℕ) (list list' : List Publica
   }
 
   pub refreshed_held : (p p' : Shown) (passes : List Seeing) → p.list ≡ list → p'.list ≡ list' → IsHeld turn before service p seats passes → (after.turn ≡ before.turn) × (p'.book ≡ p.book)
-      → (service' : List ℕ) → service' ≡ service → AreRightFor turn.start after.history p'.list → IsHeld turn after service' p' seats passes
-  refreshed_held p p' passes was is at same service' served right =
+      → (service' : List ℕ) → service' ≡ service → AreRightFor turn.start after.history p'.list → AreDownloadedFor turn.start after.history p'.list → IsHeld turn after service' p' seats passes
+  refreshed_held p p' passes was is at same service' served right made =
       let more : IsPrefix p.list p'.list = subst (λ (l : List Publication). IsPrefix l p'.list) (sym was) (subst (λ (l : List Publication). IsPrefix list l) (sym is) (published_more n has.present list refresh list' has.list)) in
       let stays = begun_stays p p' at.first same.1 more in record {
         seated = same.0 ∙ at.seated;
@@ -202,6 +203,7 @@ module _ (before after : Seated) (service : List ℕ) (list list' : List Publica
         starts = at.starts;
         serves = served ∙ at.serves;
         right = right;
+        made = made;
         first = omega (arith, at.first, begins_length p.list p'.list more);
         reads = subst (λ (b : Shown). All (λ (q : Seeing). q ≡ new_pass b) passes) (sym stays) at.reads;
       }
@@ -217,7 +219,8 @@ first_following t name opening p before seat list service seats passes started n
       seated = at.seated ∙ named;
       published_by = sym (ap (λ (o : Shown). o.book) opens);
       serves = λ x is. at.serves ∙ ap (λ (a : Administration). a.state.plugin) (same_Some t.start x (from x is));
-      right = λ x is. same_right t.start x seat.history p.list (from x is) at.right;
+      right = λ x is. same_start (λ (a : Administration). AreRightFor a seat.history p.list) t.start x (from x is) at.right;
+      made = λ x is. same_start (λ (a : Administration). AreDownloadedFor a seat.history p.list) t.start x (from x is) at.made;
       begins = subst (λ (s : Seated). IsPrefix s.history seat.history) begins (begins_self seat.history);
       more = subst (λ (l : List Publication). IsPrefix l p.list) lists (begins_self p.list);
       downloads = λ _. subst (λ (s : Seated). Downloads seat.history service s seat) begins (no_downloads seat.history service seat);

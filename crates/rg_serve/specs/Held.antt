@@ -16,7 +16,7 @@ use Rattle.rg_machine.specs.Views.{view}
 use Rattle.rg_publish.specs.Passes.{Seeing, new_pass}
 use Rattle.rg_publish.specs.Publications.{Published}
 use Rattle.rg_publish.specs.declared.history.Publication.{Publication}
-use Rattle.rg_session.specs.Right.{AreRightFor}
+use Rattle.rg_session.specs.Right.{AreDownloadedFor, AreRightFor}
 use Rattle.rg_serve.specs.Opened.{Opened}
 use Rattle.rg_serve.specs.Trails.{Downloads, Follow, IsWork, Seated, Session, Work, pass_of, seat_of, sessions_in}
 
@@ -28,8 +28,8 @@ held turn seat list seats = record { start = turn.start; history = seat.history;
 abbrev pub begun : Published → Published
 begun publisher = record { book = publisher.book; list = take 1 publisher.list }
 
--- the seat beside those of the workers is the turn's, what is published is right for its history, and the workers' seats and passes are as
--- they were at the opening
+-- the seat beside those of the workers is the turn's, what is published is right for its history and was made of downloads there, and the
+-- workers' seats and passes are as they were at the opening
 pub record IsHeld (turn : TurnValue Administration) (seat : Seated) (service : List ℕ) (publisher : Published) (seats : List Seated) (passes : List Seeing) : Type 0 where
   pub seated : seat.turn ≡ turn.turn
   pub others : All (λ (s : Seated). s ≡ new_seat turn.turn) seats
@@ -41,6 +41,7 @@ pub record IsHeld (turn : TurnValue Administration) (seat : Seated) (service : L
   pub starts : IsStart turn.start
   pub serves : service ≡ turn.start.state.plugin
   pub right : AreRightFor turn.start seat.history publisher.list
+  pub made : AreDownloadedFor turn.start seat.history publisher.list
   pub first : 1 ≤ length publisher.list
   pub reads : All (λ (p : Seeing). p ≡ new_pass (begun publisher)) passes
 
@@ -69,12 +70,14 @@ pub record AreWorked (turn : TurnName Administration) (opening : Published) (plu
   pub reads : All (λ (p : Seeing). p.book ≡ opening.book) passes
 
 -- the seat is of the named turn, the publisher is the named one, and what is published is right for the seat's history from where the turn
--- opened. Both go on from what is named, and unless memory was short the seat's calls since then are the plugin's downloads
+-- opened, and was made of downloads there. Both go on from what is named, and unless memory was short the seat's calls since then are the
+-- plugin's downloads
 pub record IsFollowing (turn : TurnName Administration) (book : Book) (before : Seated) (published : List Publication) (seat : Seated) (service : List ℕ) (publisher : Published) (is_short : Bool) : Type 0 where
   pub seated : seat.turn ≡ turn
   pub published_by : publisher.book ≡ book
   pub serves : (x : Administration) → turn.start ≡ Some x → service ≡ x.state.plugin
   pub right : (x : Administration) → turn.start ≡ Some x → AreRightFor x seat.history publisher.list
+  pub made : (x : Administration) → turn.start ≡ Some x → AreDownloadedFor x seat.history publisher.list
   pub begins : IsPrefix before.history seat.history
   pub more : IsPrefix published publisher.list
   pub downloads : is_short ≡ false → Downloads seat.history service before seat

@@ -1,6 +1,5 @@
 -- What serving links leaves. To be read after Trails.
-use Rattle.std.specs.Prelude.{◌≡◌, ◌≤◌, ◌<◌, ◌-◌, ℕ, ◌+◌, ◌++◌, ◌∷◌, [], List, length, slice_get, take, true, Some}
-use mathlib.Core.List.{IsPrefix}
+use Rattle.std.specs.Prelude.{◌≡◌, ◌<◌, ◌-◌, ℕ, ◌++◌, ◌∷◌, [], List, length, slice_get, take, true, Some}
 use Rattle.logbook.specs.Pages.{Book}
 use Rattle.rg_facts.specs.declared.facts.Facts.{Facts}
 use Rattle.rg_cmd.specs.declared.ask.AdminReply.{AdminReply}
@@ -12,9 +11,7 @@ use Rattle.rg_machine.specs.Logs.{Administration}
 use Rattle.rg_machine.specs.Machine.{Versions, download_ask, same_versions, versions}
 use Rattle.rg_machine.specs.Steps.{step}
 use Rattle.rg_machine.specs.Views.{view}
-use Rattle.rg_publish.specs.Publications.{Published}
 use Rattle.rg_publish.specs.declared.history.Publication.{Publication}
-use Rattle.rg_session.specs.Right.{AreRightFor}
 use Rattle.rg_serve.specs.Opened.{Opened}
 use Rattle.rg_serve.specs.Trails.{AreServed, Seated}
 use Rattle.rg_serve.specs.declared.serving.ServeFault.{ServeFault}
@@ -24,14 +21,6 @@ use Rattle.rg_serve.specs.declared.serving.ServeFault.TheVariants.{Failed, NoMem
 abbrev pub Counts : ServeFault → ℕ → ℕ → Type 0
 Counts Failed before after = before < after
 Counts NoMemory before after = after ≡ before
-
--- so many publications are right for the history: none was lost of those before, and there is at most one more than entries
-pub record ArePublished (start : Administration) (history : List (Entry Ask AdminReply)) (before : ℕ) (number : ℕ) : Type 0 where
-  pub list : List Publication
-  pub right : AreRightFor start history list
-  pub number_is : number ≡ length list
-  pub more : before ≤ number
-  pub few : number ≤ length history + 1
 
 -- the past ends with a download of the plugin, and the newest publication has the versions of what the plugin saw after all entries before it
 pub record IsCurrent (start : Administration) (past : List (Entry Ask AdminReply)) (list : List Publication) : Type 0 where
@@ -46,21 +35,12 @@ pub record IsCurrent (start : Administration) (past : List (Entry Ask AdminReply
   pub viewed : view (state_after step start before) start.state.plugin ≡ Some present
   pub current : same_versions (versions newest.facts) (versions present) ≡ true
 
--- one list of publications, which goes on from those before: it is right for the past, all decisions were by it, and its newest is current
-pub record IsEnded (turn : TurnName Administration) (opening : Published) (before : Seated) (published : List Publication) (start : Administration) (workers links : ℕ) (past : List (Entry Ask AdminReply)) (publications decisions : ℕ) : Type 0 where
-  pub list : List Publication
-  pub more : IsPrefix published list
-  pub number : publications ≡ length list
-  pub right : AreRightFor start past list
-  pub current : IsCurrent start past list
-  pub served : AreServed turn opening start.state.plugin before workers links past list decisions
-
--- the workers began with new seats of the turn, and with passes that had seen the first publication; the refresher began with the seat
--- through which the service was asked before
-pub record HasServed (o : Opened) (links : ℕ) (past : List (Entry Ask AdminReply)) (publications decisions : ℕ) : Type 0 where
+-- all decisions were by this list of publications. The workers began with new seats of the turn, and with passes that had seen the first
+-- publication; the refresher began with the seat through which the service was asked before
+pub record HasServed (o : Opened) (links : ℕ) (past : List (Entry Ask AdminReply)) (list : List Publication) (decisions : ℕ) : Type 0 where
   pub turn : TurnName Administration
   pub book : Book
   pub refresher : Seated
   pub history : refresher.history ≡ o.history
   pub calls : length refresher.calls ≡ o.calls
-  pub ended : IsEnded turn (record { book = book; list = take 1 o.published }) refresher o.published o.start o.workers links past publications decisions
+  pub served : AreServed turn (record { book = book; list = take 1 o.published }) o.start.state.plugin refresher o.workers links past list decisions

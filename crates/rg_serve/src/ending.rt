@@ -4,9 +4,9 @@ ghost use mathlib.Core.List.{IsPrefix};
 ghost use Rattle.rg_machine.specs.Starts.{IsStart};
 ghost use Rattle.rg_machine.specs.Steps.{step};
 ghost use Rattle.rg_turn.specs.History.{IsLegal, state_after};
-ghost use Rattle.rg_session.specs.Right.{AreRightFor};
+ghost use Rattle.rg_session.specs.Right.{AreDownloadedFor, AreRightFor};
 ghost use Rattle.rg_serve.specs.Held.{AreWorked};
-ghost use Rattle.rg_serve.specs.Served.{IsEnded};
+ghost use Rattle.rg_serve.specs.Served.{IsCurrent};
 ghost use Rattle.rg_serve.specs.Trails.{AreServed, Downloads};
 
 use crate::following::Following;
@@ -16,7 +16,7 @@ use crate::places::{Place, add};
 use rg_admin::Admin;
 use rg_base::NoMemory;
 use rg_publish::{Pass, Publisher};
-use rg_session::{Totals, close};
+use rg_session::{Totals, close, downloaded_lists_stay};
 use rg_turn::{Seat, Turn};
 use std::alloc::Global;
 use std::sync::ledger::Share;
@@ -85,14 +85,18 @@ fn settle<J: Naming, R: Wait + Drop>(
     requires all { length seats.items + 1 ≡ turn.seats }
     requires worked { AreWorked J.turn J.opening J.plugin seats.items passes.items links }
     requires right { AreRightFor turn.start seat.history publisher.list }
+    requires made { AreDownloadedFor turn.start seat.history publisher.list }
     requires downloads { Downloads seat.history J.plugin J.before seat }
     ensures legal { IfOk result (λ t. (t.past.start ≡ Some turn.start) × IsLegal step turn.start t.past.history) }
     ensures admin { IfOk result (λ t. t.admin ≡ state_after step turn.start t.past.history) }
     ensures begins { IfOk result (λ t. IsPrefix seat.history t.past.history) }
     ensures right { IfOk result (λ t. AreRightFor turn.start t.past.history publisher.list) }
-    ensures publications { IfOk result (λ t. t.publications ≡ length publisher.list) }
+    ensures made { IfOk result (λ t. AreDownloadedFor turn.start t.past.history publisher.list) }
+    ensures published { IfOk result (λ t.
+        (t.published ≡ publisher) × (t.publications ≡ length publisher.list)) }
     ensures served { IfOk result (λ t. AreServed J.turn J.opening J.plugin J.before (length seats.items) links t.past.history publisher.list t.decisions) }
 {
+    downloaded_lists_stay();
     let mut seats = seats;
     add(&mut seats, seat)?;
     match close(alloc, publisher, passes, turn, seats) {
@@ -123,7 +127,14 @@ pub(crate) fn end<J: Naming, R: Wait + Drop, W: Wait>(
     ensures admin { IfOk result (λ t. t.admin ≡ state_after step turn.start t.past.history) }
     ensures entries { IfOk result (λ t. length J.before.history + 1 ≤ length t.past.history) }
     ensures begins { IfOk result (λ t. IsPrefix J.before.history t.past.history) }
-    ensures ended { IfOk result (λ t. IsEnded J.turn J.opening J.before J.published turn.start (length places.items) links t.past.history t.publications t.decisions) }
+    ensures published { IfOk result (λ t.
+        IsPrefix J.published t.published.list × (t.publications ≡ length t.published.list)) }
+    ensures right { IfOk result (λ t. AreRightFor turn.start t.past.history t.published.list) }
+    ensures made { IfOk result (λ t. AreDownloadedFor turn.start t.past.history t.published.list) }
+    ensures current { IfOk result (λ t. IsCurrent turn.start t.past.history t.published.list) }
+    ensures served { IfOk result (λ t.
+        AreServed J.turn J.opening turn.start.state.plugin J.before (length places.items) links
+        t.past.history t.published.list t.decisions) }
 {
     let (publisher, seat, entries) = following.into_inner().finish(rt, alloc, &turn)?;
     let (seats, passes) = gather_all(alloc, places, counted)?;

@@ -2,7 +2,7 @@
 ghost use Rattle.std.specs.Prelude.{◌≡◌, ◌≤◌, ◌+◌, false, length, IfOk};
 ghost use mathlib.Core.List.{IsPrefix};
 ghost use Rattle.rg_machine.specs.Starts.{IsStart};
-ghost use Rattle.rg_session.specs.Right.{AreRightFor};
+ghost use Rattle.rg_session.specs.Right.{AreDownloadedFor, AreRightFor};
 ghost use Rattle.rg_serve.specs.Held.{HasLast, IsFollowing};
 ghost use Rattle.rg_serve.specs.Trails.{Downloads};
 
@@ -75,6 +75,7 @@ impl<J: Naming, R: Wait + Drop> Following<J, R> {
         requires { (turn.now.turn ≡ J.turn) × IsStart turn.now.start }
         ensures same { IfOk result (λ t. (t.1.turn ≡ J.turn) × (t.0.book ≡ J.opening.book)) }
         ensures right { IfOk result (λ t. AreRightFor turn.now.start t.1.history t.0.list) }
+        ensures made { IfOk result (λ t. AreDownloadedFor turn.now.start t.1.history t.0.list) }
         ensures begins { IfOk result (λ t. IsPrefix J.before.history t.1.history) }
         ensures longer { IfOk result (λ t. length J.before.history + 1 ≤ length t.1.history) }
         ensures more { IfOk result (λ t. IsPrefix J.published t.0.list) }

@@ -4,6 +4,7 @@
 mod ending;
 mod following;
 mod given;
+mod laws;
 mod naming;
 mod opened;
 mod places;
@@ -12,5 +13,6 @@ mod sessions;
 mod threads;
 
 pub use ending::Served;
+pub use laws::ends_are_runs;
 pub use opened::Opened;
 pub use serving::{ServeFault, serve};

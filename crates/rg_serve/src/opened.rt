@@ -8,7 +8,9 @@ use rg_admin::{Admin, StartFault};
 use rg_base::{NoMemory, Steps};
 use rg_cmd::{AdminReply, Ask, Config};
 use rg_publish::Pass;
-use rg_session::{Refresh, Refresher, Service, open, right_lists_stay_right};
+use rg_session::{
+    Refresh, Refresher, Service, downloaded_lists_stay, open, right_lists_stay_right,
+};
 use rg_turn::laws::one_more_entry;
 use rg_turn::{Seat, Turn};
 use std::alloc::Global;
@@ -66,6 +68,7 @@ impl<R: Wait + Drop> Opened<R> {
         ensures opened { IfOk result (λ o. opened workers admin ≡ Some o) }
         ensures workers { IfOk result (λ o. o.workers ≡ workers) }
     {
+        downloaded_lists_stay();
         let Service {
             turn,
             mut seats,
@@ -89,6 +92,7 @@ impl<R: Wait + Drop> Opened<R> {
         ensures { IfOk result (λ reply. IsAsked self.old ask reply self.new) }
     {
         right_lists_stay_right();
+        downloaded_lists_stay();
         one_more_entry::<Admin>();
         match self.turn.call(rt, alloc, &mut self.seat, ask) {
             Ok(reply) => return Ok(reply),

@@ -6,7 +6,9 @@ ghost use Rattle.rg_machine.specs.Starts.{IsStart};
 ghost use Rattle.rg_machine.specs.Steps.{step};
 ghost use Rattle.rg_turn.specs.History.{IsLegal, state_after};
 ghost use Rattle.rg_serve.specs.Held.{IsHeld, begun};
-ghost use Rattle.rg_serve.specs.Served.{ArePublished, Counts, HasServed, IsEnded};
+ghost use Rattle.rg_session.specs.Right.{AreDownloadedFor, AreRightFor};
+ghost use Rattle.rg_serve.specs.Served.{Counts, HasServed, IsCurrent};
+ghost use Rattle.rg_serve.specs.Trails.{AreServed};
 
 use crate::ending::{Served, end};
 use crate::following::{Follower, Following};
@@ -155,7 +157,18 @@ fn serve_named<
     ensures admin { IfOk result (λ s. s.totals.admin ≡ state_after step turn.start s.totals.past.history) }
     ensures entries { IfOk result (λ s. length J.before.history + 1 ≤ length s.totals.past.history) }
     ensures begins { IfOk result (λ s. IsPrefix J.before.history s.totals.past.history) }
-    ensures ended { IfOk result (λ s. IsEnded J.turn J.opening J.before J.published turn.start (length seats.items) s.links s.totals.past.history s.totals.publications s.totals.decisions) }
+    ensures published { IfOk result (λ s.
+        IsPrefix J.published s.totals.published.list
+        × (s.totals.publications ≡ length s.totals.published.list)) }
+    ensures right { IfOk result (λ s.
+        AreRightFor turn.start s.totals.past.history s.totals.published.list) }
+    ensures made { IfOk result (λ s.
+        AreDownloadedFor turn.start s.totals.past.history s.totals.published.list) }
+    ensures current { IfOk result (λ s.
+        IsCurrent turn.start s.totals.past.history s.totals.published.list) }
+    ensures served { IfOk result (λ s.
+        AreServed J.turn J.opening turn.start.state.plugin J.before (length seats.items) s.links
+        s.totals.past.history s.totals.published.list s.totals.decisions) }
     ensures faults { MatchResult result (λ _. N.faults net.new ≡ N.faults net.old) (λ f. Counts f (N.faults net.old) (N.faults net.new)) }
 {
     let (book, mut mine) = blank.open::<J>();
@@ -222,10 +235,20 @@ pub fn serve<
     ensures admin { IfOk result (λ s. s.totals.admin ≡ state_after step opened.start s.totals.past.history) }
     ensures entries { IfOk result (λ s. length opened.history + 1 ≤ length s.totals.past.history) }
     ensures begins { IfOk result (λ s. IsPrefix opened.history s.totals.past.history) }
-    // What was published is right for it.
-    ensures published { IfOk result (λ s. ArePublished opened.start s.totals.past.history (length opened.published) s.totals.publications) }
-    // Each link had one session, each entry is one call, each decision is by one publication, and the newest publication is current.
-    ensures served { IfOk result (λ s. HasServed opened s.links s.totals.past.history s.totals.publications s.totals.decisions) }
+    // One list of publications goes on from those before. It is right for the past, each but the first was made of a download from the
+    // one before, and the newest is current.
+    ensures published { IfOk result (λ s. IsPrefix opened.published s.totals.published.list) }
+    ensures number { IfOk result (λ s. s.totals.publications ≡ length s.totals.published.list) }
+    ensures few { IfOk result (λ s. s.totals.publications ≤ length s.totals.past.history + 1) }
+    ensures right { IfOk result (λ s.
+        AreRightFor opened.start s.totals.past.history s.totals.published.list) }
+    ensures made { IfOk result (λ s.
+        AreDownloadedFor opened.start s.totals.past.history s.totals.published.list) }
+    ensures current { IfOk result (λ s.
+        IsCurrent opened.start s.totals.past.history s.totals.published.list) }
+    // Each link had one session, each entry is one call, and each decision is by a publication of the list.
+    ensures served { IfOk result (λ s.
+        HasServed opened s.links s.totals.past.history s.totals.published.list s.totals.decisions) }
     ensures faults { MatchResult result (λ _. N.faults net.new ≡ N.faults net.old) (λ f. Counts f (N.faults net.old) (N.faults net.new)) }
 {
     let Opened {

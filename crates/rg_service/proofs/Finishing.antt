@@ -1,9 +1,12 @@
 -- From the parts of a run of `serve` to the whole.
-use Rattle.std.proofs.Common.{◌≡◌, ◌∙◌, ◌<◌, ◌+◌, ◌++◌, ℕ, zero, suc, true, false, List, [], ◌∷◌, length, take, Option, Some, None, append_assoc, append-nil, zero-add, arith, inl, inr, refl, ap, sym, subst}
+use Rattle.std.proofs.Common.{◌≡◌, ◌∙◌, ◌<◌, ◌≤◌, ◌+◌, ◌++◌, ℕ, zero, suc, true, false, List, [], ◌∷◌, length, take, Option, Some, None, append_assoc, append-nil, zero-add, arith, inl, inr, refl, ap, sym, subst}
 use Rattle.rg_base.specs.declared.numbers.Moment.{Moment}
 use Rattle.rg_turn.specs.History.{IsLegal}
+use Rattle.rg_turn.proofs.Histories.{begins_length}
 use Rattle.rg_machine.specs.Steps.{step}
+use Rattle.rg_session.specs.Right.{AreDownloadedFor, AreRightFor}
 use Rattle.rg_serve.specs.Opened.{Opened}
+use Rattle.rg_serve.specs.Served.{IsCurrent}
 use Rattle.rg_work.specs.declared.status.Status.{Status}
 use Rattle.rg_work.specs.declared.status.Status.TheVariants.{Done, Usage, BadLine, ReadFault, WriteFault, NetFault, TooLong, KeepFault, NoMemory, BadRecord}
 use Rattle.rg_work.specs.Follow.{Output}
@@ -112,6 +115,9 @@ module _ (most workers : ℕ) (d e : Door) (p q : Ports) (now : Option (List Mom
   stopped KeepFault net held writes = absurd net
   stopped BadRecord net held writes = absurd net
 
+  no_fewer : (t : Numbers) → AreServed most o d e t → length o.published ≤ t.publications
+  no_fewer t served = omega (arith, begins_length o.published served.list served.published, served.number)
+
   totals : (t : Numbers) → AreServed most o d e t → AreTotals most workers a d e t
   totals t served = record {
     given = served.given;
@@ -123,11 +129,17 @@ module _ (most workers : ℕ) (d e : Door) (p q : Ports) (now : Option (List Mom
     counts = served.counts;
     legal = subst (λ x. IsLegal step x served.past) ready.opens.start served.legal;
     begins = served.begins;
+    list = served.list;
+    number = served.number;
+    published = served.published;
+    right = subst (λ x. AreRightFor x served.past served.list) ready.opens.start served.right;
+    made = subst (λ x. AreDownloadedFor x served.past served.list) ready.opens.start served.made;
+    current = subst (λ x. IsCurrent x served.past served.list) ready.opens.start served.current;
     served = served.served;
     entries = omega (arith, ready.entries, served.entries);
     few = served.few;
-    some = omega (arith, ready.some, served.more);
-    raised = λ raised. omega (arith, ready.raised raised, served.more);
+    some = omega (arith, ready.some, no_fewer t served);
+    raised = λ raised. omega (arith, ready.raised raised, no_fewer t served);
   }
 
   pub finished : (last told : List ℕ) → TellsTotals most o d e last → told ≡ last → Wrote mid q.held told → q.write_faults ≡ p.write_faults → IsRun (ServesLinks most workers d e) p q Done

@@ -6,8 +6,10 @@ use Rattle.rg_cmd.specs.declared.ask.Ask.{Ask}
 use Rattle.rg_turn.specs.History.{IsLegal}
 use Rattle.rg_turn.specs.declared.rule.Entry.{Entry}
 use Rattle.rg_machine.specs.Steps.{step}
+use Rattle.rg_publish.specs.declared.history.Publication.{Publication}
+use Rattle.rg_session.specs.Right.{AreDownloadedFor, AreRightFor}
 use Rattle.rg_serve.specs.Opened.{Opened}
-use Rattle.rg_serve.specs.Served.{HasServed}
+use Rattle.rg_serve.specs.Served.{HasServed, IsCurrent}
 use Rattle.rg_work.specs.declared.status.Status.{Status}
 use Rattle.rg_work.specs.declared.status.Status.TheVariants.{NetFault, NoMemory}
 use Rattle.rg_service.specs.Serve.{Door, Numbers, totals_line}
@@ -20,10 +22,15 @@ pub record AreServed (most : ℕ) (o : Opened) (d e : Door) (t : Numbers) : Type
   pub counts : t.entries ≡ length past
   pub legal : IsLegal step o.start past
   pub begins : IsPrefix o.history past
-  pub served : HasServed o t.links past t.publications t.decisions
+  pub list : List Publication
+  pub number : t.publications ≡ length list
+  pub published : IsPrefix o.published list
+  pub right : AreRightFor o.start past list
+  pub made : AreDownloadedFor o.start past list
+  pub current : IsCurrent o.start past list
+  pub served : HasServed o t.links past list t.decisions
   pub entries : length o.history + 1 ≤ t.entries
   pub few : t.publications ≤ t.entries + 1
-  pub more : length o.published ≤ t.publications
   pub faults : e.faults ≡ d.faults
 
 abbrev pub TellsTotals : ℕ → Opened → Door → Door → List ℕ → Type 0

@@ -16,8 +16,10 @@ use Rattle.rg_machine.specs.Machine.{Versions, download_ask, same_versions, vers
 use Rattle.rg_machine.specs.Steps.{step}
 use Rattle.rg_machine.specs.Views.{view}
 use Rattle.rg_admin.specs.Starting.{start_fault, started}
+use Rattle.rg_publish.specs.declared.history.Publication.{Publication}
+use Rattle.rg_session.specs.Right.{AreDownloadedFor, AreRightFor}
 use Rattle.rg_serve.specs.Opened.{Opened}
-use Rattle.rg_serve.specs.Served.{HasServed}
+use Rattle.rg_serve.specs.Served.{HasServed, IsCurrent}
 use Rattle.rg_script.specs.declared.line.Line.{Line}
 use Rattle.rg_script.specs.declared.line.Line.TheVariants as line
 use Rattle.rg_script.specs.Line.{line_of}
@@ -147,9 +149,9 @@ pub record IsOpened (a : Asked) (o : Opened) : Type 0 where
 
 -- The links are those that the listener gave, and they are as many as were asked for, or the listener has ended. The entries are the asks,
 -- the two refreshes, and what the links asked. Each publication but the first came after an entry, and what the asks raised was published.
--- The numbers are those of the service that was opened, when it was closed: of its whole history, which is legal from the start, of its
--- publications, and of the decisions of its links. Each link had one session of one worker, and none of them was short of memory, as
--- `HasServed` says
+-- The numbers are those of the service that was opened, when it was closed: of its whole history, which is legal from the start, of its list
+-- of publications, which is right for that and was made of its downloads, and of the decisions of its links. Each link had one session of
+-- one worker, and none of them was short of memory, as `HasServed` says
 pub record AreTotals (most workers : ℕ) (a : Asked) (d e : Door) (t : Numbers) : Type 0 where
   pub given : e.given ≡ d.given + t.links
   pub all : (t.links ≤ most) × ((t.links ≡ most) ⊎ (e.ended ≡ true))
@@ -160,7 +162,13 @@ pub record AreTotals (most workers : ℕ) (a : Asked) (d e : Door) (t : Numbers)
   pub counts : t.entries ≡ length past
   pub legal : IsLegal step a.start past
   pub begins : IsPrefix opened.history past
-  pub served : HasServed opened t.links past t.publications t.decisions
+  pub list : List Publication
+  pub number : t.publications ≡ length list
+  pub published : IsPrefix opened.published list
+  pub right : AreRightFor a.start past list
+  pub made : AreDownloadedFor a.start past list
+  pub current : IsCurrent a.start past list
+  pub served : HasServed opened t.links past list t.decisions
   pub entries : length a.asks + 2 ≤ t.entries
   pub few : t.publications ≤ t.entries + 1
   pub some : 1 ≤ t.publications

@@ -1,4 +1,5 @@
 mod Deltas
+mod Downloaded
 mod Refreshed
 mod Rights
 mod Settled

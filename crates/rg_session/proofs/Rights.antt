@@ -23,7 +23,7 @@ abbrev pub H : Type 0
 H = List (Entry Ask AdminReply)
 
 -- an item of a list that has grown by one is an old one or the last
-at_more : {X : Type 0} (xs : List X) (x y : X) (n : ℕ) → slice_get (xs ++ x ∷ []) n ≡ Some y → (slice_get xs n ≡ Some y) ⊎ ((n ≡ length xs) × (x ≡ y))
+pub at_more : {X : Type 0} (xs : List X) (x y : X) (n : ℕ) → slice_get (xs ++ x ∷ []) n ≡ Some y → (slice_get xs n ≡ Some y) ⊎ ((n ≡ length xs) × (x ≡ y))
 at_more [] x y zero h = inr (refl, same_Some x y h)
 at_more [] x y (suc n) h = absurd (none-some y h)
 at_more (z ∷ xs) x y zero h = inl h

@@ -12,7 +12,7 @@ use crate::laws::right_lists_stay_right;
 use crate::settling::{Ahead, decisions_of, first_ahead, settle_all};
 use rg_admin::Admin;
 use rg_base::NoMemory;
-use rg_publish::{Pass, Publisher};
+use rg_publish::{Pass, Publications, Publisher};
 use rg_turn::{Past, Seat, Turn};
 use std::alloc::Global;
 use std::sync::Wait;
@@ -23,6 +23,8 @@ pub struct Totals {
     /// The administration after the whole history.
     pub admin: Admin,
     pub past: Past<Admin>,
+    /// All that was published.
+    pub published: Publications,
     /// How many publications there were.
     pub publications: u64,
     /// How often the passes answered; it stays at its last value.
@@ -66,6 +68,7 @@ pub fn close<R: Wait + Drop>(
     ensures admin { IfOk result (λ t. t.admin ≡ state_after step turn.start t.past.history) }
     ensures begins { IfOk result (λ t. All (λ s. IsPrefix s.history t.past.history) seats.items) }
     ensures once { IfOk result (λ t. (p : ℕ) → calls_at p seats.items ≡ once_below p (length t.past.history)) }
+    ensures published { IfOk result (λ t. t.published ≡ publisher) }
     ensures publications { IfOk result (λ t. t.publications ≡ length publisher.list) }
     ensures decisions { IfOk result (λ t. t.decisions ≡ answers_of passes.items) }
     ensures ahead { IfOk result (λ t. t.ahead ≡ ahead_of (length publisher.list) passes.items) }
@@ -74,6 +77,7 @@ pub fn close<R: Wait + Drop>(
 {
     right_lists_stay_right();
     let decisions = decisions_of(passes.as_slice());
+    let published = publisher.publications();
     let publications = publisher.serial().0;
     let ahead = match compare(&publisher, passes) {
         Ok(ahead) => ahead,
@@ -84,6 +88,7 @@ pub fn close<R: Wait + Drop>(
         Ok((admin, past)) => Ok(Totals {
             admin,
             past,
+            published,
             publications,
             decisions,
             ahead,

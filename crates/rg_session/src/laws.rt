@@ -17,7 +17,7 @@ ghost use Rattle.rg_machine.specs.Views.{view};
 ghost use Rattle.rg_publish.specs.Publications.{publication};
 ghost use Rattle.rg_publish.specs.declared.history.Publication.{Publication};
 ghost use Rattle.rg_session.specs.Documents.{Leads};
-ghost use Rattle.rg_session.specs.Right.{AreRightFor};
+ghost use Rattle.rg_session.specs.Right.{AreDownloadedFor, AreRightFor};
 
 use rg_admin::Admin;
 use rg_machine::{
@@ -39,6 +39,15 @@ pub fn right_lists_stay_right()
 {
     publications_stay_right();
 }
+
+/// Publications that were made of downloads of a history are so as it goes on, and so is a first one.
+pub fn downloaded_lists_stay()
+    ensures first { (start : Administration) (h : List (Entry Ask AdminReply)) (p : Publication)
+        → AreDownloadedFor start h (p ∷ []) }
+    ensures later { (start : Administration) (h later : List (Entry Ask AdminReply))
+        (list : List Publication) → IsPrefix h later
+        → AreDownloadedFor start h list → AreDownloadedFor start later list }
+{}
 
 /// No rule refuses the plugin's download: its reply is a document.
 pub(crate) fn documents_come()

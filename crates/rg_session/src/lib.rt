@@ -12,7 +12,7 @@ mod settling;
 
 pub use bell::Bell;
 pub use closing::{Totals, close};
-pub use laws::{documents_lead, first_is_right, right_lists_stay_right};
+pub use laws::{documents_lead, downloaded_lists_stay, first_is_right, right_lists_stay_right};
 pub use opening::{Service, open};
 pub use refresher::{Refresh, Refresher};
 pub use settling::Ahead;

@@ -6,10 +6,10 @@ ghost use Rattle.rg_publish.specs.Passes.{Ends};
 ghost use Rattle.rg_publish.specs.declared.history.Publication.{Publication};
 ghost use Rattle.rg_session.specs.Documents.{IsFit, Takes};
 ghost use Rattle.rg_session.specs.Refreshing.{HasDownloaded, HasRefreshed, IsWithin, KeepsBounds, is_partial};
-ghost use Rattle.rg_session.specs.Right.{AreRightFor};
+ghost use Rattle.rg_session.specs.Right.{AreDownloadedFor, AreRightFor};
 
 use crate::document::{document, is_unchanged};
-use crate::laws::one_more_is_right;
+use crate::laws::{downloaded_lists_stay, one_more_is_right};
 use crate::leading::lead;
 use rg_admin::Admin;
 use rg_base::{Ledger, NoMemory, Serial, Steps, Text};
@@ -87,11 +87,14 @@ impl<R: Wait + Drop> Refresher<R> {
         ensures right { AreRightFor turn.now.start seat.new.history self.new.publisher.list }
         ensures downloaded { IfOk result (λ r. HasDownloaded seat.old self.old.service self.old.publisher.list seat.new self.new.seq) }
         ensures refreshed { IfOk result (λ r. HasRefreshed turn.now.start seat.new.history self.new.seq self.old.publisher.list r self.new.publisher.list) }
+        ensures made { AreDownloadedFor turn.now.start seat.old.history self.old.publisher.list
+            → AreDownloadedFor turn.now.start seat.new.history self.new.publisher.list }
         ensures refused { OnErr result ((self.new.publisher.list ≡ self.old.publisher.list) × (self.new.seq ≡ self.old.seq)) }
         ensures tries { steps.new.tries ≡ steps.old.tries }
         ensures work { KeepsBounds seat.new.history self.old.publisher.list steps.old steps.new }
     {
         one_more_is_right();
+        downloaded_lists_stay();
         let document = match document(rt, alloc, turn, seat, &self.publisher, &self.service) {
             Ok(document) => document,
             Err(NoMemory) => return Err(NoMemory),

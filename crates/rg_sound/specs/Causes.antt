@@ -13,9 +13,9 @@ use Rattle.rg_roles.specs.Faults.{fault_of}
 use Rattle.rg_roles.specs.Members.{names_of}
 use Rattle.rg_tags.specs.Rules.{tags_fit}
 use Rattle.rg_tags.specs.declared.row.TagRow.{TagRow}
-use Rattle.rg_zones.specs.Overlap.{first_overlap}
-use Rattle.rg_zones.specs.Rules.{listing_fits, policy_zone_fits, subjects_exist, tag_policy_zone_fits, zone_levels_fit, zone_values_fit}
-use Rattle.rg_zones.specs.declared.row.ZoneRow.{ZoneRow}
+use Rattle.rg_zone_rules.specs.Overlap.{first_overlap}
+use Rattle.rg_zone_rules.specs.Rules.{listing_fits, policy_zone_fits, subjects_exist, tag_policy_zone_fits, zone_levels_fit, zone_values_fit}
+use Rattle.rg_zone_rules.specs.declared.row.ZoneRow.{ZoneRow}
 use Rattle.rg_effect.specs.PolicyRules.{subjects_fit}
 use Rattle.rg_evalr.specs.Compiling.{policy_fault}
 use Rattle.rg_evalr.specs.declared.frame.Frame.{Frame}

@@ -18,8 +18,8 @@ ghost use Rattle.rg_roles.specs.Faults.{fault_of};
 ghost use Rattle.rg_roles.specs.Members.{names_of};
 ghost use Rattle.rg_tags.specs.Rules.{tags_fit};
 ghost use Rattle.rg_tags.specs.declared.row.TagRow.{TagRow};
-ghost use Rattle.rg_zones.specs.Overlap.{first_overlap};
-ghost use Rattle.rg_zones.specs.Rules.{all_maps_fit, listing_fits, policy_zone_fits, subjects_exist, tag_policy_zone_fits, zone_levels_fit, zone_values_fit};
+ghost use Rattle.rg_zone_rules.specs.Overlap.{first_overlap};
+ghost use Rattle.rg_zone_rules.specs.Rules.{all_maps_fit, listing_fits, policy_zone_fits, subjects_exist, tag_policy_zone_fits, zone_levels_fit, zone_values_fit};
 ghost use Rattle.rg_sound.specs.Causes.{def_causes, faulty, first_cause, first_faulty, first_some, first_tag_row, first_zone, later_causes, policy_causes, role_causes, rule_cause, tag_def_causes, tag_policies_cause, tag_row_causes, unless, zone_causes, zone_name_causes};
 ghost use Rattle.rg_sound.specs.declared.unsound.Unsound.TheVariants as unsound;
 
@@ -35,10 +35,11 @@ use rg_policy::{Policy, TimeZoneRow};
 use rg_resmatch::tagged_fit;
 use rg_roles::role_fault;
 use rg_tags::{TagRow, tags_fit};
-use rg_zones::{
-    ZoneRow, listing_fits, overlapping, policy_zone_fits, subjects_exist, tag_policy_zone_fits,
-    zone_levels_fit, zone_values_fit,
+use rg_zone_rules::{
+    ZoneRow, listing_fits, policy_zone_fits, subjects_exist, tag_policy_zone_fits, zone_levels_fit,
+    zone_values_fit,
 };
+use rg_zones::overlapping;
 use std::alloc::Global;
 
 /// The greatest version that facts may have.

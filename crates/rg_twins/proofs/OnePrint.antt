@@ -1,4 +1,4 @@
--- Maps that are the same have the same print.
+-- Maps that are the same have the same print, and so have names.
 use Rattle.std.proofs.Common.{◌≡◌, ◌++◌, ◌/◌, ◌^◌, ◌⊎◌, ℕ, zero, suc, true, List, [], ◌∷◌, flat_map, map, max, Contains, arith, refl, ap, sym, ◌∙◌, inl, inr}
 use Rattle.std.specs.List.{list_any}
 use Rattle.std.specs.Str.{bytes_eq}
@@ -6,10 +6,11 @@ use Rattle.std.proofs.lemmas.Bool.{and_parts}
 use Rattle.std.proofs.lemmas.Slice.Eq.{bytes_eq-Decides}
 use Rattle.rg_base.proofs.Lists.{Contains-cases, Contains-first, Contains-flat_map, Contains-flat_mapped, Contains-later, Contains-map, Contains-mapped, Contains-none, Contains-same, all_holds, among_holds, any_holds}
 use Rattle.rg_base.specs.Texts.{is_among}
+use Rattle.rg_policy.specs.declared.policy.Policy.{Policy}
 use Rattle.rg_policy.specs.declared.policy.PolicyResource.{PolicyResource}
 use Rattle.rg_policy.specs.declared.policy.ResourceMap.{ResourceMap}
-use Rattle.rg_twins.specs.Prints.{hash_from, marked, no_marks, print_of, raised_mark, with_levels, with_maps, with_texts}
-use Rattle.rg_twins.specs.Twins.{each_among, each_map_in, each_resource_in, has_map, same_flag, same_levels, same_maps, same_resource}
+use Rattle.rg_twins.specs.Prints.{ended, hash_from, marked, name_print_of, no_marks, print_of, raised_mark, with_levels, with_maps, with_texts}
+use Rattle.rg_twins.specs.Twins.{each_among, each_map_in, each_resource_in, has_map, same_flag, same_levels, same_maps, same_place, same_resource}
 
 -- ---- marks
 
@@ -133,4 +134,15 @@ unfolding print_of
 one_print maps others same =
     let both = and_parts (each_map_in maps others) (each_map_in others maps) same in
     let marks = maps_hashes no_marks maps ∙ one_set no_marks (flat_map hashes_in maps) (flat_map hashes_in others) (hash_in maps others both.0) (hash_in others maps both.1) ∙ sym (maps_hashes no_marks others) in
-    ap (λ (ms : List ℕ). hash_from 1 ms / 2 ^ 46) marks
+    ap (λ (ms : List ℕ). hash_from 1 ms) marks
+
+-- ---- names
+
+pub one_name_print : (p q : Policy) → bytes_eq q.name p.name ≡ true → same_place p q ≡ true → name_print_of p ≡ name_print_of q
+unfolding name_print_of
+one_name_print p q named placed =
+    let both = and_parts (bytes_eq q.service p.service) (bytes_eq q.zone p.zone) placed in
+    let service : p.service ≡ q.service = sym ((bytes_eq-Decides q.service p.service).0 both.0) in
+    let zone : p.zone ≡ q.zone = sym ((bytes_eq-Decides q.zone p.zone).0 both.1) in
+    let name : p.name ≡ q.name = sym ((bytes_eq-Decides q.name p.name).0 named) in
+    λ i. hash_from (ended (hash_from (ended (hash_from 1 (service i))) (zone i))) (name i)

@@ -1,36 +1,40 @@
--- How many policies have each print, where that isn't lost.
-use Rattle.std.specs.Prelude.{ℕ, ◌≤◌, ◌<◌, ◌+◌, ◌-◌, ◌==◌, ◌^◌, List, min, get_or, slice_set, if◌then◌else◌}
+-- How many policies have each print.
+use Rattle.std.specs.Prelude.{◌≡◌, ℕ, ◌+◌, ◌-◌, ◌==◌, Bool, List, if◌then◌else◌, unwrap_or}
+use Rattle.std.specs.BTreeMap.{is_at}
 use Rattle.std.specs.List.{sum_by}
-use Rattle.rg_policy.specs.Maps.{maps_of}
+use Rattle.std.specs.Map.{lookup}
+use Rattle.std.specs.Ordering.{nat_cmp}
 use Rattle.rg_policy.specs.declared.policy.Policy.{Policy}
-use Rattle.rg_twins.specs.Prints.{print_of}
+use Rattle.rg_twins.specs.Prints.{prints_of}
+use Rattle.rg_twins.specs.declared.prints.Prints.{Prints}
 
--- what stands for a number that is lost
-abbrev pub lost : ℕ
-lost = 2 ^ 32 - 1
+-- the count of the print, of prints with their counts
+abbrev pub count_of : List (ℕ × ℕ) → ℕ → ℕ
+count_of counts print = unwrap_or (lookup (is_at (nat_cmp print)) counts) 0
 
--- the count of the print
-abbrev pub count_of : List ℕ → ℕ → ℕ
-count_of counts print = get_or counts print lost
+abbrev pub one_if : Bool → ℕ
+one_if b = if b then 1 else 0
 
-abbrev pub raised : ℕ → ℕ
-raised n = min (n + 1) lost
+-- how many of the prints this one is
+abbrev pub times_in : Prints → ℕ → ℕ
+times_in prints k = one_if (k == prints.maps) + one_if (k == prints.name)
 
-abbrev pub lowered : ℕ → ℕ
-lowered n = if n == lost then lost else n - 1
+-- no count is another one
+abbrev pub IsSame : List (ℕ × ℕ) → List (ℕ × ℕ) → Type 0
+IsSame before after = (k : ℕ) → count_of after k ≡ count_of before k
 
--- one more has the print
-abbrev pub raised_at : ℕ → List ℕ → List ℕ
-raised_at print counts = slice_set counts print (raised (count_of counts print))
+-- a policy of these prints is counted
+abbrev pub IsAdded : Prints → List (ℕ × ℕ) → List (ℕ × ℕ) → Type 0
+IsAdded prints before after = (k : ℕ) → count_of after k ≡ count_of before k + times_in prints k
 
--- one less has the print
-abbrev pub lowered_at : ℕ → List ℕ → List ℕ
-lowered_at print counts = slice_set counts print (lowered (count_of counts print))
+-- a policy of these prints is counted no more
+abbrev pub IsRemoved : Prints → List (ℕ × ℕ) → List (ℕ × ℕ) → Type 0
+IsRemoved prints before after = (k : ℕ) → count_of after k ≡ count_of before k - times_in prints k
 
--- 1 where the policy's maps have the print
+-- how many of the policy's prints this one is
 abbrev pub has_print : ℕ → Policy → ℕ
-has_print k p = if k == print_of (maps_of p) then 1 else 0
+has_print k p = times_in (prints_of p) k
 
--- no print has more policies than are counted, but where their number is lost
-unfoldable pub IsCounted : List ℕ → List Policy → Type 0
-IsCounted counts ps = (k : ℕ) → count_of counts k < lost → sum_by (has_print k) ps ≤ count_of counts k
+-- each print has its count
+unfoldable pub IsCounted : List (ℕ × ℕ) → List Policy → Type 0
+IsCounted counts ps = (k : ℕ) → count_of counts k ≡ sum_by (has_print k) ps

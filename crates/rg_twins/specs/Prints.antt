@@ -1,7 +1,10 @@
--- A number for what resource maps say, by which most maps that differ are told apart.
+-- Numbers for what resource maps say and for what a policy is called, by which most that differ are told apart.
 use Rattle.std.specs.Prelude.{ℕ, ◌+◌, ◌*◌, ◌/◌, ◌%◌, ◌^◌, List, [], ◌∷◌, get_or, max, replicate, slice_set}
+use Rattle.rg_policy.specs.Maps.{maps_of}
+use Rattle.rg_policy.specs.declared.policy.Policy.{Policy}
 use Rattle.rg_policy.specs.declared.policy.PolicyResource.{PolicyResource}
 use Rattle.rg_policy.specs.declared.policy.ResourceMap.{ResourceMap}
+use Rattle.rg_twins.specs.declared.prints.Prints.{Prints}
 
 -- ---- a text
 
@@ -43,6 +46,19 @@ abbrev pub with_maps : List ℕ → List ResourceMap → List ℕ
 with_maps marks [] = marks
 with_maps marks (m ∷ maps) = with_maps (with_levels marks m.levels.items) maps
 
--- 18 bits, as many as there are counts
 unfoldable pub print_of : List ResourceMap → ℕ
-print_of maps = hash_from 1 (with_maps no_marks maps) / 2 ^ 46
+print_of maps = hash_from 1 (with_maps no_marks maps)
+
+-- ---- names: of the service, of the zone in it, and of the policy there
+
+-- the hash of a text to which a mark is added that is no character
+abbrev pub ended : ℕ → ℕ
+ended hash = mixed hash 0x110000
+
+unfoldable pub name_print_of : Policy → ℕ
+name_print_of p = hash_from (ended (hash_from (ended (hash_from 1 p.service)) p.zone)) p.name
+
+-- ---- both
+
+abbrev pub prints_of : Policy → Prints
+prints_of p = record { maps = print_of (maps_of p); name = name_print_of p }

@@ -1,8 +1,8 @@
-// A number for what resource maps say.
+// Numbers for what resource maps say and for what a policy is called.
 ghost use Rattle.std.specs.Prelude.{◌≡◌, ◌/◌, ◌^◌, ◌∷◌, [], max};
 ghost use Rattle.std.specs.Str.{chars};
 ghost use Rattle.rg_policy.specs.Maps.{maps_of};
-ghost use Rattle.rg_twins.specs.Prints.{hash_from, marked, mixed, no_marks, print_of, raised_mark, with_levels, with_maps, with_texts};
+ghost use Rattle.rg_twins.specs.Prints.{ended, hash_from, marked, mixed, name_print_of, no_marks, print_of, prints_of, raised_mark, with_levels, with_maps, with_texts};
 
 use rg_base::{Seq, Text, split_char};
 use rg_policy::{Policy, PolicyResource, ResourceMap};
@@ -12,6 +12,16 @@ const SPREAD: u64 = 0x9E37_79B9_7F4A_7C15;
 
 /// As many as nine bits tell apart. Maps of fewer values mostly have each value's hash among the marks.
 const MARKS: usize = 512;
+
+/// One more than the last character.
+const END: u64 = 0x11_0000;
+
+/// The prints of a policy: of its maps, and of its name in its service and zone.
+#[derive(Clone, Copy)]
+pub struct Prints {
+    pub maps: u64,
+    pub name: u64,
+}
 
 /// The hash of a text to which the character is added.
 fn mixed(hash: u64, c: u64) -> u64
@@ -103,24 +113,51 @@ fn hash_of_maps(marks: &mut [u64], levels: &Seq<PolicyResource>, additional: &[R
 
 /// The print of one map and more.
 #[tactic(auto, unfolding(crate::specs::Prints::print_of, crate::specs::Prints::no_marks))]
-fn print_of_maps(levels: &Seq<PolicyResource>, additional: &[ResourceMap]) -> usize
+fn print_of_maps(levels: &Seq<PolicyResource>, additional: &[ResourceMap]) -> u64
     ensures { result ≡ print_of (record { levels = levels.now } ∷ additional.now) }
 {
     let mut marks = [0u64; MARKS];
-    (hash_of_maps(&mut marks, levels, additional) >> 46) as usize
+    hash_of_maps(&mut marks, levels, additional)
 }
 
 /// The print of the policy's maps. Maps that are the same have the same print. The more values maps have in common, the more
 /// often maps that differ have it too: two lists of some hundred values that differ in one seldom do.
-pub fn print_of(policy: &Policy) -> usize
+pub fn print_of(policy: &Policy) -> u64
     ensures { result ≡ print_of (maps_of policy.now) }
 {
     print_of_maps(&policy.resources, policy.additional.as_slice())
 }
 
 /// The print of one map.
-pub fn print_of_map(levels: &Seq<PolicyResource>) -> usize
+pub fn print_of_map(levels: &Seq<PolicyResource>) -> u64
     ensures { result ≡ print_of (record { levels = levels.now } ∷ []) }
 {
     print_of_maps(levels, &[])
+}
+
+/// The hash of a text to which a mark is added that is no character.
+fn ended(hash: u64) -> u64
+    ensures { result ≡ ended hash }
+{
+    mixed(hash, END)
+}
+
+/// The print of the policy's name in its service and zone.
+#[tactic(auto, unfolding(crate::specs::Prints::name_print_of))]
+pub fn name_print_of(policy: &Policy) -> u64
+    ensures { result ≡ name_print_of policy.now }
+{
+    let service = ended(hash_from(1, policy.service.as_str()));
+    let zone = ended(hash_from(service, policy.zone.as_str()));
+    hash_from(zone, policy.name.as_str())
+}
+
+/// The prints of the policy.
+pub fn prints_of(policy: &Policy) -> Prints
+    ensures { result ≡ prints_of policy.now }
+{
+    Prints {
+        maps: print_of(policy),
+        name: name_print_of(policy),
+    }
 }

@@ -11,12 +11,12 @@ use Rattle.rg_base.specs.Listed.{Listed}
 use Rattle.rg_base.specs.Texts.{all_distinct}
 use Rattle.rg_base.proofs.Lists.{all_from, all_holds, find_contained}
 use Rattle.rg_defs.specs.declared.service_def.ServiceDef.{ServiceDef}
-use Rattle.rg_zones.specs.Overlap.{first_overlap, maps_overlap, zones_overlap}
-use Rattle.rg_zones.specs.Rules.{all_maps_fit, entry_levels_fit, entry_values_fit, lists_service, maps_fit, zone_levels_fit, zone_values_fit}
-use Rattle.rg_zones.specs.Zones.{entry_maps, is_for, maps_for}
-use Rattle.rg_zones.specs.declared.row.ZoneLevel.{ZoneLevel}
-use Rattle.rg_zones.specs.declared.row.ZoneRow.{ZoneRow}
-use Rattle.rg_zones.specs.declared.row.ZoneService.{ZoneService}
+use Rattle.rg_zone_rules.specs.Overlap.{first_overlap, maps_overlap, zones_overlap}
+use Rattle.rg_zone_rules.specs.Rules.{all_maps_fit, entry_levels_fit, entry_values_fit, lists_service, maps_fit, zone_levels_fit, zone_values_fit}
+use Rattle.rg_zone_rules.specs.Zones.{entry_maps, is_for, maps_for}
+use Rattle.rg_zone_rules.specs.declared.row.ZoneLevel.{ZoneLevel}
+use Rattle.rg_zone_rules.specs.declared.row.ZoneRow.{ZoneRow}
+use Rattle.rg_zone_rules.specs.declared.row.ZoneService.{ZoneService}
 use Rattle.rg_cmd.specs.Lists.{put}
 use Rattle.rg_cmd.specs.Lookups.{def_of, is_service, is_zone}
 use Rattle.rg_cmd.specs.declared.state.ServiceRow.{ServiceRow}

@@ -10,9 +10,9 @@ use Rattle.rg_cond.specs.PolicyRules.{conditions_compile}
 use Rattle.rg_effect.specs.PolicyRules.{entries_fit, lists_fit, outcomes_fit, type_fits}
 use Rattle.rg_resmatch.specs.Rules.{policy_levels_fit, policy_values_fit, tagged_fit}
 use Rattle.rg_tags.specs.declared.row.TagRow.{TagRow}
-use Rattle.rg_zones.specs.Overlap.{first_overlap}
-use Rattle.rg_zones.specs.Rules.{all_maps_fit, lists_service}
-use Rattle.rg_zones.specs.declared.row.ZoneRow.{ZoneRow}
+use Rattle.rg_zone_rules.specs.Overlap.{first_overlap}
+use Rattle.rg_zone_rules.specs.Rules.{all_maps_fit, lists_service}
+use Rattle.rg_zone_rules.specs.declared.row.ZoneRow.{ZoneRow}
 use Rattle.rg_cmd.specs.Lookups.{has_def, is_of, is_row_of, is_service, is_tag_service, service_at}
 use Rattle.rg_cmd.specs.declared.rule.Rule.{Rule}
 use Rattle.rg_cmd.specs.declared.rule.Rule.TheVariants.{S1, S2, S3, S4, S5, S6, S7, S8}

@@ -10,7 +10,7 @@ use Rattle.rg_cond.specs.PolicyRules.{conditions_compile, schedules_read}
 use Rattle.rg_effect.specs.PolicyRules.{entries_fit, lists_fit, outcomes_fit, priority_fits, subjects_fit, type_fits}
 use Rattle.rg_resmatch.specs.Rules.{policy_levels_fit, policy_values_fit}
 use Rattle.rg_roles.specs.Members.{names_of}
-use Rattle.rg_zones.specs.Rules.{policy_zone_fits}
+use Rattle.rg_zone_rules.specs.Rules.{policy_zone_fits}
 use Rattle.rg_cmd.specs.Lookups.{has_id, is_tag_service, policy_at}
 use Rattle.rg_cmd.specs.declared.rule.Rule.TheVariants.{V1, V2, V3, V4, V5, V6, V7, V8, V9, V10, V11, V12, V13, V14}
 use Rattle.rg_cmd.specs.declared.state.State.{State}

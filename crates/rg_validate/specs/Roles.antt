@@ -8,7 +8,7 @@ use Rattle.rg_policy.specs.declared.policy.Policy.{Policy}
 use Rattle.rg_roles.specs.Chains.{leads}
 use Rattle.rg_roles.specs.Members.{names_of, names_role}
 use Rattle.rg_roles.specs.declared.row.RoleRow.{RoleRow}
-use Rattle.rg_zones.specs.declared.row.ZoneRow.{ZoneRow}
+use Rattle.rg_zone_rules.specs.declared.row.ZoneRow.{ZoneRow}
 use Rattle.rg_cmd.specs.Lists.{put}
 use Rattle.rg_cmd.specs.Lookups.{is_role}
 use Rattle.rg_cmd.specs.declared.state.State.{State}

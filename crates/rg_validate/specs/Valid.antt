@@ -12,7 +12,7 @@ use Rattle.rg_effect.specs.PolicyRules.{priority_fits}
 use Rattle.rg_roles.specs.Faults.{fault_of}
 use Rattle.rg_tags.specs.Rules.{tags_fit}
 use Rattle.rg_tags.specs.declared.row.TagRow.{TagRow}
-use Rattle.rg_zones.specs.declared.row.ZoneRow.{ZoneRow}
+use Rattle.rg_zone_rules.specs.declared.row.ZoneRow.{ZoneRow}
 use Rattle.rg_cmd.specs.Lookups.{def_of, is_def, is_service}
 use Rattle.rg_cmd.specs.declared.state.ServiceRow.{ServiceRow}
 use Rattle.rg_cmd.specs.declared.state.State.{State}

@@ -5,10 +5,10 @@ use Rattle.std.specs.Str.{bytes_eq}
 use Rattle.rg_policy.specs.declared.policy.Policy.{Policy}
 use Rattle.rg_defs.specs.Rules.{tag_name}
 use Rattle.rg_roles.specs.Members.{names_of}
-use Rattle.rg_zones.specs.Overlap.{first_overlap}
-use Rattle.rg_zones.specs.Rules.{entry_levels_fit, entry_values_fit, lists_service, services_fit, subjects_exist}
-use Rattle.rg_zones.specs.declared.row.ZoneRow.{ZoneRow}
-use Rattle.rg_zones.specs.declared.row.ZoneService.{ZoneService}
+use Rattle.rg_zone_rules.specs.Overlap.{first_overlap}
+use Rattle.rg_zone_rules.specs.Rules.{entry_levels_fit, entry_values_fit, lists_service, services_fit, subjects_exist}
+use Rattle.rg_zone_rules.specs.declared.row.ZoneRow.{ZoneRow}
+use Rattle.rg_zone_rules.specs.declared.row.ZoneService.{ZoneService}
 use Rattle.rg_cmd.specs.Lists.{put}
 use Rattle.rg_cmd.specs.Lookups.{def_of, is_tag_service, is_zone}
 use Rattle.rg_cmd.specs.declared.state.ServiceRow.{ServiceRow}

@@ -30,8 +30,8 @@ use rg_policy::Policy;
 use rg_roles::RoleRow;
 use rg_roles::laws::{leads_is_decided, row_may_be_put, sound_in_lists};
 use rg_tags::{TagRow, tags_fit};
-use rg_twins::MapCounts;
-use rg_zones::ZoneRow;
+use rg_twins::PrintCounts;
+use rg_zone_rules::ZoneRow;
 use std::alloc::Global;
 
 /// The rule, where it fails.
@@ -59,7 +59,7 @@ fn definition_rule(number: u8) -> Rule
 
 /// The first of S1 to S8 that fails.
 #[tactic(auto, using(crate::proofs::Firsts::definition_is))]
-fn definition_fault(alloc: Global, def: &ServiceDef) -> Result<Option<Rule>, NoMemory>
+pub fn definition_fault(alloc: Global, def: &ServiceDef) -> Result<Option<Rule>, NoMemory>
     ensures { IfOk result (λ fault. fault ≡ first_failing (definition_rules def.now)) }
 {
     match check_def(alloc, def) {
@@ -124,7 +124,7 @@ fn delete_service_fault(state: &State, name: &Text) -> Option<Rule>
 fn create_policy_fault(
     alloc: Global,
     state: &State,
-    counts: &MapCounts,
+    counts: &PrintCounts,
     policy: &Policy,
 ) -> Result<Option<Rule>, NoMemory>
     requires valid { IsValid state.now }
@@ -140,7 +140,7 @@ fn create_policy_fault(
 fn update_policy_fault(
     alloc: Global,
     state: &State,
-    counts: &MapCounts,
+    counts: &PrintCounts,
     policy: &Policy,
 ) -> Result<Option<Rule>, NoMemory>
     requires valid { IsValid state.now }
@@ -262,7 +262,7 @@ fn put_tags_fault(
 pub fn command_fault(
     alloc: Global,
     state: &State,
-    counts: &MapCounts,
+    counts: &PrintCounts,
     command: &AdminCommand,
 ) -> Result<Option<Rule>, NoMemory>
     requires valid { IsValid state.now }

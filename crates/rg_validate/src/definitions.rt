@@ -17,7 +17,8 @@ use rg_effect::{entries_fit, lists_fit, outcomes_fit, type_fits};
 use rg_policy::Policy;
 use rg_resmatch::{policy_levels_fit, policy_values_fit, tagged_fit};
 use rg_tags::TagRow;
-use rg_zones::{ZoneRow, all_maps_fit, overlapping};
+use rg_zone_rules::{ZoneRow, all_maps_fit};
+use rg_zones::overlapping;
 use std::alloc::Global;
 
 /// The names of the services of this definition.

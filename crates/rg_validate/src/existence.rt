@@ -2,10 +2,11 @@
 ghost use Rattle.std.specs.Prelude.{◌≡◌};
 ghost use Rattle.std.specs.List.{list_any};
 ghost use Rattle.rg_cmd.specs.Lookups.{has_id, has_row_id, is_def, is_role, is_service, is_user, is_zone};
+ghost use Rattle.rg_validate.specs.Valid.{IsValid};
 
+use crate::lookups::policy_at;
 use rg_base::{PolicyId, Text, is_named};
 use rg_cmd::State;
-use rg_policy::Policy;
 use rg_tags::TagRow;
 
 /// Whether there is a service of this name (rule E1).
@@ -15,18 +16,12 @@ pub fn service_exists(state: &State, name: &Text) -> bool
     is_named(state.services.as_slice(), name.as_str())
 }
 
-pub(crate) fn has_id(policy: &Policy, id: PolicyId) -> bool
-    ensures { result ≡ has_id id.0 policy.now }
-{
-    policy.id.0 == id.0
-}
-
 /// Whether there is a policy of this id (rule E2).
 pub fn policy_exists(state: &State, id: PolicyId) -> bool
+    requires { IsValid state.now }
     ensures { result ≡ list_any (has_id id.0) state.now.policies.items }
 {
-    let policies = state.policies.as_slice();
-    policies.iter().any(|policy| has_id(policy, id))
+    policy_at(state, id).is_some()
 }
 
 /// Whether there is a definition of this name (rule E3).

@@ -14,12 +14,13 @@ mod users;
 mod valid;
 mod zones;
 
-pub use commands::command_fault;
+pub use commands::{command_fault, definition_fault};
 pub use definitions::definition_suits;
 pub use existence::{
     definition_exists, policy_exists, role_exists, service_exists, tag_row_exists, user_exists,
     zone_exists,
 };
+pub use lookups::{place_of_policy, policy_at};
 pub use policies::{
     has_no_twin, policy_fault, policy_name_is_new, policy_place_fits, policy_schedules_read,
     policy_subjects_fit,

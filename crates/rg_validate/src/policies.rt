@@ -1,10 +1,9 @@
 // The rules of policies that look at the state.
-ghost use Rattle.std.specs.Prelude.{◌≡◌, ◌&&◌, IfOk, None, option_map, false, true};
+ghost use Rattle.std.specs.Prelude.{◌≡◌, ◌≤◌, ◌&&◌, Bool, IfOk, None, option_map, false, true};
 ghost use Rattle.std.specs.List.{list_any};
 ghost use Rattle.rg_cond.specs.PolicyRules.{schedules_read};
 ghost use Rattle.rg_defs.specs.Rules.{def_fault};
 ghost use Rattle.rg_policy.specs.declared.policy.Policy.{Policy};
-ghost use Rattle.rg_cmd.specs.Lookups.{has_id, policy_at};
 ghost use Rattle.rg_validate.specs.Failing.{first_failing};
 ghost use Rattle.rg_validate.specs.Policies.{has_no_twin, is_namesake, is_other, old_form, policy_name_is_new, policy_place_fits, policy_rules, policy_subjects_fit, stays_in, zone_fits};
 ghost use Rattle.rg_validate.specs.Steps.{form_rules, name_rules, own_count, setting_rules};
@@ -13,8 +12,7 @@ ghost use Rattle.rg_twins.specs.Twins.{is_twin};
 ghost use Rattle.rg_validate.specs.Users.{time_zones_read};
 ghost use Rattle.rg_validate.specs.Valid.{IsValid};
 
-use crate::existence::has_id;
-use crate::lookups::is_tag_service;
+use crate::lookups::{has_id, is_tag_service, policy_at};
 use rg_base::{NameIndex, NoMemory, PolicyId, is_name, same_text};
 use rg_cmd::{Rule, State};
 use rg_cond::{TimeZoneFault, TimeZones, conditions_compile, schedules_read};
@@ -22,8 +20,8 @@ use rg_defs::{Paths, ServiceDef};
 use rg_effect::{entries_fit, lists_fit, outcomes_fit, priority_fits, subjects_fit, type_fits};
 use rg_policy::Policy;
 use rg_resmatch::{policy_levels_fit, policy_values_fit};
-use rg_twins::{MapCounts, is_twin, print_of, same_place};
-use rg_zones::policy_zone_fits;
+use rg_twins::{PrintCounts, has_print, is_twin, name_print_of, print_of, same_place};
+use rg_zone_rules::policy_zone_fits;
 use std::alloc::Global;
 
 fn is_other(updated: Option<PolicyId>, policy: &Policy) -> bool
@@ -47,10 +45,41 @@ fn some_namesake(policies: &[Policy], updated: Option<PolicyId>, policy: &Policy
     policies.iter().any(|other| is_other(updated, other) && is_namesake(policy, other))
 }
 
-/// Whether no other policy of the service and zone has the name (rule V2). A policy that is updated is told by its id.
-pub fn policy_name_is_new(state: &State, updated: Option<PolicyId>, policy: &Policy) -> bool
+/// How many of those with the print the old form is.
+fn own_count(old: Option<&Policy>, print: u64) -> u32
+    ensures { result ≡ own_count (option_map (λ p. p.now) old.entry) print }
+{
+    match old {
+        Some(old) => has_print(print, old),
+        None => 0,
+    }
+}
+
+/// Whether the counts show that no other policy has the print, and so that none passes a test which tells that it has.
+fn is_alone(state: &State, counts: &PrintCounts, updated: Option<PolicyId>, print: u64) -> bool
+    requires valid { IsValid state.now }
+    requires counted { IsCounted counts.now state.now.policies.items }
+    ensures { (test : Policy → Bool) → ((q : Policy) → test q ≡ true → 1 ≤ has_print print q) → result ≡ true
+        → list_any (λ (q : Policy). is_other updated q && test q) state.now.policies.items ≡ false }
+{
+    counts.count_of(print) <= own_count(old_form(state, updated), print)
+}
+
+/// Whether no other policy of the service and zone has the name (rule V2). A policy that is updated is told by its id. The
+/// policies are looked at where the counts don't tell.
+pub fn policy_name_is_new(
+    state: &State,
+    counts: &PrintCounts,
+    updated: Option<PolicyId>,
+    policy: &Policy,
+) -> bool
+    requires valid { IsValid state.now }
+    requires counted { IsCounted counts.now state.now.policies.items }
     ensures { result ≡ policy_name_is_new state.now updated policy.now }
 {
+    if is_alone(state, counts, updated, name_print_of(policy)) {
+        return true;
+    }
     !some_namesake(state.policies.as_slice(), updated, policy)
 }
 
@@ -83,31 +112,6 @@ pub fn policy_schedules_read(
     }
 }
 
-fn has_print(print: usize, policy: &Policy) -> u32
-    ensures { result ≡ has_print print policy.now }
-{
-    if print == print_of(policy) { 1 } else { 0 }
-}
-
-/// How many of those with the print the old form is.
-fn own_count(old: Option<&Policy>, print: usize) -> u32
-    ensures { result ≡ own_count (option_map (λ p. p.now) old.entry) print }
-{
-    match old {
-        Some(old) => has_print(print, old),
-        None => 0,
-    }
-}
-
-/// Whether the counts show that no other policy has the same maps.
-fn is_alone(state: &State, counts: &MapCounts, updated: Option<PolicyId>, policy: &Policy) -> bool
-    requires { IsCounted counts.now state.now.policies.items }
-    ensures { result ≡ true → list_any (λ (q : Policy). is_other updated q && is_twin policy.now q) state.now.policies.items ≡ false }
-{
-    let print = print_of(policy);
-    counts.count_of(print) <= own_count(old_form(state, updated), print)
-}
-
 fn some_twin(
     alloc: Global,
     policies: &[Policy],
@@ -130,30 +134,25 @@ fn some_twin(
 pub fn has_no_twin(
     alloc: Global,
     state: &State,
-    counts: &MapCounts,
+    counts: &PrintCounts,
     updated: Option<PolicyId>,
     policy: &Policy,
 ) -> Result<bool, NoMemory>
-    requires { IsCounted counts.now state.now.policies.items }
+    requires valid { IsValid state.now }
+    requires counted { IsCounted counts.now state.now.policies.items }
     ensures { IfOk result (λ single. single ≡ has_no_twin state.now updated policy.now) }
 {
-    if !policy.enabled || is_alone(state, counts, updated, policy) {
+    if !policy.enabled {
+        return Ok(true);
+    }
+    if is_alone(state, counts, updated, print_of(policy)) {
         return Ok(true);
     }
     Ok(!some_twin(alloc, state.policies.as_slice(), updated, policy)?)
 }
 
-fn policy_at(state: &State, id: PolicyId) -> Option<&Policy>
-    ensures { option_map (λ p. p.now) result ≡ policy_at state.now id.0 }
-{
-    state
-        .policies
-        .as_slice()
-        .iter()
-        .find(|policy| has_id(policy, id))
-}
-
 fn old_form(state: &State, updated: Option<PolicyId>) -> Option<&Policy>
+    requires { IsValid state.now }
     ensures { option_map (λ p. p.now) result ≡ old_form state.now updated }
 {
     match updated {
@@ -186,6 +185,7 @@ pub(crate) fn zone_fits(state: &State, policy: &Policy) -> bool
 /// Whether the policy has no zone, or one that lists its service, and, where it is updated, has the service and the
 /// zone that it had (rule V14).
 pub fn policy_place_fits(state: &State, updated: Option<PolicyId>, policy: &Policy) -> bool
+    requires { IsValid state.now }
     ensures { result ≡ policy_place_fits state.now updated policy.now }
 {
     zone_fits(state, policy) && stays_in(old_form(state, updated), policy)
@@ -194,16 +194,19 @@ pub fn policy_place_fits(state: &State, updated: Option<PolicyId>, policy: &Poli
 /// The first of V1 to V4 that fails.
 fn name_fault(
     state: &State,
+    counts: &PrintCounts,
     updated: Option<PolicyId>,
     policy: &Policy,
     def: &ServiceDef,
 ) -> Option<Rule>
+    requires valid { IsValid state.now }
+    requires counted { IsCounted counts.now state.now.policies.items }
     ensures { result ≡ first_failing (name_rules state.now updated policy.now def.now) }
 {
     if !is_name(policy.name.as_str()) {
         return Some(Rule::V1);
     }
-    if !policy_name_is_new(state, updated, policy) {
+    if !policy_name_is_new(state, counts, updated, policy) {
         return Some(Rule::V2);
     }
     if !type_fits(def, policy) {
@@ -243,7 +246,7 @@ fn form_fault(alloc: Global, policy: &Policy, def: &ServiceDef) -> Result<Option
 fn setting_fault(
     alloc: Global,
     state: &State,
-    counts: &MapCounts,
+    counts: &PrintCounts,
     updated: Option<PolicyId>,
     policy: &Policy,
     def: &ServiceDef,
@@ -275,7 +278,7 @@ fn setting_fault(
 pub fn policy_fault(
     alloc: Global,
     state: &State,
-    counts: &MapCounts,
+    counts: &PrintCounts,
     updated: Option<PolicyId>,
     policy: &Policy,
     def: &ServiceDef,
@@ -285,7 +288,7 @@ pub fn policy_fault(
     requires lawful { def_fault def.now ≡ None }
     ensures { IfOk result (λ fault. fault ≡ first_failing (policy_rules state.now updated policy.now def.now)) }
 {
-    if let Some(rule) = name_fault(state, updated, policy, def) {
+    if let Some(rule) = name_fault(state, counts, updated, policy, def) {
         return Ok(Some(rule));
     }
     if let Some(rule) = form_fault(alloc, policy, def)? {

@@ -16,7 +16,7 @@ use rg_effect::all_among;
 use rg_policy::{Item, Policy, item_lists};
 use rg_roles::laws::{leads_is_decided, row_may_be_put, sound_in_lists};
 use rg_roles::{RoleRow, role_fault};
-use rg_zones::ZoneRow;
+use rg_zone_rules::ZoneRow;
 use std::alloc::Global;
 
 fn is_role(row: &RoleRow, name: &Text) -> bool

@@ -8,7 +8,7 @@ ghost use Rattle.rg_validate.specs.Valid.{IsValid};
 use crate::commands::command_fault;
 use rg_base::NoMemory;
 use rg_cmd::{AdminCommand, Ask, Rule, State};
-use rg_twins::MapCounts;
+use rg_twins::PrintCounts;
 use std::alloc::Global;
 
 /// The most entries that a history has before changes are refused.
@@ -43,11 +43,11 @@ fn limit_fault(state: &State, command: &AdminCommand) -> Option<Rule>
 
 /// The first rule that the command breaks in the state, up to the rules of authority: L1 where it is asked, then the
 /// command's rules in order; None where all hold. It changes nothing. The counts, which are those of the state's policies,
-/// spare most looks at their maps.
+/// spare most looks at their names and maps.
 pub fn first_fault(
     alloc: Global,
     state: &State,
-    counts: &MapCounts,
+    counts: &PrintCounts,
     ask: &Ask,
 ) -> Result<Option<Rule>, NoMemory>
     requires valid { IsValid state.now }

@@ -12,7 +12,7 @@ use rg_base::{Text, is_empty, is_name, same_text};
 use rg_cmd::{ServiceRow, State};
 use rg_policy::Policy;
 use rg_tags::TagRow;
-use rg_zones::{ZoneRow, lists_service};
+use rg_zone_rules::{ZoneRow, lists_service};
 
 /// Whether the name has 1 to 256 characters, and no service has it (rule C2).
 pub fn service_name_is_new(state: &State, name: &Text) -> bool

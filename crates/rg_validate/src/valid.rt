@@ -27,7 +27,8 @@ use rg_effect::priority_fits;
 use rg_policy::Policy;
 use rg_roles::role_fault;
 use rg_tags::{TagRow, tags_fit};
-use rg_zones::{ZoneRow, overlapping};
+use rg_zone_rules::ZoneRow;
+use rg_zones::overlapping;
 use std::alloc::Global;
 
 fn definition_valid(alloc: Global, def: &ServiceDef) -> Result<bool, NoMemory>

@@ -5,10 +5,10 @@ ghost use Rattle.std.specs.Str.{bytes_eq};
 ghost use Rattle.rg_base.specs.Texts.{all_distinct};
 ghost use Rattle.rg_defs.specs.Rules.{def_fault};
 ghost use Rattle.rg_policy.specs.declared.policy.Policy.{Policy};
-ghost use Rattle.rg_zones.specs.Overlap.{first_overlap};
-ghost use Rattle.rg_zones.specs.Rules.{all_maps_fit, entry_levels_fit, entry_values_fit, maps_fit};
-ghost use Rattle.rg_zones.specs.declared.row.ZoneRow.{ZoneRow};
-ghost use Rattle.rg_zones.specs.declared.row.ZoneService.{ZoneService};
+ghost use Rattle.rg_zone_rules.specs.Overlap.{first_overlap};
+ghost use Rattle.rg_zone_rules.specs.Rules.{all_maps_fit, entry_levels_fit, entry_values_fit, maps_fit};
+ghost use Rattle.rg_zone_rules.specs.declared.row.ZoneRow.{ZoneRow};
+ghost use Rattle.rg_zone_rules.specs.declared.row.ZoneService.{ZoneService};
 ghost use Rattle.rg_cmd.specs.Lists.{put};
 ghost use Rattle.rg_cmd.specs.Lookups.{def_of, is_zone};
 ghost use Rattle.rg_validate.specs.Definitions.{under};
@@ -21,10 +21,11 @@ use rg_base::{NameIndex, NoMemory, Text, TryCopy, place_named, same_text};
 use rg_cmd::{ServiceRow, State};
 use rg_defs::{Paths, ServiceDef, tag_name};
 use rg_policy::Policy;
-use rg_zones::{
-    ZoneRow, ZoneService, entry_levels_fit, entry_values_fit, lists_service, overlaps_any,
-    services_fit, subjects_exist, zone_overlap_is_symmetric, zones_apart_by_pairs,
+use rg_zone_rules::{
+    ZoneRow, ZoneService, entry_levels_fit, entry_values_fit, lists_service, services_fit,
+    subjects_exist,
 };
+use rg_zones::{overlaps_any, zone_overlap_is_symmetric, zones_apart_by_pairs};
 use std::alloc::Global;
 
 /// The names of the services of another definition than `tag`.

@@ -16,7 +16,7 @@ use rg_json::{WireFault, read_as};
 use rg_policy::{AccessRequest, Policy};
 use rg_roles::RoleRow;
 use rg_tags::TagRow;
-use rg_zones::ZoneRow;
+use rg_zone_rules::ZoneRow;
 use std::alloc::Global;
 
 /// Reads a request (Ranger's RangerAccessRequest). One without a time is made at `now`.

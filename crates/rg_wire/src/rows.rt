@@ -11,7 +11,7 @@ use rg_json::{MemberReader, Reader, i64_at, list_at, list_in, map_at, map_in, te
 use rg_policy::{Tag, TimeZoneRow};
 use rg_roles::RoleRow;
 use rg_tags::TagRow;
-use rg_zones::{Subjects, ZoneLevel, ZoneRow, ZoneService};
+use rg_zone_rules::{Subjects, ZoneLevel, ZoneRow, ZoneService};
 use serde_json::Value;
 use std::alloc::Global;
 

@@ -16,10 +16,10 @@ use Rattle.rg_defs.specs.Paths.{level_of}
 use Rattle.rg_pattern.specs.declared.atoms.Atom.{Atom}
 use Rattle.rg_pattern.specs.declared.atoms.Atom.TheVariants.{Character, One, Any, User}
 use Rattle.rg_pattern.specs.Tests.{cell, is_any, overlaps, share_char}
-use Rattle.rg_zones.specs.declared.row.ZoneLevel.{ZoneLevel}
-use Rattle.rg_zones.specs.declared.row.ZoneRow.{ZoneRow}
-use Rattle.rg_zones.specs.Overlap.{LevelPatterns, all_meet, at_pair, first_overlap, folds, holds_of, level_patterns, levels_meet, map_patterns, maps_overlap, needed_names, needs_none, patterns_overlap, reaches, share_levels, zones_overlap}
-use Rattle.rg_zones.specs.Zones.{maps_for}
+use Rattle.rg_zone_rules.specs.declared.row.ZoneLevel.{ZoneLevel}
+use Rattle.rg_zone_rules.specs.declared.row.ZoneRow.{ZoneRow}
+use Rattle.rg_zone_rules.specs.Overlap.{LevelPatterns, all_meet, at_pair, first_overlap, folds, holds_of, level_patterns, levels_meet, map_patterns, maps_overlap, needed_names, needs_none, patterns_overlap, reaches, share_levels, zones_overlap}
+use Rattle.rg_zone_rules.specs.Zones.{maps_for}
 use Rattle.rg_zones.proofs.Keys.{nat_eq-flip}
 use Rattle.rg_zones.proofs.Least.{First, first_of}
 use Rattle.rg_zones.proofs.Members.{bool_cases}

@@ -5,7 +5,7 @@ use Rattle.std.proofs.lemmas.Option.{same_Some}
 use Rattle.rg_base.proofs.Lists.{Contains-cases, Contains-first, Contains-later, Contains-none}
 use Rattle.std.specs.List.{fold}
 use Rattle.rg_zones.specs.Best.{better, is_less}
-use Rattle.rg_zones.specs.Overlap.{IsBefore}
+use Rattle.rg_zone_rules.specs.Overlap.{IsBefore}
 
 -- what is best is a pair in order that passes
 abbrev pub IsGood : (ℕ × ℕ → Bool) → Option (ℕ × ℕ) → Type 0

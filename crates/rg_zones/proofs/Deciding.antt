@@ -5,12 +5,12 @@ use Rattle.std.specs.List.{list_all, list_any}
 use Rattle.rg_base.specs.Listed.{Listed}
 use Rattle.rg_defs.specs.declared.service_def.ServiceDef.{ServiceDef}
 use Rattle.rg_policy.specs.declared.request.Element.{Element}
-use Rattle.rg_zones.specs.declared.row.ZoneLevel.{ZoneLevel}
-use Rattle.rg_zones.specs.declared.row.ZoneRow.{ZoneRow}
-use Rattle.rg_zones.specs.declared.row.ZoneService.{ZoneService}
-use Rattle.rg_zones.specs.Overlap.{ZonesOverlap, form_scalars, map_patterns, map_texts, maps_overlap, zone_patterns, zone_scalars, zone_texts, zones_overlap}
-use Rattle.rg_zones.specs.Rules.{maps_fit}
-use Rattle.rg_zones.specs.Zones.{entry_maps, in_zone, is_for, map_lies, maps_for}
+use Rattle.rg_zone_rules.specs.declared.row.ZoneLevel.{ZoneLevel}
+use Rattle.rg_zone_rules.specs.declared.row.ZoneRow.{ZoneRow}
+use Rattle.rg_zone_rules.specs.declared.row.ZoneService.{ZoneService}
+use Rattle.rg_zone_rules.specs.Overlap.{ZonesOverlap, form_scalars, map_patterns, map_texts, maps_overlap, zone_patterns, zone_scalars, zone_texts, zones_overlap}
+use Rattle.rg_zone_rules.specs.Rules.{maps_fit}
+use Rattle.rg_zone_rules.specs.Zones.{entry_maps, in_zone, is_for, map_lies, maps_for}
 use Rattle.rg_zones.proofs.Fitting.{fit_maps, in_maps}
 use Rattle.rg_zones.proofs.Forms.{TwinScalars, TwinUser, form_lies, form_of, known, lies_same, scalars_of}
 use Rattle.rg_zones.proofs.Found.{FoundLaw, TextLaw, forms_found}

@@ -2,17 +2,14 @@
 use Rattle.std.proofs.Common.{◌≡◌, ◌&&◌, ◌||◌, ℕ, Bool, true, false, not, if◌then◌else◌, List, [], ◌∷◌, map, Option, Some, None, refl, sym, ap, ◌∙◌}
 use Rattle.std.proofs.lemmas.Bool.{and_parts, and_from}
 use Rattle.std.proofs.lemmas.List.Folds.{list_all-map}
-use Rattle.std.proofs.lemmas.Simd.{map-map}
 use Rattle.std.specs.List.{list_all, list_any}
 use Rattle.std.specs.Str.{bytes_eq}
 use Rattle.rg_base.specs.Listed.{Listed}
-use Rattle.rg_base.specs.Texts.{all_distinct, is_name}
-use Rattle.rg_base.proofs.Lists.{all_distinct-map, list_any-map}
+use Rattle.rg_base.specs.Texts.{is_name}
+use Rattle.rg_base.proofs.Lists.{list_any-map}
 use Rattle.rg_defs.specs.declared.service_def.Level.{Level}
 use Rattle.rg_defs.specs.declared.service_def.ServiceDef.{ServiceDef}
 use Rattle.rg_defs.specs.Paths.{level_of}
-use Rattle.rg_defs.specs.PathTests.{on_one_path}
-use Rattle.rg_defs.specs.Rules.{has_level}
 use Rattle.rg_pattern.specs.Atoms.{has_user}
 use Rattle.rg_pattern.specs.Reading.{atoms_of, value_fits}
 use Rattle.rg_policy.specs.declared.policy.PolicyResource.{PolicyResource}
@@ -21,39 +18,13 @@ use Rattle.rg_policy.specs.declared.request.Element.{Element}
 use Rattle.rg_resmatch.specs.declared.reach.Reach.TheVariants.{Down}
 use Rattle.rg_resmatch.specs.Rules.{all_levels_fit, all_values_fit, is_some_text, levels_fit, supports, values_fit, values_fit_level}
 use Rattle.rg_resmatch.specs.Tests.{lies, some_lies}
-use Rattle.rg_zones.specs.declared.row.ZoneLevel.{ZoneLevel}
-use Rattle.rg_zones.specs.declared.row.ZoneRow.{ZoneRow}
-use Rattle.rg_zones.specs.declared.row.ZoneService.{ZoneService}
-use Rattle.rg_zones.specs.Rules.{entry_levels_fit, entry_values_fit, is_some_level, is_some_map, level_values_fit, map_fits, map_levels_fit, map_values_fit, maps_fit, zone_levels_fit, zone_values_fit}
-use Rattle.rg_zones.specs.Zones.{entry_maps, in_zone, is_for, is_recursive, map_lies, maps_for, resource_map, service_lies, zone_maps, zone_resource, zone_resources}
+use Rattle.rg_zone_rules.specs.declared.row.ZoneLevel.{ZoneLevel}
+use Rattle.rg_zone_rules.specs.declared.row.ZoneRow.{ZoneRow}
+use Rattle.rg_zone_rules.specs.declared.row.ZoneService.{ZoneService}
+use Rattle.rg_zone_rules.specs.Rules.{entry_levels_fit, entry_values_fit, is_some_map, level_values_fit, map_fits, map_levels_fit, map_values_fit, maps_fit, zone_levels_fit, zone_values_fit}
+use Rattle.rg_zone_rules.specs.Zones.{entry_maps, in_zone, is_for, is_recursive, map_lies, maps_for, resource_map, service_lies, zone_maps, zone_resource, zone_resources}
+use Rattle.rg_zone_rules.proofs.Levels.{levels_alike}
 use Rattle.rg_zones.proofs.Members.{Has, agree_any, all_flat, all_has, any_flat, has_all}
-
--- ---- the levels of a map
-
-shuffle : (d a p : Bool) → (a && d && p) ≡ (true && (d && (a && (p && true))))
-shuffle true true true = refl
-shuffle true true false = refl
-shuffle true false p = refl
-shuffle false true p = refl
-shuffle false false p = refl
-
--- as they are asked of the map itself
-pub levels_alike : (def : ServiceDef) (ls : List ZoneLevel)
-    → levels_fit def false (zone_resources def ls)
-    ≡ (is_some_level ls && (list_all (λ (l : ZoneLevel). has_level def.levels.items l.level) ls && all_distinct (λ (l m : ZoneLevel). bytes_eq m.level l.level) ls && on_one_path def.levels.items (map (λ (l : ZoneLevel). l.level) ls)))
-levels_alike def [] = refl
-levels_alike def (l ∷ ls) =
-    let all = l ∷ ls in
-    let known : PolicyResource → Bool = λ r. has_level def.levels.items r.level in
-    let alike : PolicyResource → PolicyResource → Bool = λ r s. bytes_eq s.level r.level in
-    let a = list_all (λ (l : ZoneLevel). has_level def.levels.items l.level) all in
-    let d = all_distinct (λ (l m : ZoneLevel). bytes_eq m.level l.level) all in
-    let names : List (List ℕ) = map (λ (l : ZoneLevel). l.level) all in
-    sym (shuffle d a (on_one_path def.levels.items names)
-    ∙ ap (λ (b : Bool). true && (b && (a && (on_one_path def.levels.items names && true)))) (sym (all_distinct-map alike (zone_resource def) all))
-    ∙ ap (λ (b : Bool). true && (all_distinct alike (zone_resources def all) && (b && (on_one_path def.levels.items names && true)))) (sym (list_all-map known (zone_resource def) all))
-    ∙ ap (λ (ns : List (List ℕ)). true && (all_distinct alike (zone_resources def all) && (list_all known (zone_resources def all) && (on_one_path def.levels.items ns && true))))
-    (sym (map-map (λ (r : PolicyResource). r.level) (zone_resource def) all)))
 
 -- ---- the values of a map
 

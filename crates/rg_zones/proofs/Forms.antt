@@ -25,10 +25,10 @@ use Rattle.rg_policy.specs.declared.request.Element.{Element}
 use Rattle.rg_resmatch.specs.declared.reach.Reach.TheVariants.{Down}
 use Rattle.rg_resmatch.specs.Rules.{is_some_resource, is_some_text, named_levels}
 use Rattle.rg_resmatch.specs.Tests.{any_stands, is_hit, is_some_element, levels_of, may_name, meets, star, value_at}
-use Rattle.rg_zones.specs.declared.row.ZoneLevel.{ZoneLevel}
-use Rattle.rg_zones.specs.Overlap.{LevelPatterns, folds, form_scalars, level_names, level_patterns, map_patterns, map_texts, value_patterns, wilds, with_twin}
-use Rattle.rg_zones.specs.Rules.{level_values_fit, map_fits}
-use Rattle.rg_zones.specs.Zones.{is_recursive, map_lies, zone_resource, zone_resources}
+use Rattle.rg_zone_rules.specs.declared.row.ZoneLevel.{ZoneLevel}
+use Rattle.rg_zone_rules.specs.Overlap.{LevelPatterns, folds, form_scalars, level_names, level_patterns, map_patterns, map_texts, value_patterns, wilds, with_twin}
+use Rattle.rg_zone_rules.specs.Rules.{level_values_fit, map_fits}
+use Rattle.rg_zone_rules.specs.Zones.{is_recursive, map_lies, zone_resource, zone_resources}
 use Rattle.rg_base.proofs.Lists.{list_any-map}
 use Rattle.rg_zones.proofs.Members.{Has, agree_all, all_has, any_has, flat_has, has_all, has_any, has_flat, has_mapped, not_missed}
 

@@ -6,9 +6,9 @@ use Rattle.std.proofs.lemmas.Option.{slice_get_within}
 use Rattle.std.specs.List.{find, flat_map, list_all, range_with_len}
 use Rattle.std.specs.Option.{option_or}
 use Rattle.rg_defs.specs.declared.service_def.ServiceDef.{ServiceDef}
-use Rattle.rg_zones.specs.declared.row.ZoneRow.{ZoneRow}
-use Rattle.rg_zones.specs.Overlap.{IsBefore, IsLeastOverlap, OverlapAt, ZonesOverlap, at_pair, first_overlap, holds_of, pairs_from, zone_patterns, zone_scalars, zones_overlap}
-use Rattle.rg_zones.specs.Rules.{all_maps_fit, maps_fit}
+use Rattle.rg_zone_rules.specs.declared.row.ZoneRow.{ZoneRow}
+use Rattle.rg_zone_rules.specs.Overlap.{IsBefore, IsLeastOverlap, OverlapAt, ZonesOverlap, at_pair, first_overlap, holds_of, pairs_from, zone_patterns, zone_scalars, zones_overlap}
+use Rattle.rg_zone_rules.specs.Rules.{all_maps_fit, maps_fit}
 use Rattle.rg_zones.proofs.Members.{has_all, has_get, has_map}
 use Rattle.rg_zones.proofs.Pairs.{pair_there}
 

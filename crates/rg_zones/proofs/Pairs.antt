@@ -5,10 +5,10 @@ use Rattle.std.proofs.lemmas.List.Sums.{fold-append}
 use Rattle.std.specs.List.{find, flat_map, fold, list_any, range_with_len}
 use Rattle.rg_base.specs.Listed.{Listed}
 use Rattle.rg_defs.specs.declared.service_def.ServiceDef.{ServiceDef}
-use Rattle.rg_zones.specs.declared.row.ZoneLevel.{ZoneLevel}
-use Rattle.rg_zones.specs.declared.row.ZoneRow.{ZoneRow}
-use Rattle.rg_zones.specs.Zones.{maps_for}
-use Rattle.rg_zones.specs.Overlap.{at_pair, first_overlap, holds_of, map_patterns, maps_overlap, pairs_from, patterns_meet, place_pairs, some_meet, zone_patterns, zones_overlap}
+use Rattle.rg_zone_rules.specs.declared.row.ZoneLevel.{ZoneLevel}
+use Rattle.rg_zone_rules.specs.declared.row.ZoneRow.{ZoneRow}
+use Rattle.rg_zone_rules.specs.Zones.{maps_for}
+use Rattle.rg_zone_rules.specs.Overlap.{at_pair, first_overlap, holds_of, map_patterns, maps_overlap, pairs_from, patterns_meet, place_pairs, some_meet, zone_patterns, zones_overlap}
 use Rattle.rg_base.proofs.Lists.{find_agree, list_any-map, list_any_agree}
 
 pub range_first : (a b : ℕ) → a < b → range_with_len a (b - a) ≡ a ∷ range_with_len (a + 1) (b - (a + 1))

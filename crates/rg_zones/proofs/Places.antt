@@ -13,11 +13,11 @@ use Rattle.rg_index.specs.Changes.{forms_fit, ids_differ, same_id}
 use Rattle.rg_index.specs.declared.form.Form.{Form}
 use Rattle.rg_policy.specs.declared.request.Element.{Element}
 use Rattle.rg_resmatch.specs.Tests.{some_lies}
-use Rattle.rg_zones.specs.declared.row.ZoneRow.{ZoneRow}
+use Rattle.rg_zone_rules.specs.declared.row.ZoneRow.{ZoneRow}
 use Rattle.rg_zones.specs.Matched.{RowMatching, is_matched, rows_of}
 use Rattle.rg_zones.specs.Places.{AreNamed, after_id, is_below, least_place, lesser_place, passes_at, place_of, zone_form, zone_forms}
-use Rattle.rg_zones.specs.Rules.{all_maps_fit, maps_fit}
-use Rattle.rg_zones.specs.Zones.{in_zone}
+use Rattle.rg_zone_rules.specs.Rules.{all_maps_fit, maps_fit}
+use Rattle.rg_zone_rules.specs.Zones.{in_zone}
 use Rattle.rg_zones.proofs.Fitting.{fit_values, matched}
 
 -- ---- the least place

@@ -17,11 +17,11 @@ use Rattle.rg_pattern.specs.Tests.{overlaps}
 use Rattle.rg_trie.specs.declared.pair.Filed.{Filed}
 use Rattle.rg_trie.specs.declared.pair.Pair.{Pair}
 use Rattle.rg_trie.specs.Walked.{entries_under, is_under}
-use Rattle.rg_zones.specs.declared.row.ZoneRow.{ZoneRow}
+use Rattle.rg_zone_rules.specs.declared.row.ZoneRow.{ZoneRow}
 use Rattle.rg_zones.specs.Best.{better, ordered}
 use Rattle.rg_zones.specs.Candidates.{AreFiled, Filing, HoldsFirst, IsFiled, IsFiledAt, across, all_need, beside, beside_all, filed_as, filing_keys, filings_meet, found_under, keys_at, level_keys, map_keys, maps_of, meet_at, name_at, needs_level, same_anchor, same_place, zone_keys}
-use Rattle.rg_zones.specs.Overlap.{IsBefore, LevelPatterns, all_meet, at_pair, first_overlap, folds, holds_of, level_patterns, levels_meet, map_patterns, pairs_from, patterns_meet, patterns_overlap, place_pairs, share_levels, some_meet, zone_patterns}
-use Rattle.rg_zones.specs.Zones.{maps_for}
+use Rattle.rg_zone_rules.specs.Overlap.{IsBefore, LevelPatterns, all_meet, at_pair, first_overlap, folds, holds_of, level_patterns, levels_meet, map_patterns, pairs_from, patterns_meet, patterns_overlap, place_pairs, share_levels, some_meet, zone_patterns}
+use Rattle.rg_zone_rules.specs.Zones.{maps_for}
 use Rattle.rg_zones.proofs.Best.{Covers, IsGood, IsStep, covers_on, covers_this, fold_covers, fold_good, fold_reaches, good_on}
 use Rattle.rg_zones.proofs.Keys.{Related, overlap_related}
 use Rattle.rg_zones.proofs.Least.{First, first_of, there_both}

@@ -16,7 +16,7 @@ use Rattle.rg_pattern.specs.Standing.{Overlap, Stands}
 use Rattle.rg_pattern.specs.Tests.{overlaps, stands}
 use Rattle.rg_policy.specs.declared.request.Element.{Element}
 use Rattle.rg_resmatch.specs.Tests.{any_stands, is_some_element, value_at}
-use Rattle.rg_zones.specs.Overlap.{LevelPatterns, folds, are_texts, level_names, levels_meet, needed_names, needs_none, patterns_meet, patterns_overlap, reaches, share_levels}
+use Rattle.rg_zone_rules.specs.Overlap.{LevelPatterns, folds, are_texts, level_names, levels_meet, needed_names, needs_none, patterns_meet, patterns_overlap, reaches, share_levels}
 use Rattle.rg_zones.proofs.Forms.{IsForm, form_lies, met}
 use Rattle.rg_zones.proofs.Members.{Has, all_has, any_has, bool_cases, has_all, has_any, has_cases, has_filtered, has_get, has_left, has_map, has_mapped, has_right}
 

@@ -8,7 +8,7 @@ use Rattle.rg_trie.specs.declared.pair.Filed.{Filed}
 use Rattle.rg_trie.specs.declared.pair.Pair.{Pair}
 use Rattle.rg_trie.specs.Walked.{entries_under}
 use Rattle.rg_zones.specs.Best.{better, ordered}
-use Rattle.rg_zones.specs.Overlap.{LevelPatterns, at_pair, some_meet}
+use Rattle.rg_zone_rules.specs.Overlap.{LevelPatterns, at_pair, some_meet}
 
 -- the map names the level, and so does every resource in it
 abbrev pub needs_level : List ℕ → List LevelPatterns → Bool

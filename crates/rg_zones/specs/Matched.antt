@@ -4,8 +4,8 @@ use Rattle.rg_defs.specs.declared.service_def.ServiceDef.{ServiceDef}
 use Rattle.rg_policy.specs.declared.request.Element.{Element}
 use Rattle.rg_resmatch.specs.Matching.{Matching}
 use Rattle.rg_resmatch.specs.Tests.{some_lies}
-use Rattle.rg_zones.specs.declared.row.ZoneRow.{ZoneRow}
-use Rattle.rg_zones.specs.Zones.{in_zone}
+use Rattle.rg_zone_rules.specs.declared.row.ZoneRow.{ZoneRow}
+use Rattle.rg_zone_rules.specs.Zones.{in_zone}
 
 pub record RowMatching : Type 0 where
   pub matching : Matching

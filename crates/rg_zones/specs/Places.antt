@@ -5,8 +5,8 @@ use Rattle.rg_base.specs.Listed.{listed}
 use Rattle.rg_defs.specs.declared.service_def.ServiceDef.{ServiceDef}
 use Rattle.rg_index.specs.declared.form.Form.{Form}
 use Rattle.rg_resmatch.specs.declared.reach.Reach.TheVariants.{Down}
-use Rattle.rg_zones.specs.declared.row.ZoneRow.{ZoneRow}
-use Rattle.rg_zones.specs.Zones.{zone_maps}
+use Rattle.rg_zone_rules.specs.declared.row.ZoneRow.{ZoneRow}
+use Rattle.rg_zone_rules.specs.Zones.{zone_maps}
 
 -- what is filed of the zone at this place
 abbrev pub zone_form : List ℕ → ServiceDef → ℕ → ZoneRow → Form

@@ -4,11 +4,11 @@ ghost use Rattle.std.specs.Str.{chars};
 ghost use Rattle.rg_zones.specs.Places.{is_below, place_of, zone_form, zone_forms};
 
 use crate::resources::zone_maps;
-use crate::row::ZoneRow;
 use rg_base::{NoMemory, Seq};
 use rg_defs::ServiceDef;
 use rg_index::Form;
 use rg_resmatch::Reach;
+use rg_zone_rules::ZoneRow;
 use std::alloc::Global;
 
 /// What is filed of the zone at this place.

@@ -6,7 +6,7 @@ ghost use Rattle.std.specs.Str.{bytes_eq, chars};
 ghost use Rattle.rg_defs.specs.declared.service_def.Level.{Level};
 ghost use Rattle.rg_pattern.specs.Atoms.{literal_prefix};
 ghost use Rattle.rg_zones.specs.Candidates.{IsFiled, all_need, level_keys, map_keys, name_at, needs_level, same_anchor, zone_keys};
-ghost use Rattle.rg_zones.specs.Overlap.{LevelPatterns};
+ghost use Rattle.rg_zone_rules.specs.Overlap.{LevelPatterns};
 
 use crate::zone_patterns::{CompiledLevel, CompiledMap, CompiledZone, PlainPattern};
 use rg_base::{NoMemory, Text, same_text};

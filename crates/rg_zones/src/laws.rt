@@ -3,9 +3,9 @@ ghost use Rattle.std.specs.Prelude.{◌≡◌, ◌∷◌, ◌++◌, true, false,
 ghost use Rattle.std.specs.List.{list_any};
 ghost use Rattle.rg_base.specs.Texts.{all_distinct};
 ghost use Rattle.rg_defs.specs.declared.service_def.ServiceDef.{ServiceDef};
-ghost use Rattle.rg_zones.specs.declared.row.ZoneRow.{ZoneRow};
-ghost use Rattle.rg_zones.specs.Overlap.{ZonesOverlap, first_overlap, zone_patterns, zone_scalars, zone_texts, zones_overlap};
-ghost use Rattle.rg_zones.specs.Rules.{maps_fit};
+ghost use Rattle.rg_zone_rules.specs.declared.row.ZoneRow.{ZoneRow};
+ghost use Rattle.rg_zone_rules.specs.Overlap.{ZonesOverlap, first_overlap, zone_patterns, zone_scalars, zone_texts, zones_overlap};
+ghost use Rattle.rg_zone_rules.specs.Rules.{maps_fit};
 
 use rg_pattern::{
     overlap_is_decided as pattern_overlap_is_decided, stands_is_decided, twin_keeps,

@@ -1,4 +1,4 @@
-// Security zones: their rules, in which zone a resource lies, and which zones overlap.
+// In which security zone a resource lies, and which zones overlap, found by an index.
 #![tactic(auto)]
 
 mod filed;
@@ -8,8 +8,6 @@ mod map;
 mod meeting;
 mod overlap;
 mod resources;
-mod row;
-mod rules;
 mod zone_patterns;
 
 pub use laws::{
@@ -18,9 +16,3 @@ pub use laws::{
 };
 pub use map::ZoneMap;
 pub use overlap::{overlapping, overlaps_any};
-pub use row::{Subjects, ZoneLevel, ZoneRow, ZoneService};
-pub use rules::{
-    all_maps_fit, entry_levels_fit, entry_values_fit, listing_fits, lists_each_once, lists_service,
-    maps_fit, policy_zone_fits, services_fit, subjects_exist, tag_policy_zone_fits,
-    zone_levels_fit, zone_values_fit,
-};

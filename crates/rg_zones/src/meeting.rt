@@ -3,7 +3,7 @@ ghost use Rattle.std.specs.Prelude.{◌≡◌, ◌&&◌, ◌∷◌, [], IfOk};
 ghost use Rattle.std.specs.List.{list_all, list_any};
 ghost use Rattle.rg_defs.specs.declared.service_def.Level.{Level};
 ghost use Rattle.rg_pattern.specs.Tests.{overlaps};
-ghost use Rattle.rg_zones.specs.Overlap.{all_meet, levels_meet, needed_names, needs_none, patterns_meet, patterns_overlap, reaches, share_levels, some_meet};
+ghost use Rattle.rg_zone_rules.specs.Overlap.{all_meet, levels_meet, needed_names, needs_none, patterns_meet, patterns_overlap, reaches, share_levels, some_meet};
 
 use crate::zone_patterns::{CompiledLevel, CompiledMap, PlainPattern};
 use rg_base::{NoMemory, same_text};

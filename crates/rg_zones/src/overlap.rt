@@ -7,18 +7,18 @@ ghost use Rattle.rg_trie.specs.declared.pair.Pair.{Pair};
 ghost use Rattle.rg_trie.specs.Walked.{entries_under};
 ghost use Rattle.rg_zones.specs.Best.{better, is_less, ordered};
 ghost use Rattle.rg_zones.specs.Candidates.{AreFiled, HoldsFirst, across, beside, beside_all, filed_as, found_under, maps_of, meet_at, same_anchor};
-ghost use Rattle.rg_zones.specs.Overlap.{IsLeastOverlap, at_pair, first_overlap, pairs_from, place_pairs, some_meet, zone_patterns, zone_scalars, zones_overlap};
-ghost use Rattle.rg_zones.specs.Rules.{all_maps_fit, maps_fit};
-ghost use Rattle.rg_zones.specs.declared.row.ZoneRow.{ZoneRow};
+ghost use Rattle.rg_zone_rules.specs.Overlap.{IsLeastOverlap, at_pair, first_overlap, pairs_from, place_pairs, some_meet, zone_patterns, zone_scalars, zones_overlap};
+ghost use Rattle.rg_zone_rules.specs.Rules.{all_maps_fit, maps_fit};
+ghost use Rattle.rg_zone_rules.specs.declared.row.ZoneRow.{ZoneRow};
 
 use crate::filing::FiledZone;
 use crate::laws::compiled_overlap_is_decided;
 use crate::meeting::some_meet;
-use crate::row::ZoneRow;
 use crate::zone_patterns::CompiledZone;
 use rg_base::{NoMemory, Steps, Text};
 use rg_defs::{Paths, ServiceDef};
 use rg_trie::{Filed, Trie};
+use rg_zone_rules::ZoneRow;
 use std::alloc::Global;
 
 /// Whether the zones at these places overlap.

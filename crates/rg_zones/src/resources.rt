@@ -1,14 +1,13 @@
 // The resource maps of a zone as those of policies.
 ghost use Rattle.std.specs.Prelude.{◌≡◌, ◌++◌, IfOk, map, option_map};
 ghost use Rattle.rg_base.specs.Listed.{listed};
-ghost use Rattle.rg_zones.specs.Zones.{entry_maps, is_recursive, resource_map, zone_maps, zone_resource, zone_resources};
+ghost use Rattle.rg_zone_rules.specs.Zones.{entry_maps, is_recursive, resource_map, zone_maps, zone_resource, zone_resources};
 ghost use Rattle.std.specs.Str.{chars};
 
-use crate::row::{ZoneLevel, ZoneRow, ZoneService};
-use crate::rules::is_for;
 use rg_base::{NoMemory, Seq, TryCopy};
 use rg_defs::{Level, ServiceDef, level_of};
 use rg_policy::{PolicyResource, ResourceMap};
+use rg_zone_rules::{ZoneLevel, ZoneRow, ZoneService, is_for};
 use std::alloc::Global;
 
 pub(crate) fn is_recursive(level: Option<&Level>) -> bool

@@ -8,16 +8,15 @@ ghost use Rattle.rg_pattern.specs.Atoms.{are_scalars, literal_prefix, twin};
 ghost use Rattle.rg_pattern.specs.Reading.{atoms_of, value_fits};
 ghost use Rattle.rg_pattern.specs.Tests.{overlaps};
 ghost use Rattle.rg_resmatch.specs.Tests.{star};
-ghost use Rattle.rg_zones.specs.Overlap.{folds, form_scalars, level_patterns, map_patterns, needed_names, wilds, with_twin, zone_patterns, zone_scalars};
-ghost use Rattle.rg_zones.specs.Rules.{entry_values_fit, level_values_fit, map_values_fit, zone_values_fit};
-ghost use Rattle.rg_zones.specs.Zones.{entry_maps, is_for, is_recursive};
+ghost use Rattle.rg_zone_rules.specs.Overlap.{folds, form_scalars, level_patterns, map_patterns, needed_names, wilds, with_twin, zone_patterns, zone_scalars};
+ghost use Rattle.rg_zone_rules.specs.Rules.{entry_values_fit, level_values_fit, map_values_fit, zone_values_fit};
+ghost use Rattle.rg_zone_rules.specs.Zones.{entry_maps, is_for, is_recursive};
 
 use crate::resources::is_recursive;
-use crate::row::{ZoneLevel, ZoneRow, ZoneService};
-use crate::rules::is_for;
 use rg_base::{Named, NoMemory, Seq, Text, TryCopy, is_among};
 use rg_defs::{Level, ServiceDef, level_of};
 use rg_pattern::{Pattern, PatternFault, twin_keeps};
+use rg_zone_rules::{ZoneLevel, ZoneRow, ZoneService, is_for};
 use std::alloc::Global;
 use std::marker::Model;
 
@@ -90,7 +89,7 @@ pub(crate) struct CompiledLevel {
 }
 
 impl Model for CompiledLevel {
-    ghost use Rattle.rg_zones.specs.Overlap.{LevelPatterns};
+    ghost use Rattle.rg_zone_rules.specs.Overlap.{LevelPatterns};
 
     ghost Value = { LevelPatterns };
 
@@ -115,7 +114,7 @@ pub(crate) struct CompiledMap {
 
 impl Model for CompiledMap {
     ghost use Rattle.std.specs.Prelude.{◌≡◌, List};
-    ghost use Rattle.rg_zones.specs.Overlap.{LevelPatterns, needed_names};
+    ghost use Rattle.rg_zone_rules.specs.Overlap.{LevelPatterns, needed_names};
 
     ghost Value = { List LevelPatterns };
 
@@ -132,7 +131,7 @@ pub(crate) struct CompiledZone {
 
 impl Model for CompiledZone {
     ghost use Rattle.std.specs.Prelude.{List};
-    ghost use Rattle.rg_zones.specs.Overlap.{LevelPatterns};
+    ghost use Rattle.rg_zone_rules.specs.Overlap.{LevelPatterns};
 
     ghost Value = { List (List LevelPatterns) };
 

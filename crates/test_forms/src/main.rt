@@ -1,14 +1,21 @@
 // Forms in which texts are taken and given: what messages ask, how replies and decisions are answered, why lines of a script are bad,
 // what the drill makes up. The rows of each table are printed, each with its answer behind it; those that begin with `#` are headings.
+// Then come the answers to the rows about scripts, versions, streams and responses (`readings.rt`).
 #![tactic(auto)]
 
 mod cells;
+mod changes;
 mod commands;
 mod decisions;
 mod drill;
+mod fields;
 mod lines;
 mod messages;
+mod readings;
 mod replies;
+mod responses;
+mod scripts;
+mod streams;
 
 use anyhow::{Context, Result};
 use rg_base::NoMemory;
@@ -85,5 +92,5 @@ fn main(rt: HostRuntime) -> Result<()> {
     ] {
         print_table(&rt, table)?;
     }
-    Ok(())
+    readings::print(&rt, "readings.rows")
 }

@@ -1,8 +1,8 @@
 // Runs of `keep` over keepers in memory. The input is a script: a configuration, two commands that each make a policy, and more lines.
-// Each row tells the status, how many records the keeper holds then, and what was printed, with `~` for each LF. There is a row for the
-// whole script, and one for each call of the keeper, with its record and without it, where that call fails; a call past the last fails
-// nothing. Then the second append of the first lines fails, and another run goes on with that keeper. The last rows are of a keeper that
-// holds `{}`.
+// Each row tells the status, how many records the keeper holds then, how many decisions were audited, and what was printed, with `~` for
+// each LF. There is a row for the whole script, and one for each call of the keeper, with its record and without it, where that call
+// fails; a call past the last fails nothing. Then the second append of the first lines fails, and another run goes on with that keeper.
+// The last rows are of a keeper that holds `{}`.
 mod runs;
 
 use crate::keepers::{add_record, both_ways, calls_before, failing_keeper, keeper_of, way_of};

@@ -5,15 +5,18 @@
 // NAME.script is the script, NAME.output what is to be printed, and STATUS what the run is to end with. A file that isn't there is empty.
 // Words of the form KEY=VALUE are settings of the run (table.rt), the others those of the command line. Printed is a line for each run: its
 // status, how many bytes it printed, and whether both are as wanted. Where they aren't, the lines behind it say what was wanted. A run that
-// asks for it has lines of what its workers' audit sinks hold.
+// asks for it has lines of what its workers' audit sinks hold. Behind these stand runs of `serve` with links in memory (serving.rt), which
+// begin with the configuration of `administration.script`.
 #![tactic(auto)]
 
 mod hooks;
 mod runs;
+mod serving;
 mod table;
 mod tell;
 
 use anyhow::Result;
+use std::alloc::Global;
 use std::io::ErrorKind;
 use std::rt::Files;
 use std::sync::Wait;
@@ -48,6 +51,32 @@ fn run_line<R: Files + AllocGlobal + Threads + Wait + Sync>(rt: &R, line: &str) 
     Ok(tell::told_of(alloc, &row, wanted.as_slice(), &outcome)?)
 }
 
+/// The line of a script that has its configuration; nothing where none has.
+fn config_in(script: &str) -> &str {
+    for line in script.lines() {
+        if line.starts_with("config ") {
+            return line;
+        }
+    }
+    ""
+}
+
+/// Runs `serve` for each of these rows.
+fn print_served<R: Print + Threads + Wait + Sync>(
+    rt: &R,
+    alloc: Global,
+    config: &str,
+    rows: &str,
+) -> Result<()> {
+    println!(rt; "== serving")?;
+    for line in rows.lines() {
+        if !line.is_empty() && !line.starts_with('#') {
+            serving::print_line(rt, alloc, config, line)?;
+        }
+    }
+    Ok(())
+}
+
 fn main(rt: HostRuntime) -> Result<()> {
     let table = io::read_to_string(rt.alloc(), rt.stdin())?;
     for line in table.lines() {
@@ -55,5 +84,7 @@ fn main(rt: HostRuntime) -> Result<()> {
             print!(rt; "{}", run_line(&rt, line)?.as_str())?;
         }
     }
-    Ok(())
+    let script = fs::read_to_string(&rt, "administration.script")?;
+    let rows = fs::read_to_string(&rt, "serving.rows")?;
+    print_served(&rt, rt.alloc(), config_in(script.as_str()), rows.as_str())
 }

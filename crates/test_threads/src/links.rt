@@ -5,11 +5,11 @@ mod session;
 mod telling;
 mod watched;
 
-use crate::notation::spelled;
 use anyhow::Result;
 use session::{Case, told_of};
 use std::alloc::{AllocError, Global};
 use std::sync::Wait;
+use test_tables::spelled;
 
 /// A link.
 #[derive(Clone, Copy)]

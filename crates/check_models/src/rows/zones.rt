@@ -18,11 +18,12 @@ use rg_base::{NameIndex, NoMemory, Seq, Text, TryCopy, Version};
 use rg_cmd::{PolicyDelta, PolicyPart};
 use rg_cmd_wire::print_policy_part;
 use rg_defs::ServiceDef;
-use rg_zones::{
-    ZoneLevel, ZoneMap, ZoneRow, ZoneService, all_maps_fit, listing_fits, lists_service, maps_fit,
-    overlapping, overlaps_any, policy_zone_fits, services_fit, subjects_exist,
-    tag_policy_zone_fits, zone_levels_fit, zone_values_fit,
+use rg_zone_rules::{
+    ZoneLevel, ZoneRow, ZoneService, all_maps_fit, listing_fits, lists_service, maps_fit,
+    policy_zone_fits, services_fit, subjects_exist, tag_policy_zone_fits, zone_levels_fit,
+    zone_values_fit,
 };
+use rg_zones::{ZoneMap, overlapping, overlaps_any};
 use std::alloc::Global;
 
 /// Databases with tables and columns, or functions; urls; hosts.

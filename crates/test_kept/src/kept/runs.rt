@@ -2,9 +2,10 @@
 ghost use Rattle.std.specs.Prelude.{◌≡◌, ◌≤◌, ◌<◌, length, IfOk, IsSome};
 
 use crate::keepers::text_of;
-use rg_base::{Moment, Seq};
-use rg_hook::{AuditFan, Enrichers, WorkerHooks};
+use rg_base::{Moment, NoMemory, Seq};
+use rg_hook::{AuditSink, MemAudit, RequestHooks};
 use rg_keeper::MemKeeper;
+use rg_policy::AccessRequest;
 use rg_ports::{
     Clock, FreeGate, ListClock, Listener, MemListener, MemSink, MemSource, Sink, Source,
 };
@@ -19,14 +20,35 @@ fn words_of(alloc: Global) -> Result<Vec<String>, AllocError> {
     Ok(words)
 }
 
-/// One worker, without sinks and enrichers. `keep` has no use for it.
-fn one_worker(alloc: Global) -> Result<Vec<WorkerHooks>, AllocError>
+/// Hooks that enrich nothing and keep the audit lines, of which contracts see none.
+#[derive(Drop)]
+struct Audited {
+    audit: MemAudit,
+}
+
+impl RequestHooks for Audited {
+    ghost use Rattle.std.specs.Prelude.{[]};
+
+    ghost sinks = { λ _. [] };
+
+    ghost enrichers = { λ _. [] };
+
+    fn enrich(&mut self, _alloc: Global, _request: &mut AccessRequest) -> Result<(), NoMemory> {
+        Ok(())
+    }
+
+    fn audit(&mut self, line: &str) {
+        let _kept = self.audit.write(line);
+    }
+}
+
+/// One worker, to whose hooks nothing was told.
+fn one_worker(alloc: Global) -> Result<Vec<Audited>, AllocError>
     ensures { IfOk result (λ hooks. length hooks.items ≡ 1) }
 {
     let mut workers = Vec::new(alloc);
-    workers.push(WorkerHooks {
-        sinks: AuditFan::new(Vec::new(alloc)),
-        enrichers: Enrichers::new(Vec::new(alloc)),
+    workers.push(Audited {
+        audit: MemAudit::new(Seq::new(alloc), Seq::new(alloc)),
     })?;
     Ok(workers)
 }
@@ -68,7 +90,7 @@ fn run_with<R: Threads + Wait + Sync>(
     alloc: Global,
     words: &[String],
     ports: &mut Ports,
-    workers: &mut Vec<WorkerHooks>,
+    workers: &mut Vec<Audited>,
     keeper: &mut Option<MemKeeper>,
 ) -> u8
     requires workers { (1 ≤ length workers.old.items) × (length workers.old.items ≤ 64) }
@@ -95,6 +117,7 @@ struct Outcome {
     status: u8,
     sink: MemSink,
     keeper: MemKeeper,
+    workers: Vec<Audited>,
 }
 
 /// Runs over the keeper.
@@ -103,7 +126,7 @@ fn run_over<R: Threads + Wait + Sync>(
     alloc: Global,
     words: &[String],
     mut ports: Ports,
-    mut workers: Vec<WorkerHooks>,
+    mut workers: Vec<Audited>,
     keeper: MemKeeper,
 ) -> Outcome
     requires workers { length workers.items ≡ 1 }
@@ -114,14 +137,24 @@ fn run_over<R: Threads + Wait + Sync>(
         status,
         sink: ports.sink,
         keeper: place.unwrap(),
+        workers,
     }
 }
 
-/// Tells the status, how many records stand, and what was printed.
+/// How many audit lines were told.
+fn lines_of(workers: &[Audited]) -> usize {
+    match workers.first() {
+        Some(worker) => worker.audit.lines().len(),
+        None => 0,
+    }
+}
+
+/// Tells the status, how many records stand, how many audit lines were told, and what was printed.
 fn tell_outcome(told: &mut String, outcome: &Outcome) -> Result<(), AllocError> {
     let status = outcome.status;
     let held = outcome.keeper.records().len();
-    write!(told, "status {status}, {held} records: ")?;
+    let audited = lines_of(outcome.workers.as_slice());
+    write!(told, "status {status}, {held} records, {audited} audited: ")?;
     tell_printed(told, outcome.sink.held())
 }
 
@@ -145,7 +178,9 @@ pub(crate) fn tell_run<R: Threads + Wait + Sync>(
         status: _,
         sink,
         keeper,
+        workers,
     } = outcome;
+    drop(workers);
     drop(sink);
     Ok(keeper)
 }

@@ -1,11 +1,9 @@
 // A link served by an administration of its own.
 ghost use Rattle.std.specs.Prelude.{◌<◌, All, IfOk};
 
-use crate::hooks::no_hooks;
 use crate::links::hearing::HearingLink;
 use crate::links::telling::{Left, told};
 use crate::links::watched::{Sinks, watch};
-use crate::notation::written;
 use crate::service::OpenService;
 use anyhow::{Result, anyhow};
 use rg_base::{Moment, Seq};
@@ -16,6 +14,7 @@ use rg_publish::Pass;
 use rg_session::{Bell, right_lists_stay_right};
 use std::alloc::{AllocError, Global};
 use std::sync::Wait;
+use test_tables::{no_hooks, written};
 
 /// The plugin's service.
 const PLUGIN: &str = "hive1";

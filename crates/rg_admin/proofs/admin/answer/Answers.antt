@@ -1,10 +1,9 @@
 use Rattle.std.proofs.Common.{refl}
-use Rattle.rg_admin.proofs.Readying.{ready}
 use Rattle.rg_admin.proofs.Stepping.{answered}
 use Rattle.rg_admin.proofs.admin.answer.Goals as goal
 
 pub reply_of-requires : goal.reply_of-requires
-reply_of-requires c = ready c.args.held.now.state c.requires.kept.valid
+reply_of-requires c = c.requires.kept.valid
 
 pub accept-requires-clause-kept : goal.accept-requires-clause-kept
 accept-requires-clause-kept c = c.requires.kept

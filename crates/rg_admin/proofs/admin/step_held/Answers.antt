@@ -1,4 +1,6 @@
-use Rattle.std.proofs.Common.{refl, sym, ◌∙◌}
+use Rattle.std.proofs.Common.{refl, sym, ◌∙◌, subst}
+use Rattle.rg_twins.specs.Counts.{IsCounted}
+use Rattle.rg_cmd.specs.declared.state.State.{State}
 use Rattle.rg_admin.proofs.Stepping.{refused_step, stepped_on}
 use Rattle.rg_admin.proofs.admin.step_held.Goals as goal
 
@@ -8,20 +10,32 @@ fault-requires-clause-kept c = c.requires.kept
 pub fault-requires-clause-counted : goal.fault-requires-clause-counted
 fault-requires-clause-counted c = c.requires.counted
 
-pub answer-requires-clause-kept : goal.answer-requires-clause-kept
-answer-requires-clause-kept c = c.requires.kept
+pub answer_counted-requires-clause-kept : goal.answer_counted-requires-clause-kept
+answer_counted-requires-clause-kept c = c.requires.kept
 
-pub answer-requires-clause-packed : goal.answer-requires-clause-packed
-answer-requires-clause-packed c = c.requires.packed
+pub answer_counted-requires-clause-packed : goal.answer_counted-requires-clause-packed
+answer_counted-requires-clause-packed c = c.requires.packed
+
+pub answer_counted-requires-clause-counted : goal.answer_counted-requires-clause-counted
+answer_counted-requires-clause-counted c = c.requires.counted
 
 pub returns-in-Ok-None-clause-ok : goal.returns-in-Ok-None-clause-ok
-returns-in-Ok-None-clause-ok c = stepped_on c.answer.result _ _ c.args.ask (sym c.in-Ok-None.field-0-is ∙ c.in-Ok-None.ensures) c.answer.ensures.ok
+returns-in-Ok-None-clause-ok c = stepped_on c.answer_counted.result _ _ c.args.ask (sym c.in-Ok-None.field-0-is ∙ c.in-Ok-None.ensures) c.answer_counted.ensures.ok
 
 pub returns-in-Ok-None-clause-err : goal.returns-in-Ok-None-clause-err
-returns-in-Ok-None-clause-err c = c.answer.ensures.err
+returns-in-Ok-None-clause-err c = c.answer_counted.ensures.err
 
 pub returns-in-Ok-Some-clause-ok : goal.returns-in-Ok-Some-clause-ok
 returns-in-Ok-Some-clause-ok c = refused_step _ _ _ c.args.ask c.in-Ok-Some.rule (sym c.in-Ok-Some.field-0-is ∙ c.in-Ok-Some.ensures) c.count_entry.ensures
 
 pub returns-in-Err-clause-err : goal.returns-in-Err-clause-err
 returns-in-Err-clause-err c = refl
+
+pub returns-in-Ok-None-clause-counted : goal.returns-in-Ok-None-clause-counted
+returns-in-Ok-None-clause-counted c = c.answer_counted.ensures.counted
+
+pub returns-in-Ok-Some-clause-counted : goal.returns-in-Ok-Some-clause-counted
+returns-in-Ok-Some-clause-counted c = subst (λ (s : State). IsCounted c.args.counts.now s.policies.items) (sym c.count_entry.ensures) c.requires.counted
+
+pub returns-in-Err-clause-counted : goal.returns-in-Err-clause-counted
+returns-in-Err-clause-counted c = c.requires.counted

@@ -7,7 +7,8 @@ use Rattle.rg_policy.specs.declared.policy.Policy.{Policy}
 use Rattle.rg_cmd.specs.Lookups.{has_id}
 use Rattle.rg_machine.specs.Changes.{updated_form, version_after}
 use Rattle.rg_admin.specs.InPlace.{put_at}
-use Rattle.rg_admin.proofs.Firsts.{found_at, put_by_id}
+use Rattle.rg_validate.proofs.Places.{found_at}
+use Rattle.rg_admin.proofs.Firsts.{put_by_id}
 use Rattle.rg_admin.proofs.numbered.update_policy.Goals as goal
 
 pub returns-clause-ok : goal.returns-clause-ok
@@ -15,9 +16,9 @@ returns-clause-ok c =
     let old = c.args.state.now.policies.items in
     let policy = c.args.policy in
     let new = updated_form c.args.state.now policy in
-    let place = c.place_of_policy-place.ensures.first in
+    let place = c.place_of-place.ensures.first in
     let version = c.version_after-version.ensures ∙ ap (λ o. version_after (option_and_then (slice_get old) o)) place ∙ ap version_after (sym (found_at (has_id policy.id.0) old)) in
     let form = c.updated.ensures ∙ ap (λ (v : Version). record policy { version = v }) version in
     let there = ap (λ o. put_at o new old) place ∙ sym (put_by_id (λ (p : Policy). p.id.0) policy.id.0 new old c.requires.distinct) in
-    on_ok_weaker c.put_at.result (λ (e : c.put_at.new.list ≡ listed (put_at c.place_of_policy-place.result c.updated.result old)).
-    let list = e ∙ ap (λ (p : Policy). listed (put_at c.place_of_policy-place.result p old)) form ∙ ap listed there in λ i. record c.args.state.now { policies = list i }) c.put_at.ensures.ok
+    on_ok_weaker c.put_at.result (λ (e : c.put_at.new.list ≡ listed (put_at c.place_of-place.result c.updated.result old)).
+    let list = e ∙ ap (λ (p : Policy). listed (put_at c.place_of-place.result p old)) form ∙ ap listed there in λ i. record c.args.state.now { policies = list i }) c.put_at.ensures.ok

@@ -7,7 +7,7 @@ use Rattle.rg_machine.specs.Starts.{IsStart, new_logs}
 use Rattle.rg_admin.specs.Held.{administration_of}
 use Rattle.rg_admin.specs.Reached.{IsPacked}
 use Rattle.rg_admin.specs.Starting.{bare_state, last_rules, put_fault, puts, start_fault, started, started_state}
-use Rattle.rg_admin.proofs.Putting.{cause_first, is_packed, is_start}
+use Rattle.rg_admin.proofs.PutRows.{cause_first, is_packed, is_start}
 use Rattle.rg_admin.proofs.start.start_parts.Goals as goal
 
 pub returns-in-Err : goal.returns-in-Err

@@ -6,11 +6,11 @@ use Rattle.rg_custody.proofs.Following.{cut_at, ends_at, ends_done, goes_on_so, 
 use Rattle.rg_custody.proofs.lines.follow_kept.Goals as goal
 
 pub lines-init : goal.lines-init
-lines-init g c = record { underway = rw c.new-text.ensures.bytes (set_out _ _ _); counted = omega arith; bound = omega arith }
+lines-init g c = record { underway = rw c.new-text.ensures.bytes (set_out _ _ _ _); counted = omega arith; bound = omega arith }
 
 pub lines-preserved : goal.lines-preserved
 lines-preserved g c = record {
-  underway = goes_on_so _ _ _ _ _ _ _ _ _ _ _ c.split_line.result.1.now _ c.lines.invariant.underway c.split_line.ensures.lines c.now-now.ensures _ _ _ (rw c.in-Ok.is at c.work-next.ensures.worked);
+  underway = goes_on_so _ _ _ _ _ _ _ _ _ _ _ c.split_line.result.1.now _ _ _ c.lines.invariant.underway c.split_line.ensures.lines c.now-now.ensures _ _ _ _ (rw c.in-Ok.is at c.work-next.ensures.worked);
   counted = omega (arith, c.lines.invariant.counted, c.work-next.ensures.counted);
   bound = omega (arith, c.lines.invariant.bound, c.split_line.ensures.shorter);
 }
@@ -19,8 +19,8 @@ pub returns-in-Err-clause-ended : goal.returns-in-Err-clause-ended
 returns-in-Err-clause-ended g c =
     rw c.into_keeper.ensures
     (IfOk-weaker c.name_stop.result _ _
-    (λ w named. ends_at _ _ _ _ _ _ _ _ _ _ _ c.split_line.result.1.now _ c.lines.invariant.underway c.split_line.ensures.lines c.now-now.ensures c.in-Err.stop _ _ (string_bytes w.text) w.status
-    (rw c.in-Err.is at c.work-next.ensures.stopped) (rw c.in-Err.is at c.work-next.ensures.unprinted) named)
+    (λ w named. ends_at _ _ _ _ _ _ _ _ _ _ _ c.split_line.result.1.now _ _ _ c.lines.invariant.underway c.split_line.ensures.lines c.now-now.ensures c.in-Err.stop _ _ (string_bytes w.text) w.status _
+    (rw c.in-Err.is at c.work-next.ensures.stopped) (rw c.in-Err.is at c.work-next.ensures.left) (rw c.in-Err.is at c.work-next.ensures.unprinted) named)
     c.name_stop.ensures)
 
 on_err : {A E : Type 0} (r : Result A E) (P : Type 0) → P → OnErr r P
@@ -31,8 +31,8 @@ pub returns-in-Err-clause-cut_off : goal.returns-in-Err-clause-cut_off
 returns-in-Err-clause-cut_off g c =
     rw c.into_keeper.ensures
     (on_err c.name_stop.result _
-    (cut_at _ _ _ _ _ _ _ _ _ _ _ c.split_line.result.1.now _ c.lines.invariant.underway c.split_line.ensures.lines c.now-now.ensures c.in-Err.stop _
-    (rw c.in-Err.is at c.work-next.ensures.stopped)))
+    (cut_at _ _ _ _ _ _ _ _ _ _ _ c.split_line.result.1.now _ _ _ c.lines.invariant.underway c.split_line.ensures.lines c.now-now.ensures c.in-Err.stop _ _
+    (rw c.in-Err.is at c.work-next.ensures.stopped) (rw c.in-Err.is at c.work-next.ensures.left)))
 
 pub returns-clause-ended : goal.returns-clause-ended
-returns-clause-ended g c = rw c.into_keeper-2.ensures (ends_done _ _ _ _ _ _ _ _ _ c.lines.invariant.underway (nil_from_length c.lines.rest.now (grind (arith, nat_tests))))
+returns-clause-ended g c = rw c.into_keeper-2.ensures (ends_done _ _ _ _ _ _ _ _ _ _ _ c.lines.invariant.underway (nil_from_length c.lines.rest.now (grind (arith, nat_tests))))

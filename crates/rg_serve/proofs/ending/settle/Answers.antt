@@ -32,6 +32,13 @@ returns-in-None-clause-begins g c =
     let P : Seated → Type 0 = λ s. IsPrefix s.history c.in-Ok.totals.past.history in
     all_last P c.args.seats.items c.args.seat (subst (λ (l : List Seated). All P l) c.in_ok-add.ensures c.in-Ok.ensures.begins)
 
+pub returns-in-None-clause-made : goal.returns-in-None-clause-made
+returns-in-None-clause-made g c =
+    let past = c.in-Ok.totals.past.history in
+    let P : Seated → Type 0 = λ s. IsPrefix s.history past in
+    c.downloaded_lists_stay.ensures.later c.args.turn.start c.args.seat.history past c.args.publisher.list
+    (all_last P c.args.seats.items c.args.seat (subst (λ (l : List Seated). All P l) c.in_ok-add.ensures c.in-Ok.ensures.begins)) c.requires.made
+
 pub returns-in-None-clause-served : goal.returns-in-None-clause-served
 returns-in-None-clause-served g c =
     let past = c.in-Ok.totals.past.history in

@@ -13,10 +13,15 @@ returns-in-Ok-totals_of-clause-served g c =
         counts = refl;
         legal = c.in-Ok.ensures.legal.1;
         begins = c.in-Ok.ensures.begins;
+        list = s.totals.published.list;
+        number = c.in-Ok.ensures.number;
+        published = c.in-Ok.ensures.published;
+        right = c.in-Ok.ensures.right;
+        made = c.in-Ok.ensures.made;
+        current = c.in-Ok.ensures.current;
         served = c.in-Ok.ensures.served;
         entries = c.in-Ok.ensures.entries;
-        few = c.in-Ok.ensures.published.few;
-        more = c.in-Ok.ensures.published.more;
+        few = c.in-Ok.ensures.few;
         faults = c.in-Ok.ensures.faults;
       },
     )

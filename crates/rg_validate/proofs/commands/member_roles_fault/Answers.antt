@@ -1,4 +1,4 @@
-use Rattle.std.proofs.Common.{rules, ◌≡◌, ◌==◌, true, List, [], ◌∷◌, length, refl, sym}
+use Rattle.std.proofs.Common.{rules, ◌≡◌, ◌==◌, true, [], ◌∷◌, length, sym}
 use Rattle.rg_cmd.specs.declared.rule.Rule.TheVariants.{O2, O3}
 use Rattle.rg_validate.specs.Failing.{first_failing}
 use Rattle.rg_validate.specs.Roles.{goes_in_no_circle, member_roles_exist}

@@ -2,8 +2,8 @@ use Rattle.std.proofs.Common.{rules, ◌≡◌, false, sym, ap, ◌∙◌, refl}
 use Rattle.std.proofs.lemmas.Slice.Eq.{bytes_eq-Decides}
 use Rattle.rg_base.proofs.Lists.{among_mapped, any_from}
 use Rattle.rg_base.specs.Texts.{is_among}
-use Rattle.rg_zones.specs.Rules.{lists_service}
-use Rattle.rg_zones.specs.declared.row.ZoneService.{ZoneService}
+use Rattle.rg_zone_rules.specs.Rules.{lists_service}
+use Rattle.rg_zone_rules.specs.declared.row.ZoneService.{ZoneService}
 use Rattle.rg_cmd.specs.Lookups.{is_service}
 use Rattle.rg_validate.specs.Zones.{zones_with}
 use Rattle.rg_validate.proofs.Apart.{apart_always, apart_at, apart_under, unlisted}

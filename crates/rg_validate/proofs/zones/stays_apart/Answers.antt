@@ -1,7 +1,7 @@
 use Rattle.std.proofs.Common.{rules, ◌≡◌, ◌||◌, ◌+◌, ◌-◌, true, false, not, length, take, drop, position, Some, None, suc, sym, ap, ◌∙◌, add-one}
 use Rattle.std.specs.List.{list_any}
-use Rattle.rg_zones.specs.Overlap.{zones_overlap}
-use Rattle.rg_zones.specs.Rules.{all_maps_fit, maps_fit}
+use Rattle.rg_zone_rules.specs.Overlap.{zones_overlap}
+use Rattle.rg_zone_rules.specs.Rules.{all_maps_fit, maps_fit}
 use Rattle.rg_cmd.specs.Lookups.{is_zone}
 use Rattle.rg_validate.proofs.Apart.{apart_new, apart_put, drop_passes, rest_is, take_passes}
 use Rattle.rg_validate.proofs.zones.stays_apart.Goals as goal

@@ -1,8 +1,8 @@
 use Rattle.std.proofs.Common.{◌≡◌, drop}
 use Rattle.std.specs.List.{list_all}
 use Rattle.rg_cmd.specs.Lookups.{def_of}
-use Rattle.rg_zones.specs.Rules.{entry_levels_fit}
-use Rattle.rg_zones.specs.declared.row.ZoneService.{ZoneService}
+use Rattle.rg_zone_rules.specs.Rules.{entry_levels_fit}
+use Rattle.rg_zone_rules.specs.declared.row.ZoneService.{ZoneService}
 use Rattle.rg_validate.specs.Definitions.{under}
 use Rattle.rg_validate.specs.Zones.{zone_levels_suit}
 use Rattle.rg_validate.proofs.zones.zone_levels_suit.Given as goal

@@ -2,7 +2,7 @@ use Rattle.std.proofs.Common.{◌++◌, ◌+◌, ◌<◌, List, ℕ, drop, lengt
 use Rattle.std.specs.Str.{chars}
 use Rattle.rg_base.proofs.Lists.{drop_next}
 use Rattle.rg_zones.specs.Candidates.{level_keys, map_keys}
-use Rattle.rg_zones.specs.Overlap.{LevelPatterns}
+use Rattle.rg_zone_rules.specs.Overlap.{LevelPatterns}
 use Rattle.rg_zones.proofs.filing.with_map_keys.Goals as goal
 
 pub loop-level-preserved : goal.loop-level-preserved

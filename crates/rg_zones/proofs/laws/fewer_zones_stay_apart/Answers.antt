@@ -1,4 +1,4 @@
-use Rattle.rg_zones.specs.Overlap.{zones_overlap}
+use Rattle.rg_zone_rules.specs.Overlap.{zones_overlap}
 use Rattle.rg_zones.proofs.Apart.{fewer}
 use Rattle.rg_zones.proofs.laws.fewer_zones_stay_apart.Goals as goal
 

@@ -1,4 +1,4 @@
-use Rattle.rg_zones.specs.Overlap.{zones_overlap}
+use Rattle.rg_zone_rules.specs.Overlap.{zones_overlap}
 use Rattle.rg_zones.proofs.Apart.{replaced, symmetric}
 use Rattle.rg_zones.proofs.laws.replaced_zone_stays_apart.Goals as goal
 

@@ -5,7 +5,7 @@ use Rattle.rg_resmatch.specs.declared.reach.Reach.TheVariants.{Down}
 use Rattle.rg_resmatch.specs.Matching.{Matching}
 use Rattle.rg_resmatch.specs.Rules.{all_levels_fit, all_values_fit}
 use Rattle.rg_resmatch.specs.Tests.{some_lies}
-use Rattle.rg_zones.specs.Zones.{zone_maps}
+use Rattle.rg_zone_rules.specs.Zones.{zone_maps}
 use Rattle.rg_zones.proofs.Fitting.{fit_levels, fit_values, matched}
 use Rattle.rg_zones.proofs.map.compile_zone.Goals as goal
 

@@ -2,8 +2,8 @@ use Rattle.std.proofs.Common.{◌≡◌, List, true, drop, take, map}
 use Rattle.std.specs.Str.{chars}
 use Rattle.rg_policy.specs.declared.request.Element.{Element}
 use Rattle.rg_zones.specs.Matched.{is_matched, rows_of}
-use Rattle.rg_zones.specs.Rules.{all_maps_fit}
-use Rattle.rg_zones.specs.Zones.{in_zone}
+use Rattle.rg_zone_rules.specs.Rules.{all_maps_fit}
+use Rattle.rg_zone_rules.specs.Zones.{in_zone}
 use Rattle.rg_zones.proofs.map.compile_zones.Given as goal
 
 -- the zones so far, and those to come fit

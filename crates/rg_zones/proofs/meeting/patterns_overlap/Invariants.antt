@@ -1,5 +1,5 @@
 use Rattle.std.proofs.Common.{◌≡◌, drop}
-use Rattle.rg_zones.specs.Overlap.{patterns_overlap}
+use Rattle.rg_zone_rules.specs.Overlap.{patterns_overlap}
 use Rattle.rg_zones.proofs.meeting.patterns_overlap.Given as goal
 
 abbrev pub invariant-loop-pattern : goal.invariant-loop-pattern

@@ -1,6 +1,6 @@
 use Rattle.std.proofs.Common.{◌≡◌, ◌++◌, List, ℕ, map, ap, ◌∙◌}
 use Rattle.rg_defs.specs.PathTests.{on_one_path}
-use Rattle.rg_zones.specs.Overlap.{LevelPatterns, level_names, needed_names}
+use Rattle.rg_zone_rules.specs.Overlap.{LevelPatterns, level_names, needed_names}
 use Rattle.rg_zones.proofs.Joining.{each_itself}
 use Rattle.rg_zones.proofs.meeting.reaches_needed.Goals as goal
 

@@ -1,5 +1,5 @@
 use Rattle.std.proofs.Common.{◌≡◌, drop}
-use Rattle.rg_zones.specs.Overlap.{some_meet}
+use Rattle.rg_zone_rules.specs.Overlap.{some_meet}
 use Rattle.rg_zones.proofs.meeting.some_meet.Given as goal
 
 abbrev pub invariant-loop-map : goal.invariant-loop-map

@@ -1,7 +1,7 @@
 use Rattle.std.proofs.Common.{◌≡◌, ◌-◌, ℕ, length, map}
 use Rattle.std.specs.List.{fold, range_with_len}
 use Rattle.rg_zones.specs.Candidates.{across, meet_at}
-use Rattle.rg_zones.specs.Overlap.{pairs_from}
+use Rattle.rg_zone_rules.specs.Overlap.{pairs_from}
 use Rattle.rg_zones.proofs.overlap.across_from.Given as goal
 
 abbrev pub invariant-loop-second : goal.invariant-loop-second

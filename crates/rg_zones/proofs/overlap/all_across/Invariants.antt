@@ -1,7 +1,7 @@
 use Rattle.std.proofs.Common.{◌≡◌, ◌-◌, None, length}
 use Rattle.std.specs.List.{flat_map, fold, range_with_len}
 use Rattle.rg_zones.specs.Candidates.{across, meet_at}
-use Rattle.rg_zones.specs.Overlap.{pairs_from, place_pairs}
+use Rattle.rg_zone_rules.specs.Overlap.{pairs_from, place_pairs}
 use Rattle.rg_zones.proofs.overlap.all_across.Given as goal
 
 abbrev pub invariant-loop-first : goal.invariant-loop-first

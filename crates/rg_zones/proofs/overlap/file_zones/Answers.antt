@@ -4,8 +4,8 @@ use Rattle.std.specs.List.{list_all}
 use Rattle.std.specs.Str.{chars}
 use Rattle.rg_base.proofs.Lists.{left_passes}
 use Rattle.rg_zones.specs.Candidates.{AreFiled, Filing, IsFiled, maps_of}
-use Rattle.rg_zones.specs.Overlap.{zone_patterns, zone_scalars}
-use Rattle.rg_zones.specs.Rules.{maps_fit}
+use Rattle.rg_zone_rules.specs.Overlap.{zone_patterns, zone_scalars}
+use Rattle.rg_zone_rules.specs.Rules.{maps_fit}
 use Rattle.rg_zones.proofs.Scalars.{one_more}
 use Rattle.rg_zones.proofs.Searching.{filed_more, mapped_more}
 use Rattle.rg_zones.proofs.overlap.file_zones.Goals as goal

@@ -2,8 +2,8 @@ use Rattle.std.proofs.Common.{◌≡◌, drop, take, map, true}
 use Rattle.std.specs.List.{list_all}
 use Rattle.std.specs.Str.{chars}
 use Rattle.rg_zones.specs.Candidates.{AreFiled, maps_of}
-use Rattle.rg_zones.specs.Overlap.{zone_patterns, zone_scalars}
-use Rattle.rg_zones.specs.Rules.{all_maps_fit}
+use Rattle.rg_zone_rules.specs.Overlap.{zone_patterns, zone_scalars}
+use Rattle.rg_zone_rules.specs.Rules.{all_maps_fit}
 use Rattle.rg_zones.proofs.overlap.file_zones.Given as goal
 
 abbrev pub invariant-loop-zone : goal.invariant-loop-zone

@@ -3,7 +3,7 @@ use Rattle.std.specs.List.{fold, range_with_len}
 use Rattle.std.specs.Str.{chars}
 use Rattle.rg_defs.specs.declared.service_def.Level.{Level}
 use Rattle.rg_zones.specs.Candidates.{AreFiled, Filing, HoldsFirst, across, beside_all, meet_at}
-use Rattle.rg_zones.specs.Overlap.{place_pairs}
+use Rattle.rg_zone_rules.specs.Overlap.{place_pairs}
 use Rattle.rg_zones.proofs.Searching.{found_first}
 use Rattle.rg_zones.proofs.overlap.first_overlap.Goals as goal
 

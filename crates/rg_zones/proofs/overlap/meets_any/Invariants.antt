@@ -1,9 +1,9 @@
 use Rattle.std.proofs.Common.{◌≡◌, drop, true}
 use Rattle.std.specs.List.{list_any}
 use Rattle.std.specs.Str.{chars}
-use Rattle.rg_zones.specs.declared.row.ZoneRow.{ZoneRow}
-use Rattle.rg_zones.specs.Overlap.{some_meet, zone_patterns}
-use Rattle.rg_zones.specs.Rules.{all_maps_fit}
+use Rattle.rg_zone_rules.specs.declared.row.ZoneRow.{ZoneRow}
+use Rattle.rg_zone_rules.specs.Overlap.{some_meet, zone_patterns}
+use Rattle.rg_zone_rules.specs.Rules.{all_maps_fit}
 use Rattle.rg_zones.proofs.overlap.meets_any.Given as goal
 
 abbrev pub invariant-loop-other : goal.invariant-loop-other

@@ -1,6 +1,6 @@
 use Rattle.std.proofs.Common.{sym, subst}
 use Rattle.std.specs.Str.{chars}
-use Rattle.rg_zones.specs.Overlap.{IsLeastOverlap}
+use Rattle.rg_zone_rules.specs.Overlap.{IsLeastOverlap}
 use Rattle.rg_zones.proofs.Least.{least}
 use Rattle.rg_zones.proofs.overlap.overlapping.Goals as goal
 

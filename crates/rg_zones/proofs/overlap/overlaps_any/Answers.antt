@@ -2,8 +2,8 @@ use Rattle.std.proofs.Common.{List, ap, ◌∙◌}
 use Rattle.std.specs.List.{list_any}
 use Rattle.std.specs.Str.{chars}
 use Rattle.rg_defs.specs.declared.service_def.Level.{Level}
-use Rattle.rg_zones.specs.declared.row.ZoneRow.{ZoneRow}
-use Rattle.rg_zones.specs.Overlap.{LevelPatterns, some_meet, zone_patterns}
+use Rattle.rg_zone_rules.specs.declared.row.ZoneRow.{ZoneRow}
+use Rattle.rg_zone_rules.specs.Overlap.{LevelPatterns, some_meet, zone_patterns}
 use Rattle.rg_zones.proofs.Pairs.{any_meet_same}
 use Rattle.rg_zones.proofs.overlap.overlaps_any.Goals as goal
 

@@ -1,5 +1,5 @@
 use Rattle.std.proofs.Common.{◌≡◌, ◌++◌, drop, map}
-use Rattle.rg_zones.specs.Zones.{resource_map}
+use Rattle.rg_zone_rules.specs.Zones.{resource_map}
 use Rattle.rg_zones.proofs.resources.with_maps.Given as goal
 
 abbrev pub invariant-loop-levels : goal.invariant-loop-levels

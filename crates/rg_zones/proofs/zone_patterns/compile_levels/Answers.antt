@@ -1,9 +1,9 @@
 use Rattle.std.proofs.Common.{◌++◌, ◌<◌, ◌+◌, List, [], ◌∷◌, drop, map, length, sym, ap, ◌∙◌, append_assoc, arith}
 use Rattle.std.proofs.lemmas.Bool.{and_parts}
 use Rattle.std.specs.List.{list_all}
-use Rattle.rg_zones.specs.declared.row.ZoneLevel.{ZoneLevel}
-use Rattle.rg_zones.specs.Overlap.{LevelPatterns, level_patterns}
-use Rattle.rg_zones.specs.Rules.{level_values_fit}
+use Rattle.rg_zone_rules.specs.declared.row.ZoneLevel.{ZoneLevel}
+use Rattle.rg_zone_rules.specs.Overlap.{LevelPatterns, level_patterns}
+use Rattle.rg_zone_rules.specs.Rules.{level_values_fit}
 use Rattle.rg_zones.proofs.Joining.{next_item}
 use Rattle.rg_zones.proofs.zone_patterns.compile_levels.Goals as goal
 

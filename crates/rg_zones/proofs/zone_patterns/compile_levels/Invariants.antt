@@ -1,7 +1,7 @@
 use Rattle.std.proofs.Common.{◌≡◌, ◌++◌, drop, map, true}
 use Rattle.std.specs.List.{list_all}
-use Rattle.rg_zones.specs.Overlap.{form_scalars, level_patterns}
-use Rattle.rg_zones.specs.Rules.{level_values_fit}
+use Rattle.rg_zone_rules.specs.Overlap.{form_scalars, level_patterns}
+use Rattle.rg_zone_rules.specs.Rules.{level_values_fit}
 use Rattle.rg_zones.proofs.zone_patterns.compile_levels.Given as goal
 
 abbrev pub invariant-loop-one : goal.invariant-loop-one

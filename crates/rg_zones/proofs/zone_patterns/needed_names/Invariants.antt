@@ -1,5 +1,5 @@
 use Rattle.std.proofs.Common.{◌≡◌, ◌++◌, drop}
-use Rattle.rg_zones.specs.Overlap.{needed_names}
+use Rattle.rg_zone_rules.specs.Overlap.{needed_names}
 use Rattle.rg_zones.proofs.zone_patterns.needed_names.Given as goal
 
 abbrev pub invariant-loop-level : goal.invariant-loop-level

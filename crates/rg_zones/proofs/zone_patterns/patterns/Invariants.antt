@@ -2,7 +2,7 @@ use Rattle.std.proofs.Common.{◌≡◌, ◌++◌, drop, true}
 use Rattle.std.specs.List.{flat_map, list_all}
 use Rattle.rg_pattern.specs.Atoms.{are_scalars}
 use Rattle.rg_pattern.specs.Reading.{atoms_of, value_fits}
-use Rattle.rg_zones.specs.Overlap.{with_twin}
+use Rattle.rg_zone_rules.specs.Overlap.{with_twin}
 use Rattle.rg_zones.proofs.zone_patterns.patterns.Given as goal
 
 abbrev pub invariant-loop-text : goal.invariant-loop-text

@@ -1,7 +1,7 @@
 use Rattle.std.proofs.Common.{◌≡◌, ◌++◌, drop, map, true}
 use Rattle.std.specs.List.{list_all}
-use Rattle.rg_zones.specs.Overlap.{map_patterns, zone_scalars}
-use Rattle.rg_zones.specs.Rules.{map_values_fit}
+use Rattle.rg_zone_rules.specs.Overlap.{map_patterns, zone_scalars}
+use Rattle.rg_zone_rules.specs.Rules.{map_values_fit}
 use Rattle.rg_zones.proofs.zone_patterns.with_entry.Given as goal
 
 abbrev pub invariant-loop-map : goal.invariant-loop-map

@@ -1,6 +1,6 @@
 use Rattle.std.proofs.Common.{◌≡◌, false, sym, ap, subst, ◌∙◌, arith}
 use Rattle.std.specs.Arc.{arc_value}
-use Rattle.rg_zones.specs.Rules.{all_maps_fit}
+use Rattle.rg_zone_rules.specs.Rules.{all_maps_fit}
 use Rattle.rg_delta.specs.Applied.{applied, unless_new}
 use Rattle.rg_facts.specs.Candidates.{frame_of}
 use Rattle.rg_facts.specs.Sound.{sound}

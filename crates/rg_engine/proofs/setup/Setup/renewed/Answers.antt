@@ -1,6 +1,6 @@
 use Rattle.std.proofs.Common.{◌≡◌, IfOk, ap, subst, ◌∙◌}
 use Rattle.rg_defs.specs.Rules.{def_fault}
-use Rattle.rg_zones.specs.Rules.{all_maps_fit}
+use Rattle.rg_zone_rules.specs.Rules.{all_maps_fit}
 use Rattle.rg_delta.specs.Applied.{unless_new}
 use Rattle.rg_facts.specs.declared.facts.Facts.{Facts}
 use Rattle.rg_engine.proofs.setup.Setup.renewed.Goals as goal

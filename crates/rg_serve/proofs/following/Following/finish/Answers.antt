@@ -23,3 +23,8 @@ returns-clause-last g c =
     let r = c.self.inside.refresher in
     has_last g.J.Naming.before c.self.inside.seat c.refresh.new.seat r.service r.publisher.list c.refresh.new.self.publisher.list c.refresh.new.self.seq c.in-Ok.ensures.downloaded
     c.args.turn.now.start (c.self.invariant.serves c.args.turn.now.start (ap (λ t. t.start) (sym c.self.invariant.seated) ∙ c.knows.ensures.opening.0)) _ c.in-Ok.ensures.refreshed
+
+pub returns-clause-made : goal.returns-clause-made
+returns-clause-made g c =
+    let start = ap (λ t. t.start) (sym c.self.invariant.seated) ∙ c.knows.ensures.opening.0 in
+    c.in-Ok.ensures.made (c.self.invariant.made c.args.turn.now.start start)

@@ -1,6 +1,8 @@
 use Rattle.std.proofs.Common.{◌∙◌, ap, sym}
 use Rattle.rg_turn.proofs.Histories.{begins_trans}
-use Rattle.rg_serve.proofs.Downloading.{one_download, published_more, same_list, same_right, same_service}
+use Rattle.rg_machine.specs.Logs.{Administration}
+use Rattle.rg_session.specs.Right.{AreDownloadedFor, AreRightFor}
+use Rattle.rg_serve.proofs.Downloading.{one_download, published_more, same_list, same_service, same_start}
 use Rattle.rg_serve.proofs.following.Following.refresh.Goals as goal
 
 pub invariant_of-self : goal.invariant_of-self
@@ -15,7 +17,8 @@ invariant_of-self g c =
       seated = e.same.0 ∙ at.seated;
       published_by = e.same.1 ∙ at.published_by;
       serves = λ x is. e.same.2 ∙ at.serves x is;
-      right = λ x is. same_right c.args.turn.now.start x seat.history list (sym start ∙ is) e.right;
+      right = λ x is. same_start (λ (a : Administration). AreRightFor a seat.history list) c.args.turn.now.start x (sym start ∙ is) e.right;
+      made = λ x is. same_start (λ (a : Administration). AreDownloadedFor a seat.history list) c.args.turn.now.start x (sym start ∙ is) (e.made (at.made c.args.turn.now.start start));
       begins = begins_trans g.J.Naming.before.history mid.history seat.history at.begins e.begins;
       more = begins_trans g.J.Naming.published r.publisher.list list at.more (published_more c.refresh.new.self.seq e.refreshed.present r.publisher.list _ list e.refreshed.list);
       downloads = λ fine. same_service seat.history r.service c.refresh.new.self.service g.J.Naming.before seat (sym e.same.2) (one_download g.J.Naming.before mid seat r.service r.publisher.list list c.refresh.new.self.seq e.downloaded e.begins (at.downloads fine));
@@ -32,7 +35,8 @@ invariant_of-self-in-Err g c =
       seated = e.same.0 ∙ at.seated;
       published_by = e.same.1 ∙ at.published_by;
       serves = λ x is. e.same.2 ∙ at.serves x is;
-      right = λ x is. same_right c.args.turn.now.start x seat.history list (sym start ∙ is) e.right;
+      right = λ x is. same_start (λ (a : Administration). AreRightFor a seat.history list) c.args.turn.now.start x (sym start ∙ is) e.right;
+      made = λ x is. same_start (λ (a : Administration). AreDownloadedFor a seat.history list) c.args.turn.now.start x (sym start ∙ is) (e.made (at.made c.args.turn.now.start start));
       begins = begins_trans g.J.Naming.before.history c.self.inside.seat.history seat.history at.begins e.begins;
       more = same_list g.J.Naming.published r.publisher.list list (sym e.refused.0) at.more;
       downloads = λ fine. absurd (cc fine);

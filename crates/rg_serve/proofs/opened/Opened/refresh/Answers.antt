@@ -24,4 +24,4 @@ invariant_of-opened g c =
     let first : now.seq ≡ length c.self.inside.seat.calls = grind (arith, nat_tests) in
     refreshed_held c.self.inside.seat c.refresh.new.seat refresher.service refresher.publisher.list now.publisher.list now.seq c.in-Ok.refresh c.self.inside.turn c.self.inside.seats.items
     c.self.invariant.counted c.self.invariant.serves first e.downloaded e.refreshed
-    refresher.publisher now.publisher c.self.inside.passes.items refl refl c.self.invariant (e.same.0, e.same.1) now.service e.same.2 e.right
+    refresher.publisher now.publisher c.self.inside.passes.items refl refl c.self.invariant (e.same.0, e.same.1) now.service e.same.2 e.right (e.made c.self.invariant.made)

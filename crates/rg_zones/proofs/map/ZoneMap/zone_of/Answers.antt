@@ -4,7 +4,7 @@ use Rattle.rg_index.specs.declared.form.Form.{Form}
 use Rattle.rg_resmatch.specs.Tests.{some_lies}
 use Rattle.rg_zones.specs.Matched.{is_matched, rows_of}
 use Rattle.rg_zones.specs.Places.{AreNamed}
-use Rattle.rg_zones.specs.Zones.{in_zone, zone_of}
+use Rattle.rg_zone_rules.specs.Zones.{in_zone, zone_of}
 use Rattle.rg_zones.specs.Zoning.{Zoning}
 use Rattle.rg_zones.proofs.Finding.{same_place}
 use Rattle.rg_zones.proofs.Places.{all_named}

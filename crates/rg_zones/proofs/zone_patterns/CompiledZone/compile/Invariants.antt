@@ -1,10 +1,10 @@
 use Rattle.std.proofs.Common.{◌≡◌, ◌++◌, ◌||◌, not, drop, map, true}
 use Rattle.std.specs.List.{flat_map, list_all}
 use Rattle.std.specs.Str.{chars}
-use Rattle.rg_zones.specs.declared.row.ZoneService.{ZoneService}
-use Rattle.rg_zones.specs.Overlap.{map_patterns, zone_patterns, zone_scalars}
-use Rattle.rg_zones.specs.Rules.{entry_values_fit}
-use Rattle.rg_zones.specs.Zones.{entry_maps, is_for}
+use Rattle.rg_zone_rules.specs.declared.row.ZoneService.{ZoneService}
+use Rattle.rg_zone_rules.specs.Overlap.{map_patterns, zone_patterns, zone_scalars}
+use Rattle.rg_zone_rules.specs.Rules.{entry_values_fit}
+use Rattle.rg_zone_rules.specs.Zones.{entry_maps, is_for}
 use Rattle.rg_zones.proofs.zone_patterns.CompiledZone.compile.Given as goal
 
 abbrev pub invariant-loop-entry : goal.invariant-loop-entry

@@ -1,0 +1,188 @@
+-- What is printed for an explanation. Members stand in byte order of their keys, since `put` keeps that order.
+use Rattle.std.specs.Prelude.{ℕ, List, [], ◌∷◌, Option, Some, None, codes}
+use Rattle.serde_json.specs.Data.{Data, string}
+use Rattle.serde_json.specs.Written.{compact_text}
+use Rattle.rg_base.specs.Listed.{Listed, listed}
+use Rattle.rg_json.specs.Printing.{bool_data, count_data, integer_data, list_data, object_of, option_data, text_data}
+use Rattle.rg_wire.specs.Printing.{access_data}
+use Rattle.rg_facts.specs.declared.decision.ItemPlace.{ItemPlace}
+use Rattle.rg_standing.specs.declared.reason.Match.{Match}
+use Rattle.rg_standing.specs.declared.reason.Matches.{Matches}
+use Rattle.rg_standing.specs.declared.reason.Miss.{Miss}
+use Rattle.rg_standing.specs.declared.reason.Miss.TheVariants.{Level, Beyond, Apart}
+use Rattle.rg_standing.specs.declared.reason.Standing.{Standing}
+use Rattle.rg_standing.specs.declared.reason.Standing.TheVariants.{FarOff, Disabled, Unscheduled, Elsewhere, Unmet, InPlay}
+use Rattle.rg_standing.specs.declared.reason.Subject.{Subject}
+use Rattle.rg_standing.specs.declared.reason.Subject.TheVariants.{EveryUser, Owner, User, Group, Everybody, Role}
+use Rattle.rg_explain.specs.declared.explanation.Explanation.{Explanation}
+use Rattle.rg_explain.specs.declared.explanation.TaggedBy.{TaggedBy}
+use Rattle.rg_explain.specs.declared.explanation.Told.{Told}
+use Rattle.rg_explain_wire.specs.declared.key.Key.{Key}
+use Rattle.rg_explain_wire.specs.declared.key.Key.TheVariants as key
+
+unfoldable pub name_of : Key → List ℕ
+name_of key.Access = codes "access"
+name_of key.Allow = codes "allow"
+name_of key.AllowException = codes "allowException"
+name_of key.By = codes "by"
+name_of key.Cell = codes "cell"
+name_of key.Deny = codes "deny"
+name_of key.DenyException = codes "denyException"
+name_of key.Filter = codes "filter"
+name_of key.Id = codes "id"
+name_of key.Is = codes "is"
+name_of key.Item = codes "item"
+name_of key.Items = codes "items"
+name_of key.Level = codes "level"
+name_of key.Maps = codes "maps"
+name_of key.Mask = codes "mask"
+name_of key.Name = codes "name"
+name_of key.Policies = codes "policies"
+name_of key.PolicyId = codes "policyId"
+name_of key.Roles = codes "roles"
+name_of key.RowFilter = codes "rowFilter"
+name_of key.Rows = codes "rows"
+name_of key.Tag = codes "tag"
+name_of key.Tags = codes "tags"
+name_of key.Unmet = codes "unmet"
+name_of key.Zone = codes "zone"
+
+-- ---- what keeps a map out
+
+unfoldable pub miss_word : Miss → List ℕ
+miss_word (Level name) = codes "level"
+miss_word (Beyond name) = codes "beyond"
+miss_word Apart = codes "apart"
+
+abbrev pub miss_level : Miss → Option (List ℕ)
+miss_level (Level name) = Some name
+miss_level (Beyond name) = Some name
+miss_level Apart = None
+
+abbrev pub miss_members : Miss → List (Key × Data)
+miss_members m = (key.Is, string (miss_word m)) ∷ (key.Level, option_data text_data (miss_level m)) ∷ []
+
+unfoldable pub miss_data : Miss → Data
+miss_data m = object_of name_of (miss_members m)
+
+-- ---- what matches
+
+unfoldable pub subject_word : Subject → List ℕ
+subject_word EveryUser = codes "{USER}"
+subject_word Owner = codes "{OWNER}"
+subject_word User = codes "user"
+subject_word (Group name) = codes "group"
+subject_word Everybody = codes "public"
+subject_word (Role name) = codes "role"
+
+abbrev pub subject_name : Subject → Option (List ℕ)
+subject_name (Group name) = Some name
+subject_name (Role name) = Some name
+subject_name EveryUser = None
+subject_name Owner = None
+subject_name User = None
+subject_name Everybody = None
+
+abbrev pub subject_members : Subject → List (Key × Data)
+subject_members s = (key.Is, string (subject_word s)) ∷ (key.Name, option_data text_data (subject_name s)) ∷ []
+
+unfoldable pub subject_data : Subject → Data
+subject_data s = object_of name_of (subject_members s)
+
+abbrev pub match_members : Match → List (Key × Data)
+match_members m = (key.By, option_data subject_data m.subject) ∷ (key.Item, count_data m.item) ∷ []
+
+unfoldable pub match_data : Match → Data
+match_data m = object_of name_of (match_members m)
+
+abbrev pub matches_members : Matches → List (Key × Data)
+matches_members m =
+    (key.Allow, option_data match_data m.allow) ∷
+    (key.AllowException, option_data match_data m.allow_exception) ∷
+    (key.Deny, option_data match_data m.deny) ∷
+    (key.DenyException, option_data match_data m.deny_exception) ∷
+    (key.Filter, option_data match_data m.filter) ∷
+    (key.Mask, option_data match_data m.mask) ∷ []
+
+unfoldable pub matches_data : Matches → Data
+matches_data m = object_of name_of (matches_members m)
+
+-- ---- a policy
+
+unfoldable pub standing_word : Standing → List ℕ
+standing_word FarOff = codes "far off"
+standing_word Disabled = codes "disabled"
+standing_word Unscheduled = codes "unscheduled"
+standing_word (Elsewhere misses) = codes "elsewhere"
+standing_word (Unmet condition) = codes "unmet"
+standing_word (InPlay matches) = codes "in play"
+
+abbrev pub told_misses : Standing → Option (Listed Miss)
+told_misses (Elsewhere misses) = Some misses
+told_misses FarOff = None
+told_misses Disabled = None
+told_misses Unscheduled = None
+told_misses (Unmet condition) = None
+told_misses (InPlay matches) = None
+
+abbrev pub told_condition : Standing → Option (List ℕ)
+told_condition (Unmet condition) = Some condition
+told_condition FarOff = None
+told_condition Disabled = None
+told_condition Unscheduled = None
+told_condition (Elsewhere misses) = None
+told_condition (InPlay matches) = None
+
+abbrev pub told_matches : Standing → Option Matches
+told_matches (InPlay matches) = Some matches
+told_matches FarOff = None
+told_matches Disabled = None
+told_matches Unscheduled = None
+told_matches (Elsewhere misses) = None
+told_matches (Unmet condition) = None
+
+abbrev pub told_members : Told → List (Key × Data)
+told_members t =
+    (key.Cell, option_data count_data t.cell) ∷
+    (key.Id, integer_data t.policy.0) ∷
+    (key.Is, string (standing_word t.standing)) ∷
+    (key.Items, option_data matches_data (told_matches t.standing)) ∷
+    (key.Maps, option_data (list_data miss_data) (told_misses t.standing)) ∷
+    (key.Tag, option_data text_data t.tag) ∷
+    (key.Unmet, option_data text_data (told_condition t.standing)) ∷ []
+
+unfoldable pub told_data : Told → Data
+told_data t = object_of name_of (told_members t)
+
+-- ---- the whole
+
+abbrev pub place_members : ItemPlace → List (Key × Data)
+place_members p = (key.Id, integer_data p.policy.0) ∷ (key.Item, count_data p.item) ∷ (key.Tag, bool_data p.tag) ∷ []
+
+unfoldable pub place_data : ItemPlace → Data
+place_data p = object_of name_of (place_members p)
+
+abbrev pub row_members : TaggedBy → List (Key × Data)
+row_members r = (key.Id, integer_data r.row) ∷ (key.Tags, list_data text_data r.tags) ∷ []
+
+unfoldable pub row_data : TaggedBy → Data
+row_data r = object_of name_of (row_members r)
+
+abbrev pub explanation_members : Explanation → List (Key × Data)
+explanation_members e =
+    (key.Access, access_data e.verdict.access) ∷
+    (key.Cell, option_data count_data e.cell) ∷
+    (key.Mask, option_data place_data e.verdict.mask) ∷
+    (key.Policies, list_data told_data e.policies) ∷
+    (key.PolicyId, integer_data e.verdict.policy.0) ∷
+    (key.Roles, list_data text_data e.roles) ∷
+    (key.RowFilter, option_data place_data e.verdict.filter) ∷
+    (key.Rows, list_data row_data e.rows) ∷
+    (key.Zone, option_data text_data e.zone) ∷ []
+
+unfoldable pub explanation_data : Explanation → Data
+explanation_data e = object_of name_of (explanation_members e)
+
+-- the line of an explanation, without its LF
+unfoldable pub explanation_text : Explanation → List ℕ
+explanation_text e = compact_text (explanation_data e)

@@ -1,0 +1,4 @@
+pub mod Asking
+pub mod Hits
+pub mod Matching
+pub mod Standing

@@ -1,0 +1,239 @@
+// Which items match, and by which subject.
+ghost use Rattle.std.specs.Prelude.{◌≡◌, IfOk, is_none, map, not, option_and_then, option_map, position};
+ghost use Rattle.std.specs.List.{find};
+ghost use Rattle.std.specs.Str.{chars};
+ghost use Rattle.rg_base.specs.Texts.{is_among};
+ghost use Rattle.rg_policy.specs.declared.policy.PolicyCondition.{PolicyCondition};
+ghost use Rattle.rg_roles.specs.Members.{everybody};
+ghost use Rattle.rg_cond.specs.Conditions.{condition_holds};
+ghost use Rattle.rg_effect.specs.Subjects.{names_asker};
+ghost use Rattle.rg_evalr.specs.Items.{all_hold, first_item, item_matches};
+ghost use Rattle.rg_standing.specs.Matching.{effect_by, holding_role, match_at, matched, matches_of, own_group, subject_of};
+ghost use Rattle.rg_standing.specs.Standing.{def_asked, first_failing};
+
+use crate::question::Question;
+use crate::reason::{Match, Matches, Subject};
+use rg_base::{NoMemory, Text, TryCopy, is_among};
+use rg_cond::compile_condition;
+use rg_effect::{Subjects, any_grants, has_owner_word, has_user_word, is_owner, names};
+use rg_evalr::Effect;
+use rg_policy::{Item, Policy, PolicyCondition};
+use rg_roles::Roles;
+use std::alloc::Global;
+
+/// The first of the asker's groups that the groups have.
+fn own_group<'a>(own: &'a [Text], groups: &[Text]) -> Option<&'a Text>
+    ensures { option_map (λ t. t.now) result ≡ own_group own.now groups.now }
+{
+    own.iter().find(|group| is_among(group.as_str(), groups))
+}
+
+/// Whether the groups have `public`.
+fn has_everybody(roles: &Roles, groups: &[Text]) -> bool
+    ensures { result ≡ is_among everybody groups.now }
+{
+    let none: &[Text] = &[];
+    let subjects = Subjects {
+        users: none,
+        groups,
+        roles: none,
+    };
+    names(roles, "", none, &subjects)
+}
+
+fn first_set(flags: &[bool]) -> Option<usize>
+    ensures { result ≡ position (λ b. b) flags.now }
+{
+    flags.iter().position(|flag| *flag)
+}
+
+impl<'a> Question<'a> {
+    /// Whether the condition holds.
+    fn condition_holds(&self, alloc: Global, condition: &PolicyCondition) -> Result<bool, NoMemory>
+        ensures { IfOk result (λ b. b ≡ condition_holds (def_asked self.now) condition.now self.now.context.request self.now.context.tag) }
+    {
+        match compile_condition(alloc, self.def(), condition) {
+            Ok(compiled) => Ok(compiled.holds(self.request, self.tag)),
+            Err(_) => Err(NoMemory),
+        }
+    }
+
+    /// The first condition that doesn't hold.
+    pub(crate) fn first_failing<'c>(
+        &self,
+        alloc: Global,
+        conditions: &'c [PolicyCondition],
+    ) -> Result<Option<&'c PolicyCondition>, NoMemory>
+        ensures { IfOk result (λ o. option_map (λ w. w.now) o ≡ first_failing self.now conditions.now) }
+    {
+        for condition in conditions {
+            if !self.condition_holds(alloc, condition)? {
+                return Ok(Some(condition));
+            }
+        }
+        Ok(None)
+    }
+
+    /// Whether all conditions hold.
+    #[tactic(auto, using(crate::proofs::Tests::all_by_first))]
+    fn all_hold(&self, alloc: Global, conditions: &[PolicyCondition]) -> Result<bool, NoMemory>
+        ensures { IfOk result (λ b. b ≡ all_hold self.now.frame self.now.side self.now.context conditions.now) }
+    {
+        match self.first_failing(alloc, conditions)? {
+            Some(_) => Ok(false),
+            None => Ok(true),
+        }
+    }
+
+    /// The first of the roles that holds the asker.
+    fn holding_role<'c>(&self, roles: &'c [Text]) -> Option<&'c Text>
+        ensures { option_map (λ t. t.now) result ≡ holding_role self.now.context.roles self.now.context.request roles.now }
+    {
+        let user = self.request.user.as_str();
+        let own = self.request.groups.as_slice();
+        roles
+            .iter()
+            .find(|role| self.roles.holds(role.as_str(), user, own))
+    }
+
+    /// Whether a subject of the item is the asker.
+    fn names_asker(&self, item: &Item) -> bool
+        ensures { result ≡ names_asker self.now.context.roles self.now.context.request item.now }
+    {
+        let request = self.request;
+        let users = item.users.as_slice();
+        let subjects = Subjects {
+            users,
+            groups: item.groups.as_slice(),
+            roles: item.roles.as_slice(),
+        };
+        has_user_word(users)
+            || ((has_owner_word(users) && is_owner(request))
+                || names(
+                    self.roles,
+                    request.user.as_str(),
+                    request.groups.as_slice(),
+                    &subjects,
+                ))
+    }
+
+    /// The first subject of the item that is the asker.
+    fn subject_of(&self, alloc: Global, item: &Item) -> Result<Option<Subject>, NoMemory>
+        ensures { IfOk result (λ s. s ≡ subject_of self.now.context.roles self.now.context.request item.now) }
+    {
+        let users = item.users.as_slice();
+        let groups = item.groups.as_slice();
+        if has_user_word(users) {
+            return Ok(Some(Subject::EveryUser));
+        }
+        if has_owner_word(users) && is_owner(self.request) {
+            return Ok(Some(Subject::Owner));
+        }
+        if is_among(self.request.user.as_str(), users) {
+            return Ok(Some(Subject::User));
+        }
+        if let Some(group) = own_group(self.request.groups.as_slice(), groups) {
+            return Ok(Some(Subject::Group(group.try_copy(alloc)?)));
+        }
+        if has_everybody(self.roles, groups) {
+            return Ok(Some(Subject::Everybody));
+        }
+        match self.holding_role(item.roles.as_slice()) {
+            Some(role) => Ok(Some(Subject::Role(role.try_copy(alloc)?))),
+            None => Ok(None),
+        }
+    }
+
+    /// Whether the item matches.
+    fn item_matches(&self, alloc: Global, item: &Item) -> Result<bool, NoMemory>
+        ensures { IfOk result (λ b. b ≡ item_matches self.now.frame self.now.side self.now.context item.now) }
+    {
+        if !any_grants(self.def(), self.access, item.accesses.as_slice()) {
+            return Ok(false);
+        }
+        if !self.names_asker(item) {
+            return Ok(false);
+        }
+        self.all_hold(alloc, item.conditions.as_slice())
+    }
+
+    /// Which of the items match.
+    fn flags(&self, alloc: Global, items: &[Item]) -> Result<Vec<bool>, NoMemory>
+        ensures { IfOk result (λ v. v.items ≡ map (item_matches self.now.frame self.now.side self.now.context) items.now) }
+    {
+        let mut flags = Vec::new(alloc);
+        for item in items {
+            flags.push(self.item_matches(alloc, item)?)?;
+        }
+        Ok(flags)
+    }
+
+    /// The place of the first item that matches.
+    #[tactic(auto, using(crate::proofs::Tests::place_mapped))]
+    fn first_item(&self, alloc: Global, items: &[Item]) -> Result<Option<usize>, NoMemory>
+        ensures { IfOk result (λ o. o ≡ first_item self.now.frame self.now.side self.now.context items.now) }
+    {
+        let flags = self.flags(alloc, items)?;
+        Ok(first_set(&flags))
+    }
+
+    fn subject_at(
+        &self,
+        alloc: Global,
+        items: &[Item],
+        place: usize,
+    ) -> Result<Option<Subject>, NoMemory>
+        ensures { IfOk result (λ s. s ≡ (match_at self.now items.now place).subject) }
+    {
+        match items.get(place) {
+            Some(item) => self.subject_of(alloc, item),
+            None => Ok(None),
+        }
+    }
+
+    /// The first of the items that matches.
+    fn matched(&self, alloc: Global, items: &[Item]) -> Result<Option<Match>, NoMemory>
+        ensures { IfOk result (λ m. m ≡ matched self.now items.now) }
+    {
+        match self.first_item(alloc, items)? {
+            Some(item) => Ok(Some(Match {
+                item,
+                subject: self.subject_at(alloc, items, item)?,
+            })),
+            None => Ok(None),
+        }
+    }
+
+    /// The first of each list that matches.
+    pub(crate) fn matches_of(&self, alloc: Global, policy: &Policy) -> Result<Matches, NoMemory>
+        ensures { IfOk result (λ m. m ≡ matches_of self.now policy.now) }
+    {
+        Ok(Matches {
+            allow: self.matched(alloc, policy.items.as_slice())?,
+            deny: self.matched(alloc, policy.deny_items.as_slice())?,
+            allow_exception: self.matched(alloc, policy.allow_exceptions.as_slice())?,
+            deny_exception: self.matched(alloc, policy.deny_exceptions.as_slice())?,
+            mask: self.matched(alloc, policy.mask_items.as_slice())?,
+            filter: self.matched(alloc, policy.filter_items.as_slice())?,
+        })
+    }
+}
+
+impl Matches {
+    /// The effect of a policy with these matches.
+    pub(crate) fn effect(&self, deny_all_else: bool) -> Effect
+        ensures { result ≡ effect_by self.now deny_all_else }
+    {
+        if self.deny.is_some() && !self.deny_exception.is_some() {
+            return Effect::Deny;
+        }
+        if self.allow.is_some() && !self.allow_exception.is_some() {
+            return Effect::Allow;
+        }
+        if deny_all_else {
+            Effect::Deny
+        } else {
+            Effect::Nothing
+        }
+    }
+}

@@ -1,0 +1,3 @@
+pub mod Overlap
+pub mod Rules
+pub mod Zones
