@@ -17,8 +17,7 @@ use crate::start::StartFault;
 use rg_base::{NoMemory, Seq, Text, Version, is_empty, is_name, same_text};
 use rg_cmd::{Rule, ServiceRow, State, UserRow};
 use rg_defs::{ServiceDef, tag_name};
-use rg_validate::{definition_fault, user_fits};
-use rg_zones::zones_apart_by_pairs;
+use rg_validate::{definition_fault, user_fits, zones_apart_by_pairs};
 use std::alloc::Global;
 use std::collections::BTreeMap;
 

@@ -10,4 +10,6 @@ mod rules;
 
 pub use evaluator::Evaluator;
 pub use frame::{Effect, Frame, Side, def_of};
+pub use rg_cond::TimeZones;
+pub use rg_effect::is_custom;
 pub use rules::policy_fault;

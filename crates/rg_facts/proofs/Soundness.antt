@@ -7,7 +7,7 @@ use Rattle.rg_base.specs.Texts.{all_distinct}
 use Rattle.rg_policy.specs.declared.policy.Policy.{Policy}
 use Rattle.rg_defs.specs.Rules.{def_fault}
 use Rattle.rg_defs.specs.declared.service_def.ServiceDef.{ServiceDef}
-use Rattle.rg_cond.specs.Zones.{bad_rule}
+use Rattle.rg_evalr.specs.Zones.{bad_rule}
 use Rattle.rg_resmatch.specs.Rules.{tagged_fit}
 use Rattle.rg_tags.specs.declared.row.TagRow.{TagRow}
 use Rattle.rg_zone_rules.specs.Rules.{all_maps_fit, listing_fits, subjects_exist}

@@ -7,7 +7,7 @@ use Rattle.rg_base.specs.Texts.{all_distinct}
 use Rattle.rg_policy.specs.declared.policy.Policy.{Policy}
 use Rattle.rg_defs.specs.Rules.{def_fault, tag_name}
 use Rattle.rg_defs.specs.declared.service_def.ServiceDef.{ServiceDef}
-use Rattle.rg_cond.specs.Zones.{bad_rule}
+use Rattle.rg_evalr.specs.Zones.{bad_rule}
 use Rattle.rg_resmatch.specs.Rules.{tagged_fit}
 use Rattle.rg_roles.specs.Faults.{fault_of}
 use Rattle.rg_roles.specs.Members.{names_of}
@@ -15,7 +15,7 @@ use Rattle.rg_tags.specs.Rules.{tags_fit}
 use Rattle.rg_tags.specs.declared.row.TagRow.{TagRow}
 use Rattle.rg_zone_rules.specs.Overlap.{first_overlap}
 use Rattle.rg_zone_rules.specs.Rules.{all_maps_fit, listing_fits, policy_zone_fits, subjects_exist, tag_policy_zone_fits}
-use Rattle.rg_effect.specs.PolicyRules.{subjects_fit}
+use Rattle.rg_evalr.specs.PolicyRules.{subjects_fit}
 use Rattle.rg_evalr.specs.Compiling.{policy_fault}
 use Rattle.rg_evalr.specs.declared.frame.Frame.{Frame}
 use Rattle.rg_evalr.specs.declared.frame.Side.{Side}

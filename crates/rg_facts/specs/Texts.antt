@@ -12,7 +12,7 @@ use Rattle.rg_defs.specs.declared.service_def.MaskType.{MaskType}
 use Rattle.rg_defs.specs.declared.service_def.ServiceDef.{ServiceDef}
 use Rattle.rg_defs.specs.PathTests.{path_for}
 use Rattle.rg_resmatch.specs.Tests.{value_at}
-use Rattle.rg_effect.specs.PolicyRules.{custom}
+use Rattle.rg_evalr.specs.PolicyRules.{custom}
 use Rattle.rg_evalr.specs.declared.frame.Side.{Side}
 use Rattle.rg_evalr.specs.declared.frame.Side.TheVariants.{Resource, Tag}
 use Rattle.rg_facts.specs.Choices.{Choice, filter_of, mask_of}

@@ -4,8 +4,7 @@ ghost use Rattle.rg_facts.specs.Candidates.{frame_of};
 
 use crate::facts::Facts;
 use rg_base::{NoMemory, TryCopy};
-use rg_cond::TimeZones;
-use rg_evalr::Frame;
+use rg_evalr::{Frame, TimeZones};
 use rg_policy::TimeZoneRow;
 use std::alloc::Global;
 

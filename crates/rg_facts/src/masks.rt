@@ -6,7 +6,7 @@ ghost use Rattle.rg_facts.specs.Texts.{begins_with_mark, col_mark, masked, repla
 use crate::decision::MaskText;
 use rg_base::{NoMemory, Text, TryCopy, find_named, split_char};
 use rg_defs::ServiceDef;
-use rg_effect::is_custom;
+use rg_evalr::is_custom;
 use rg_policy::MaskInfo;
 use std::alloc::Global;
 

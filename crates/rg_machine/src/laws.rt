@@ -29,7 +29,7 @@ ghost use Rattle.rg_machine.specs.Views.{view};
 ghost use Rattle.rg_machine.specs.World.{Answer, AreRight, Event, IsAnswered, Publication, publications};
 
 use rg_roles::laws::{leads_is_decided, row_may_be_put, sound_in_lists, unnamed_role_may_go};
-use rg_zones::zones_apart_by_pairs;
+use rg_validate::zones_apart_by_pairs;
 
 /// The law of downloads: for two states of one legal history, and a service that no entry between them deletes, the download
 /// in the later state from the versions of the earlier view leads from that view to the later one.

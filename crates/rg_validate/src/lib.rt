@@ -26,6 +26,7 @@ pub use policies::{
     policy_subjects_fit,
 };
 pub use roles::role_is_unused;
+pub use rg_zones::zones_apart_by_pairs;
 pub use rules::first_fault;
 pub use services::{
     keeps_definition, plugin_fits, service_is_unused, service_name_is_new, tag_service_fits,
