@@ -24,7 +24,7 @@ use Rattle.rg_publish.specs.Passes.{decision_of}
 use Rattle.rg_publish.specs.Publications.{publication}
 use Rattle.rg_publish.specs.declared.history.Publication.{Publication}
 use Rattle.rg_policy.specs.declared.request.AccessRequest.{AccessRequest}
-use Rattle.rg_running.specs.Running.{Running, newest, opened_unless, refresh_publishes, running, with_next}
+use Rattle.rg_replay.specs.Running.{Running, newest, opened_unless, refresh_publishes, running, with_next}
 use Rattle.rg_script.specs.declared.cause.Cause.{Cause}
 use Rattle.rg_script.specs.declared.cause.Cause.TheVariants.{OutOfPlace, Refused, Unsound}
 use Rattle.rg_script.specs.declared.line.Line.{Line}

@@ -4,8 +4,8 @@ use Rattle.rg_policy.specs.declared.request.AccessRequest.{AccessRequest}
 use Rattle.rg_facts.specs.Texts.{decide}
 use Rattle.rg_facts.specs.declared.decision.Decision.{Decision}
 use Rattle.rg_facts.specs.declared.facts.Facts.{Facts}
-use Rattle.rg_machine.specs.Logs.{Administration}
-use Rattle.rg_machine.specs.Views.{view}
+use Rattle.rg_admin.specs.Logs.{Administration}
+use Rattle.rg_admin.specs.Views.{view}
 use Rattle.rg_current.specs.Current.{decision_now}
 
 pub decided_now : (a : Administration) (q : AccessRequest) (facts engine : Facts) (d : Decision) → view a a.state.plugin ≡ Some facts → engine ≡ facts

@@ -4,8 +4,8 @@ use Rattle.rg_policy.specs.declared.request.AccessRequest.{AccessRequest}
 use Rattle.rg_facts.specs.Texts.{decide}
 use Rattle.rg_facts.specs.declared.decision.Decision.{Decision}
 use Rattle.rg_facts.specs.declared.facts.Facts.{Facts}
-use Rattle.rg_machine.specs.Logs.{Administration}
-use Rattle.rg_machine.specs.Views.{view}
+use Rattle.rg_admin.specs.Logs.{Administration}
+use Rattle.rg_admin.specs.Views.{view}
 
 -- the decision over what the plugin sees of the administration as it is; nothing is published, so the serial is 0
 abbrev pub decision_now : Administration → AccessRequest → Option Decision

@@ -6,9 +6,9 @@ use Rattle.rg_hook.specs.Enriching.{EnricherState, Enriching}
 use Rattle.rg_cmd.specs.declared.ask.AdminReply.{AdminReply}
 use Rattle.rg_cmd.specs.declared.ask.Ask.{Ask}
 use Rattle.rg_cmd.specs.declared.config.Config.{Config}
-use Rattle.rg_machine.specs.Laws.{is_refused}
-use Rattle.rg_machine.specs.Logs.{Administration}
-use Rattle.rg_current.specs.Current.{decision_now}
+use Rattle.rg_keeping.specs.Laws.{is_refused}
+use Rattle.rg_keeping.specs.Logs.{Administration}
+use Rattle.rg_keeping.specs.Current.{decision_now}
 use Rattle.rg_ask_wire.specs.Asks.{ask_text}
 use Rattle.rg_ask_wire.specs.Keeping.{is_keeping}
 use Rattle.rg_keeper.specs.declared.keeper.KeeperFault.{KeeperFault}

@@ -6,9 +6,9 @@ use Rattle.rg_policy.specs.declared.request.AccessRequest.{AccessRequest}
 use Rattle.rg_cmd.specs.declared.ask.Ask.{Ask}
 use Rattle.rg_cmd.specs.declared.config.Config.{Config}
 use Rattle.rg_cmd.specs.declared.rule.Rule.{Rule}
-use Rattle.rg_machine.specs.Logs.{Administration}
-use Rattle.rg_admin.specs.Starting.{start_fault}
-use Rattle.rg_current.specs.Current.{decision_now}
+use Rattle.rg_keeping.specs.Logs.{Administration}
+use Rattle.rg_keeping.specs.Starting.{start_fault}
+use Rattle.rg_keeping.specs.Current.{decision_now}
 use Rattle.rg_ask_wire.specs.Asks.{ask_text}
 use Rattle.rg_keep.specs.Keeping.{added_if, is_past}
 use Rattle.rg_keep.specs.Replay.{first_bad, is_kept, replayed, stepped}

@@ -6,7 +6,6 @@ pub mod Granted
 pub mod Items
 pub mod Sources
 pub mod Tries
-
--- what facts cite of the crates below
+-- of the crates below, for those above
 pub use Rattle.rg_cond.specs.Zones
 pub use Rattle.rg_effect.specs.PolicyRules

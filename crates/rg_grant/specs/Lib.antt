@@ -6,3 +6,6 @@ pub mod Planning
 pub mod Rows
 pub mod Steps
 pub mod Taking
+-- of the crates below, for those above
+pub use Rattle.rg_admin.specs.Starting
+pub use Rattle.rg_machine.specs.Logs

@@ -18,4 +18,5 @@ pub use laws::{
     second_grants_change_no_verdict, taking_is_exact, taking_keeps_order,
 };
 pub use read::read_grant;
+pub use rg_admin::{Admin, StartFault};
 pub use row::GrantRow;

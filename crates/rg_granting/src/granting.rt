@@ -1,14 +1,13 @@
 // An administration with grants, and what its plugin decides.
 ghost use Rattle.std.specs.Prelude.{◌≡◌, IfOk, OnErr};
-ghost use Rattle.rg_admin.specs.Starting.{start_fault, started_unless};
+ghost use Rattle.rg_grant.specs.Starting.{start_fault, started_unless};
 ghost use Rattle.rg_grant.specs.Steps.{granted};
 
-use rg_admin::{Admin, StartFault};
 use rg_base::NoMemory;
 use rg_cmd::{AdminReply, Config};
 use rg_current::decide_now;
 use rg_facts::Decision;
-use rg_grant::{GrantAsk, GrantDesk};
+use rg_grant::{Admin, GrantAsk, GrantDesk, StartFault};
 use rg_policy::AccessRequest;
 use rg_work::Decider;
 use std::alloc::Global;
@@ -21,7 +20,7 @@ pub struct Granting {
 }
 
 impl Model for Granting {
-    ghost use Rattle.rg_machine.specs.Logs.{Administration};
+    ghost use Rattle.rg_grant.specs.Logs.{Administration};
 
     ghost Value = { Administration };
 

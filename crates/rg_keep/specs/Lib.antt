@@ -3,3 +3,7 @@ pub mod Events
 pub mod Keeping
 pub mod Replay
 pub mod Replaying
+-- of the crates below, for those above
+pub use Rattle.rg_admin.specs.Starting
+pub use Rattle.rg_machine.specs.Laws
+pub use Rattle.rg_machine.specs.Logs

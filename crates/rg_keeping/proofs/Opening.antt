@@ -1,8 +1,8 @@
 -- What a reopened administration and one that isn't say of the keeper's list.
 use Rattle.std.proofs.Common.{◌≡◌, ℕ, List, Option, Some, None, subst}
 use Rattle.rg_cmd.specs.declared.config.Config.{Config}
-use Rattle.rg_machine.specs.Logs.{Administration}
-use Rattle.rg_admin.specs.Starting.{start_fault}
+use Rattle.rg_keep.specs.Logs.{Administration}
+use Rattle.rg_keep.specs.Starting.{start_fault}
 use Rattle.rg_keep.specs.Keeping.{IsCause, IsKept, IsReplayed, Reopens}
 use Rattle.rg_keep.specs.declared.reopen.ReopenCause.{ReopenCause}
 use Rattle.rg_keep.specs.declared.reopen.ReopenCause.TheVariants.{Rule, BadRecord, Failed, NoMemory}

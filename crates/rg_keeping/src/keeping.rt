@@ -2,7 +2,7 @@
 ghost use Rattle.std.specs.Prelude.{◌≡◌, ◌≤◌, ◌<◌, None, IfOk, IfErr};
 ghost use Rattle.rg_ask_wire.specs.Asks.{ask_text};
 ghost use Rattle.rg_ask_wire.specs.KeyOrder.{IsInKeyOrder};
-ghost use Rattle.rg_admin.specs.Starting.{start_fault};
+ghost use Rattle.rg_keep.specs.Starting.{start_fault};
 ghost use Rattle.rg_keep.specs.Crashes.{MayTell};
 ghost use Rattle.rg_keep.specs.Keeping.{Adds, HasLength, IsAnswer, IsCause, IsReplayed, Reopens, adds, is_full, is_past};
 ghost use Rattle.rg_keeping.specs.Opened.{IsLaterCause};
@@ -28,7 +28,7 @@ pub struct Keeping<P: Keeper + Drop> {
 
 impl<P: Keeper + Drop> Model for Keeping<P> {
     ghost use Rattle.std.specs.Prelude.{◌≡◌, None};
-    ghost use Rattle.rg_admin.specs.Starting.{start_fault};
+    ghost use Rattle.rg_keep.specs.Starting.{start_fault};
     ghost use Rattle.rg_keep.specs.Keeping.{IsKept};
     ghost use Rattle.rg_keeping.specs.Opened as the;
 

@@ -13,13 +13,12 @@ ghost use Rattle.rg_link.specs.Sessions.{Counts, Wrote};
 
 use crate::report::LinkFault;
 use crate::writing::send;
-use rg_admin::Admin;
 use rg_base::{NoMemory, Text};
 use rg_cmd::{AdminCommand, AdminReply, Ask, Part};
 use rg_http::{Message, Response};
 use rg_ports::Link;
 use rg_rest::{Call, response_of};
-use rg_session::Bell;
+use rg_session::{Admin, Bell};
 use rg_turn::{Seat, Turn};
 use std::alloc::Global;
 use std::str;

@@ -9,3 +9,4 @@ mod shown;
 pub use history::Publication;
 pub use pass::{Pass, Told};
 pub use publisher::{Publications, Publisher, begin};
+pub use rg_engine::{Engine, numbered};

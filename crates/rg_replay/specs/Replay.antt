@@ -9,7 +9,7 @@ use Rattle.rg_facts.specs.Sound.{sound}
 use Rattle.rg_cmd.specs.declared.ask.Ask.{Ask}
 use Rattle.rg_cmd.specs.declared.config.Config.{Config}
 use Rattle.rg_machine.specs.Steps.{step}
-use Rattle.rg_admin.specs.Starting.{start_fault}
+use Rattle.rg_running.specs.Starting.{start_fault}
 use Rattle.rg_publish.specs.Passes.{decision_of}
 use Rattle.rg_publish.specs.Publications.{publication}
 use Rattle.rg_publish.specs.declared.history.Publication.{Publication}

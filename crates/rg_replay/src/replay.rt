@@ -1,7 +1,7 @@
 // The command `replay`: a script of facts, or of an administration and its plugin.
 ghost use Rattle.std.specs.Prelude.{◌≡◌, ◌++◌, [], Err, None, Some, true, IfOk, OnErr, OnOk, option_map, string_bytes};
 ghost use Rattle.rg_facts.specs.Sound.{sound};
-ghost use Rattle.rg_admin.specs.Starting.{start_fault};
+ghost use Rattle.rg_running.specs.Starting.{start_fault};
 ghost use Rattle.rg_running.specs.Running.{opened_unless};
 ghost use Rattle.rg_work.specs.Follow.{IsWorked};
 ghost use Rattle.rg_work.specs.Hooked.{HaveRunOn, IsAudited, hooked, hooks_of};
@@ -10,13 +10,12 @@ ghost use Rattle.rg_replay.specs.Report.{AreSound};
 
 use rg_base::{Moment, NoMemory, Serial, Steps, Text, TryCopy};
 use rg_cmd::{Ask, Config};
-use rg_engine::{Engine, numbered};
 use rg_facts::{Decision, Facts};
 use rg_hook::RequestHooks;
 use rg_policy::AccessRequest;
+use rg_publish::{Engine, numbered};
 use rg_running::Running;
-use rg_script::{Line, LineFault, read_line};
-use rg_sound::facts_fault;
+use rg_script::{Line, LineFault, facts_fault, read_line};
 use rg_work::{Decider, HookedWorker, add_reply, judge};
 use std::alloc::Global;
 use std::marker::Model;

@@ -11,7 +11,7 @@ use Rattle.rg_machine.specs.Logs.{Administration}
 use Rattle.rg_machine.specs.Machine.{download_ask, is_unchanged, versions}
 use Rattle.rg_machine.specs.Steps.{step}
 use Rattle.rg_machine.specs.Views.{view}
-use Rattle.rg_admin.specs.Starting.{started}
+use Rattle.rg_session.specs.Starting.{started}
 use Rattle.rg_publish.specs.Publications.{publication}
 use Rattle.rg_publish.specs.declared.history.Publication.{Publication}
 use Rattle.rg_session.specs.declared.refresher.Refresh.{Refresh}

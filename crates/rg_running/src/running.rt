@@ -1,21 +1,22 @@
 // An administration that is running, with what is published to its plugin.
 ghost use Rattle.std.specs.Prelude.{◌≡◌, true, Some, IfOk, length, option_map};
 ghost use Rattle.std.specs.Str.{chars};
-ghost use Rattle.rg_admin.specs.Starting.{start_fault};
-ghost use Rattle.rg_engine.specs.Bounds.{TriesWithin, bound_on};
+ghost use Rattle.rg_session.specs.Starting.{start_fault};
+ghost use Rattle.rg_publish.specs.Bounds.{TriesWithin, bound_on};
 ghost use Rattle.rg_facts.specs.Sound.{sound};
 ghost use Rattle.rg_machine.specs.Starts.{IsStart};
 ghost use Rattle.rg_machine.specs.Steps.{step};
 ghost use Rattle.rg_publish.specs.Passes.{Ends, decision_of};
 ghost use Rattle.rg_running.specs.Running.{IsRefreshed, asked, newest, opened, opened_unless, serial_in};
 
-use rg_admin::{Admin, StartFault};
 use rg_base::{Ledger, NoMemory, Serial, Steps};
 use rg_cmd::{AdminReply, Ask, Config};
 use rg_facts::{Decision, Facts};
 use rg_policy::AccessRequest;
 use rg_publish::Pass;
-use rg_session::{Refresh, Refresher, Service, documents_lead, open, right_lists_stay_right};
+use rg_session::{
+    Admin, Refresh, Refresher, Service, StartFault, documents_lead, open, right_lists_stay_right,
+};
 use rg_turn::laws::one_more_entry;
 use rg_turn::{Seat, Turn};
 use std::alloc::Global;

@@ -15,7 +15,7 @@ use Rattle.rg_cmd.specs.declared.ask.AdminReply.{AdminReply}
 use Rattle.rg_cmd.specs.declared.ask.AdminReply.TheVariants.{Downloaded}
 use Rattle.rg_cmd.specs.declared.ask.Ask.{Ask}
 use Rattle.rg_cmd.specs.declared.download.Download.{Download}
-use Rattle.rg_engine.specs.Bounds.{WorkWithin}
+use Rattle.rg_publish.specs.Bounds.{WorkWithin}
 use Rattle.rg_machine.specs.Leading.{led}
 use Rattle.rg_machine.specs.Logs.{Administration}
 use Rattle.rg_machine.specs.Machine.{download_ask, versions}

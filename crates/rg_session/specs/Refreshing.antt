@@ -14,7 +14,7 @@ use Rattle.rg_cmd.specs.declared.download.PolicyPart.{PolicyPart}
 use Rattle.rg_cmd.specs.declared.download.PolicyPart.TheVariants.{Unchanged as PoliciesUnchanged, Delta as PoliciesDelta, Whole as PoliciesWhole}
 use Rattle.rg_cmd.specs.declared.download.TagPart.{TagPart}
 use Rattle.rg_cmd.specs.declared.download.TagPart.TheVariants.{Unchanged as TagsUnchanged, Delta as TagsDelta, Whole as TagsWhole}
-use Rattle.rg_engine.specs.Bounds.{WorkWithin, made, pairs_of_changes}
+use Rattle.rg_publish.specs.Bounds.{WorkWithin, made, pairs_of_changes}
 use Rattle.rg_machine.specs.Leading.{policies_in, tags_in}
 use Rattle.rg_machine.specs.Logs.{Administration}
 use Rattle.rg_machine.specs.Machine.{download_ask, same_versions, versions}

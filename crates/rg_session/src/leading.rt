@@ -13,8 +13,8 @@ use rg_cmd::{
     TagPart, TagWhole,
 };
 use rg_delta::apply_plain;
-use rg_engine::Engine;
 use rg_facts::Facts;
+use rg_publish::Engine;
 use std::alloc::Global;
 
 // ---- deltas

@@ -15,4 +15,5 @@ pub use closing::{Totals, close};
 pub use laws::{documents_lead, downloaded_lists_stay, first_is_right, right_lists_stay_right};
 pub use opening::{Service, open};
 pub use refresher::{Refresh, Refresher};
+pub use rg_admin::{Admin, StartFault};
 pub use settling::Ahead;

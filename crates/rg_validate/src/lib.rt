@@ -25,8 +25,8 @@ pub use policies::{
     has_no_twin, policy_fault, policy_name_is_new, policy_place_fits, policy_schedules_read,
     policy_subjects_fit,
 };
-pub use roles::role_is_unused;
 pub use rg_zones::zones_apart_by_pairs;
+pub use roles::role_is_unused;
 pub use rules::first_fault;
 pub use services::{
     keeps_definition, plugin_fits, service_is_unused, service_name_is_new, tag_service_fits,

@@ -4,7 +4,7 @@ use Rattle.rg_policy.specs.declared.request.AccessRequest.{AccessRequest}
 use Rattle.rg_facts.specs.declared.decision.Decision.{Decision}
 use Rattle.rg_cmd.specs.declared.ask.AdminReply.{AdminReply}
 use Rattle.rg_wire.specs.Printing.{decision_text}
-use Rattle.rg_cmd_wire.specs.PrintedReplies.{reply_text}
+use Rattle.rg_script.specs.PrintedReplies.{reply_text}
 use Rattle.rg_work.specs.Follow.{Work}
 
 unfoldable pub decision_line : Decision → List ℕ

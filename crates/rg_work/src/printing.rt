@@ -1,13 +1,13 @@
 // The lines of replies and decisions.
 ghost use Rattle.std.specs.Prelude.{◌≡◌, ◌++◌, IfOk, OnOk, string_bytes};
 ghost use Rattle.std.specs.Str.{encode_utf8_all};
-ghost use Rattle.rg_cmd_wire.specs.PrintedReplies.{reply_text};
+ghost use Rattle.rg_script.specs.PrintedReplies.{reply_text};
 ghost use Rattle.rg_work.specs.Printed.{decision_line, reply_line};
 
 use rg_base::{NoMemory, Text};
 use rg_cmd::AdminReply;
-use rg_cmd_wire::print_reply;
 use rg_facts::Decision;
+use rg_script::print_reply;
 use rg_wire::print_decision;
 use std::alloc::Global;
 

@@ -7,7 +7,7 @@ use Rattle.std.proofs.lemmas.Option.{same_Some}
 use Rattle.rg_policy.specs.declared.request.AccessRequest.{AccessRequest}
 use Rattle.rg_facts.specs.Flow.{eval}
 use Rattle.rg_facts.specs.declared.decision.Access.{Access}
-use Rattle.rg_engine.specs.Bounds.{bound_on}
+use Rattle.rg_publish.specs.Bounds.{bound_on}
 use Rattle.rg_drill.specs.Workload.{request_of, requests_of}
 use Rattle.rg_publish.specs.Passes.{Ends}
 use Rattle.rg_publish.specs.declared.history.Publication.{Publication}

@@ -5,7 +5,7 @@ use Rattle.std.proofs.lemmas.Option.{slice_get-get_or}
 use Rattle.std.specs.List.{sum_by}
 use Rattle.rg_base.specs.declared.steps.Counted.{Counted}
 use Rattle.rg_policy.specs.declared.request.AccessRequest.{AccessRequest}
-use Rattle.rg_engine.specs.Bounds.{bound_on}
+use Rattle.rg_publish.specs.Bounds.{bound_on}
 use Rattle.rg_drill.specs.Workload.{policies_of, requests_of}
 use Rattle.rg_publish.specs.declared.history.Publication.{Publication}
 use Rattle.rg_running.specs.Running.{Running, newest}

@@ -11,10 +11,10 @@ use Rattle.rg_facts.specs.declared.decision.Access.TheVariants.{Allowed, Denied,
 use Rattle.rg_facts.specs.declared.facts.Facts.{Facts}
 use Rattle.rg_cmd.specs.declared.ask.AdminCommand.TheVariants.{CreatePolicy}
 use Rattle.rg_cmd.specs.declared.ask.Ask.{Ask}
-use Rattle.rg_engine.specs.Bounds.{bound_on}
+use Rattle.rg_publish.specs.Bounds.{bound_on}
 use Rattle.rg_drill.specs.Hive.{drill_config}
 use Rattle.rg_drill.specs.Workload.{policies_of, policy_of, requests_of}
-use Rattle.rg_admin.specs.Starting.{start_fault}
+use Rattle.rg_running.specs.Starting.{start_fault}
 use Rattle.rg_publish.specs.declared.history.Publication.{Publication}
 use Rattle.rg_running.specs.Running.{Running, asked, newest, opened_unless, refreshed}
 use Rattle.rg_workload.specs.declared.answers.Answers.{Answers}

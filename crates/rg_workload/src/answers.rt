@@ -1,7 +1,7 @@
 // How the requests of the workload are decided and counted.
 ghost use Rattle.std.specs.Prelude.{◌≡◌, ◌+◌, ◌-◌, ◌<◌, ◌≤◌, ◌^◌, IfOk, OnOk, Some};
 ghost use Rattle.std.specs.List.{sum_by};
-ghost use Rattle.rg_engine.specs.Bounds.{bound_on};
+ghost use Rattle.rg_publish.specs.Bounds.{bound_on};
 ghost use Rattle.rg_publish.specs.Passes.{Ends};
 ghost use Rattle.rg_publish.specs.declared.history.Publication.{Publication};
 ghost use Rattle.rg_drill.specs.Workload.{request_of, requests_of};

@@ -1,6 +1,6 @@
 use Rattle.std.proofs.Common.{◌≡◌, ◌≤◌, ◌+◌, ◌-◌, Some}
 use Rattle.std.specs.List.{sum_by}
-use Rattle.rg_engine.specs.Bounds.{bound_on}
+use Rattle.rg_publish.specs.Bounds.{bound_on}
 use Rattle.rg_drill.specs.Workload.{requests_of}
 use Rattle.rg_publish.specs.declared.history.Publication.{Publication}
 use Rattle.rg_running.specs.Running.{newest}
