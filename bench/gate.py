@@ -4,8 +4,8 @@ usage: bench/gate.py [WORD]..      (the words of `rt ci`; none: all crates)
 
 The table comes behind what `rt ci` prints; the status is that of `rt ci`. Figures come from looking at its processes every
 half second, so shorter work isn't told apart, and goes into `rest`. Where RT_JOBS doesn't say how many proofs run side by side, as
-many do as there are processors, and memory for the largest that were measured. While memory is short the youngest of them are held
-still, so that the system needn't kill one."""
+many do as there are processors, and memory for most of them. One that the memory isn't there for, by what crates of its size were
+seen to take, is held still until older ones have ended, so that the system needn't kill one."""
 import os
 import re
 import resource
@@ -15,12 +15,16 @@ import sys
 import time
 from collections import defaultdict
 
+TOP = os.path.dirname(os.path.dirname(os.path.abspath(__file__)))
 TICK = os.sysconf("SC_CLK_TCK")
-# What the four largest programs take together is under four times this. (What rt reckons with by itself leaves processors idle.)
+# What a job takes in the middle. (What rt reckons with by itself leaves processors idle.)
 BYTES_OF_A_JOB = 5.5e9
-# With less memory left the youngest process is held; with more again the one that was held first goes on.
-SHORT, ENOUGH = 1.5e9, 4e9
+# What the check of a crate takes at most: so much, and so much more for each crate below it.
+BYTES_AT_LEAST, BYTES_A_CRATE = 1.5e9, 0.11e9
+# What other processes leave of the memory.
+SHARE = 0.93
 CRATE = re.compile(r"crate-name\0(\w+)")
+PAGE = os.sysconf("SC_PAGE_SIZE")
 
 
 def kind_of(words, folder):
@@ -48,7 +52,36 @@ def is_below(pid, top):
     return pid == top
 
 
-def look(seen, top):
+def crates_below():
+    """How many crates each of crates.txt stands on."""
+    below = {}
+    with open(os.path.join(TOP, "crates.txt")) as it:
+        for line in it:
+            crate, colon, named = line.partition("#")[0].partition(":")
+            if colon:
+                named = [other for other in named.split() if other in below]
+                below[crate.split()[0]] = set(named).union(*(below[other] for other in named))
+    return {crate: len(others) for crate, others in below.items()}
+
+
+class Job:
+    """A process that checks or builds a crate."""
+
+    def __init__(self, pid, crate, fields, below):
+        self.pid, self.begun = pid, int(fields[19])
+        self.held = fields[0] == "T"
+        self.has = int(fields[21]) * PAGE
+        self.needs = max(self.has, BYTES_AT_LEAST + BYTES_A_CRATE * below.get(crate, 0))
+
+    def signal(self, number):
+        try:
+            os.kill(self.pid, number)
+        except OSError:
+            # (it has ended)
+            pass
+
+
+def look(seen, top, below):
     """Notes the processor time of each process below this one that checks or builds a crate, and gives these, the oldest first."""
     found = []
     for pid in map(int, filter(str.isdigit, os.listdir("/proc"))):
@@ -60,48 +93,34 @@ def look(seen, top):
                 fields = fields_of(pid)
                 # (its own time, and that of the children it waited for)
                 seen[pid, kind] = sum(map(int, fields[11:15])) / TICK
-                found.append((int(fields[19]), pid))
+                found.append(Job(pid, kind[1], fields, below))
         except OSError:
             # (it has ended)
             pass
-    return [pid for _, pid in sorted(found)]
+    return sorted(found, key=lambda job: (job.begun, job.pid))
 
 
-def free_bytes():
-    with open("/proc/meminfo") as it:
-        return 1024 * int(re.search(r"MemAvailable:\s+(\d+)", it.read())[1])
+def hold(running, memory):
+    """Lets each go on that there is memory for beside the older ones, and so the oldest always; holds the others still."""
+    left = memory
+    for place, job in enumerate(running):
+        goes_on = place == 0 or job.needs <= left
+        if job.held == goes_on:
+            job.signal(signal.SIGCONT if goes_on else signal.SIGSTOP)
+        left -= job.needs if goes_on else job.has
 
 
-def signal_to(pid, number):
-    try:
-        os.kill(pid, number)
-    except OSError:
-        # (it has ended)
-        pass
-
-
-def hold(running, held):
-    """Holds the youngest process where memory is short, but never the last; lets one go on where there is enough, or where none runs."""
-    held[:] = [pid for pid in held if pid in running]
-    active, left = [pid for pid in running if pid not in held], free_bytes()
-    if left < SHORT and len(active) > 1:
-        held.append(active[-1])
-        signal_to(active[-1], signal.SIGSTOP)
-    elif held and (left > ENOUGH or not active):
-        signal_to(held.pop(0), signal.SIGCONT)
-
-
-def jobs():
+def jobs(memory):
     """How many proofs run side by side."""
-    memory = os.sysconf("SC_PAGE_SIZE") * os.sysconf("SC_PHYS_PAGES")
     return max(1, min(len(os.sched_getaffinity(0)), int(memory / BYTES_OF_A_JOB)))
 
 
 def main(words):
-    seen, held, start = {}, [], time.monotonic()
-    gate = subprocess.Popen(["rt", "ci", *words], env={"RT_JOBS": str(jobs()), **os.environ})
+    seen, start, below = {}, time.monotonic(), crates_below()
+    memory = PAGE * os.sysconf("SC_PHYS_PAGES")
+    gate = subprocess.Popen(["rt", "ci", *words], env={"RT_JOBS": str(jobs(memory)), **os.environ})
     while gate.poll() is None:
-        hold(look(seen, gate.pid), held)
+        hold(look(seen, gate.pid, below), SHARE * memory)
         time.sleep(0.5)
     used = resource.getrusage(resource.RUSAGE_CHILDREN)
     total, clock = (used.ru_utime + used.ru_stime) / 60, (time.monotonic() - start) / 60
