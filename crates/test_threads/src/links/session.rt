@@ -6,8 +6,8 @@ use crate::links::telling::{Left, told};
 use crate::links::watched::{Sinks, watch};
 use crate::service::OpenService;
 use anyhow::{Result, anyhow};
-use rg_base::{Moment, Seq};
-use rg_hook::{AuditFan, AuditSink, Enrichers, RequestHooks, WorkerHooks};
+use rg_base::{Moment, Pair, Seq, Text};
+use rg_hook::{AuditFan, AuditSink, Enricher, Enrichers, FixedPair, RequestHooks, WorkerHooks};
 use rg_link::{LinkFault, Report, serve_link};
 use rg_ports::{FreeGate, Link, ListClock, MemLink};
 use rg_publish::Pass;
@@ -106,7 +106,16 @@ fn serve_before<R: Wait, P: Wait + Drop>(
     Ok(())
 }
 
-/// Serves the link with these sinks. Gives how it ended, and how many sinks were dropped.
+/// What the enricher adds to each request: `k` with the value `v`.
+fn added(alloc: Global) -> Result<FixedPair, AllocError> {
+    let key = Text::of(String::from_str(alloc, "k")?);
+    let value = Text::of(String::from_str(alloc, "v")?);
+    Ok(FixedPair {
+        pair: Pair { key, value },
+    })
+}
+
+/// Serves the link with these sinks and one enricher. Gives how it ended, and how many sinks were dropped.
 fn serve_watched<T: Link, R: Wait, P: Wait + Drop>(
     rt: &R,
     service: &mut OpenService<P>,
@@ -119,9 +128,11 @@ fn serve_watched<T: Link, R: Wait, P: Wait + Drop>(
     let mut watched: Vec<Box<dyn AuditSink + Send>> = Vec::new(alloc);
     watched.push(Box::new(alloc, watch(&sinks.first)?)?)?;
     watched.push(Box::new(alloc, watch(&sinks.second)?)?)?;
+    let mut enrichers: Vec<Box<dyn Enricher + Send>> = Vec::new(alloc);
+    enrichers.push(Box::new(alloc, added(alloc)?)?)?;
     let mut hooks = WorkerHooks {
         sinks: AuditFan::new(watched),
-        enrichers: Enrichers::new(Vec::new(alloc)),
+        enrichers: Enrichers::new(enrichers),
     };
     let end = serve(rt, service, pass, &mut hooks, bell, link)?;
     Ok((end, hooks.sinks.dropped()))
