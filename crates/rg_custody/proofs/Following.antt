@@ -3,7 +3,7 @@ use Rattle.std.proofs.Common.{◌≡◌, ◌≢◌, ⊎_elim, ◌∙◌, ◌+◌
 use Rattle.rg_base.specs.declared.numbers.Moment.{Moment}
 use Rattle.rg_hook.specs.Enriching.{EnricherState}
 use Rattle.rg_ports.specs.Moments.{Told}
-use Rattle.rg_script.specs.Lines.{lines_of}
+use Rattle.rg_work.specs.Lines.{lines_of}
 use Rattle.rg_work.specs.declared.status.Status.{Status}
 use Rattle.rg_work.specs.declared.status.Status.TheVariants.{Done, BadLine, KeepFault, BadRecord}
 use Rattle.rg_work.specs.Follow.{Decided, IsWorked, Output, Work}

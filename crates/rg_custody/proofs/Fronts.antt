@@ -2,7 +2,7 @@
 use Rattle.std.proofs.Common.{◌≡◌, ◌∙◌, ◌+◌, ◌++◌, ◌∷◌, [], ℕ, List, Option, Some, None, option_map, refl, ap, ap₂, sym, append_assoc, append-nil}
 use Rattle.rg_base.specs.declared.numbers.Moment.{Moment}
 use Rattle.rg_ports.specs.Moments.{Told}
-use Rattle.rg_script.specs.Lines.{lines_of}
+use Rattle.rg_work.specs.Lines.{lines_of}
 use Rattle.rg_work.specs.declared.status.Status.TheVariants.{Done}
 use Rattle.rg_work.specs.Follow.{Decided, IsWorked, Output, Step, before, worked}
 use Rattle.rg_work.specs.Hooked.{AreAudited, Hooks, IsAudited}

@@ -9,8 +9,7 @@ use rg_base::NoMemory;
 use rg_hook::RequestHooks;
 use rg_keeper::Keeper;
 use rg_ports::Clock;
-use rg_script::split_line;
-use rg_work::{Status, Worked, name_bad_line};
+use rg_work::{Status, Worked, name_bad_line, split_line};
 use std::alloc::Global;
 
 /// Names the record behind the text.

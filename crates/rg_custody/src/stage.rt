@@ -12,8 +12,7 @@ use rg_keep::{KeptReply, ReopenCause};
 use rg_keeper::{Keeper, KeeperFault};
 use rg_keeping::{KeepLine, Keeping, read_keep_line};
 use rg_policy::AccessRequest;
-use rg_script::LineFault;
-use rg_work::{add_reply, judge};
+use rg_work::{LineFault, add_reply, judge};
 use std::alloc::Global;
 
 /// Why a script goes no further.

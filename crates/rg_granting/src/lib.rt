@@ -6,3 +6,4 @@ mod line;
 
 pub use granting::Granting;
 pub use line::{GrantLine, read_grant_line};
+pub use rg_grant::GrantAsk;

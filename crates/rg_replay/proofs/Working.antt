@@ -12,8 +12,8 @@ use Rattle.rg_machine.specs.Steps.{step}
 use Rattle.rg_publish.specs.Passes.{Ends, decision_of}
 use Rattle.rg_machine.specs.Logs.{Administration}
 use Rattle.rg_running.specs.Running.{IsRefreshed, Running, asked, newest}
-use Rattle.rg_grant.specs.Steps.{granted}
-use Rattle.rg_grant.specs.declared.ask.GrantAsk.{GrantAsk}
+use Rattle.rg_granting.specs.Steps.{granted}
+use Rattle.rg_granting.specs.GrantAsk.{GrantAsk}
 use Rattle.rg_replay.specs.declared.replay.Stage.TheVariants as state
 use Rattle.rg_work.specs.Follow.{IsWorked}
 use Rattle.rg_replay.specs.Grants.{ask_work}

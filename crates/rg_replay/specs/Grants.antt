@@ -6,8 +6,8 @@ use Rattle.rg_cmd.specs.declared.ask.AdminReply.{AdminReply}
 use Rattle.rg_cmd.specs.declared.config.Config.{Config}
 use Rattle.rg_machine.specs.Logs.{Administration}
 use Rattle.rg_running.specs.Starting.{start_fault, started_unless}
-use Rattle.rg_grant.specs.Steps.{granted}
-use Rattle.rg_grant.specs.declared.ask.GrantAsk.{GrantAsk}
+use Rattle.rg_granting.specs.Steps.{granted}
+use Rattle.rg_granting.specs.GrantAsk.{GrantAsk}
 use Rattle.rg_granting.specs.Current.{decision_now}
 use Rattle.rg_granting.specs.Lines.{grant_line_of}
 use Rattle.rg_granting.specs.declared.line.GrantLine.{GrantLine}

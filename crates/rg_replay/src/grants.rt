@@ -6,8 +6,7 @@ ghost use Rattle.rg_replay.specs.Grants.{ask_work, judge_work, start_work};
 
 use rg_base::{Moment, NoMemory};
 use rg_cmd::Config;
-use rg_grant::GrantAsk;
-use rg_granting::{GrantLine, Granting, read_grant_line};
+use rg_granting::{GrantAsk, GrantLine, Granting, read_grant_line};
 use rg_hook::RequestHooks;
 use rg_policy::AccessRequest;
 use rg_script::LineFault;

@@ -4,7 +4,7 @@ use Rattle.rg_base.specs.declared.numbers.Moment.{Moment}
 use Rattle.rg_turn.specs.History.{IsLegal}
 use Rattle.rg_turn.proofs.Histories.{begins_length}
 use Rattle.rg_machine.specs.Steps.{step}
-use Rattle.rg_session.specs.Right.{AreDownloadedFor, AreRightFor}
+use Rattle.rg_serve.specs.Right.{AreDownloadedFor, AreRightFor}
 use Rattle.rg_serve.specs.Opened.{Opened}
 use Rattle.rg_serve.specs.Served.{IsCurrent}
 use Rattle.rg_work.specs.declared.status.Status.{Status}

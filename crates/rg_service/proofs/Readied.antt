@@ -19,9 +19,9 @@ use Rattle.rg_machine.specs.Views.{view}
 use Rattle.rg_admin.specs.Starting.{start_fault}
 use Rattle.rg_publish.specs.Publications.{publication}
 use Rattle.rg_publish.specs.declared.history.Publication.{Publication}
-use Rattle.rg_session.specs.Refreshing.{Publishes, is_unpublished}
-use Rattle.rg_session.specs.declared.refresher.Refresh.{Refresh}
-use Rattle.rg_session.specs.declared.refresher.Refresh.TheVariants.{Unchanged, Published}
+use Rattle.rg_serve.specs.Refreshing.{Publishes, is_unpublished}
+use Rattle.rg_serve.specs.Refresh.{Refresh}
+use Rattle.rg_serve.specs.Refresh.TheVariants.{Unchanged, Published}
 use Rattle.rg_script.specs.declared.line.Line.{Line}
 use Rattle.rg_script.specs.declared.line.Line.TheVariants as line
 use Rattle.rg_script.specs.Line.{line_of}

@@ -7,7 +7,7 @@ use Rattle.rg_turn.specs.History.{IsLegal}
 use Rattle.rg_turn.specs.declared.rule.Entry.{Entry}
 use Rattle.rg_machine.specs.Steps.{step}
 use Rattle.rg_publish.specs.declared.history.Publication.{Publication}
-use Rattle.rg_session.specs.Right.{AreDownloadedFor, AreRightFor}
+use Rattle.rg_serve.specs.Right.{AreDownloadedFor, AreRightFor}
 use Rattle.rg_serve.specs.Opened.{Opened}
 use Rattle.rg_serve.specs.Served.{HasServed, IsCurrent}
 use Rattle.rg_work.specs.declared.status.Status.{Status}

@@ -17,7 +17,7 @@ use Rattle.rg_machine.specs.Steps.{step}
 use Rattle.rg_machine.specs.Views.{view}
 use Rattle.rg_admin.specs.Starting.{start_fault, started}
 use Rattle.rg_publish.specs.declared.history.Publication.{Publication}
-use Rattle.rg_session.specs.Right.{AreDownloadedFor, AreRightFor}
+use Rattle.rg_serve.specs.Right.{AreDownloadedFor, AreRightFor}
 use Rattle.rg_serve.specs.Opened.{Opened}
 use Rattle.rg_serve.specs.Served.{HasServed, IsCurrent}
 use Rattle.rg_script.specs.declared.line.Line.{Line}

@@ -7,3 +7,5 @@ pub mod Printed
 pub mod Runs
 pub mod Statuses
 pub mod Streams
+-- of the crates below, for those above
+pub use Rattle.rg_script.specs.Lines

@@ -16,6 +16,7 @@ pub use hooked::{HookedWorker, follow_hooked};
 pub use judging::{Decider, judge};
 pub use lines::{Worked, Worker, follow, name_bad_line};
 pub use printing::{add_decision, add_reply};
+pub use rg_script::{LineFault, split_line};
 pub use script::read_script;
 pub use status::Status;
 pub use work::{work_script, work_script_hooked};
