@@ -1,14 +1,19 @@
 #!/usr/bin/env python3
-"""Prints what the program test_kept is to print without words, from the rules: what keeping.py prints; what `keep` prints over a keeper of whose
-calls one fails or that holds a record which is none, with which status it ends, how many records stand then, and how many decisions were
-audited; and what commands in a file make. Of each run of `keep` it is looked at besides whether a failed one printed a beginning of the whole
-text, and kept the first of all records.
+"""Prints what the program test_kept is to print without words, from the rules: what keeping.py prints, and what commands in a file make. With
+--runs it prints what test_scripts is to print of runs of `keep` over a keeper of whose calls one fails or that holds a record which is none:
+with which status each ends, how many records stand then, how many decisions were audited, and what is printed. Of each such run it is looked
+at besides whether a failed one printed a beginning of the whole text, and kept the first of all records.
 
 usage: checks/kept.py | cmp - crates/test_kept/stdout
+       checks/kept.py --runs | cmp - <(sed -n '/^== keeping/,/^== serving/p' crates/test_scripts/stdout | sed '$d')
 """
+import sys
+
 import disk_model
 import keeping
 import kept_model
+
+SCRIPT = keeping.CRATE.parent / "test_scripts" / "data" / "kept.script"
 
 CALLS = range(1, 38)
 WAYS = ("without", "with")
@@ -52,22 +57,24 @@ def bad_records(config):
 
 
 def kept_rows():
-    script = (keeping.CRATE / "data" / "kept.script").read_bytes()
+    script = SCRIPT.read_bytes()
     lines = script.splitlines(keepends=True)
     yield row("no call fails", script, keeping.Keeper())
     for rows in (failures(script), second_append(lines), bad_records(lines[0])):
         yield from rows
 
 
-def main():
+def main(runs):
+    if runs:
+        print("== keeping")
+        for one in kept_rows():
+            print(one)
+        return
     for one in keeping.all_rows():
-        print(one)
-    print("== runs of keep")
-    for one in kept_rows():
         print(one)
     print("== commands in a file")
     print(disk_model.demonstrated(), end="")
 
 
 if __name__ == "__main__":
-    main()
+    main(sys.argv[1:] == ["--runs"])

@@ -1,8 +1,9 @@
 // A database in memory as a keeper: each row is a call, and what it answers.
-use crate::keepers::{database_in_memory, text_of};
+use crate::keepers::database_in_memory;
 use anyhow::Result;
 use rg_keeper::Keeper;
 use std::alloc::{AllocError, Global};
+use test_tables::text_of;
 
 /// The row of an append.
 fn append_row<P: Keeper>(

@@ -7,11 +7,11 @@
 mod lines;
 mod rows;
 
-use crate::keepers::{calls_before, text_of};
 use anyhow::Result;
 use lines::{LINES, line_row};
 use rows::{Asked, database_row, failure_row, kept_by, spoiled_row, taken_row};
 use std::alloc::Global;
+use test_tables::{calls_before, text_of};
 
 /// Past the last call of a run.
 const MOST_CALLS: u64 = 40;

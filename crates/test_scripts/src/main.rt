@@ -5,11 +5,12 @@
 // NAME.script is the script, NAME.output what is to be printed, and STATUS what the run is to end with. A file that isn't there is empty.
 // Words of the form KEY=VALUE are settings of the run (table.rt), the others those of the command line. Printed is a line for each run: its
 // status, how many bytes it printed, and whether both are as wanted. Where they aren't, the lines behind it say what was wanted. A run that
-// asks for it has lines of what its workers' audit sinks hold. Behind these stand runs of `serve` with links in memory (serving.rt), which
-// begin with the configuration of `administration.script`.
+// asks for it has lines of what its workers' audit sinks hold. Behind these stand runs of `keep` with the script `kept.script` over keepers
+// in memory (kept.rt), and runs of `serve` with links in memory (serving.rt), which begin with the configuration of `administration.script`.
 #![tactic(auto)]
 
 mod hooks;
+mod kept;
 mod runs;
 mod serving;
 mod table;
@@ -61,6 +62,15 @@ fn config_in(script: &str) -> &str {
     ""
 }
 
+/// Runs `keep` with this script over keepers that fail.
+fn print_kept<R: Print + Threads + Wait + Sync>(rt: &R, alloc: Global, script: &str) -> Result<()> {
+    println!(rt; "== keeping")?;
+    for row in kept::rows_of(rt, alloc, script)?.as_slice() {
+        println!(rt; "{}", row.as_str())?;
+    }
+    Ok(())
+}
+
 /// Runs `serve` for each of these rows.
 fn print_served<R: Print + Threads + Wait + Sync>(
     rt: &R,
@@ -84,6 +94,8 @@ fn main(rt: HostRuntime) -> Result<()> {
             print!(rt; "{}", run_line(&rt, line)?.as_str())?;
         }
     }
+    let script = fs::read_to_string(&rt, "kept.script")?;
+    print_kept(&rt, rt.alloc(), script.as_str())?;
     let script = fs::read_to_string(&rt, "administration.script")?;
     let rows = fs::read_to_string(&rt, "serving.rows")?;
     print_served(&rt, rt.alloc(), config_in(script.as_str()), rows.as_str())

@@ -2,12 +2,7 @@
 use crate::runs::Outcome;
 use crate::table::Row;
 use std::alloc::{AllocError, Global};
-use std::str;
-
-/// The bytes as text. All that is printed is text.
-fn text_of(bytes: &[u8]) -> &str {
-    str::from_utf8(bytes).unwrap_or("no text")
-}
+use test_tables::text_of;
 
 /// The first line in which the texts differ, if they do. Where one ends, the other goes on.
 fn tell_difference(told: &mut String, wanted: &str, given: &str) -> Result<(), AllocError> {

@@ -1,12 +1,13 @@
 // The rows.
 use crate::administration::{answered, reopened};
-use crate::keepers::{add_record, copies, database_in_memory, failing_keeper, keeper_of, way_of};
+use crate::keepers::{copies, database_in_memory};
 use anyhow::Result;
 use rg_admin::Admin;
 use rg_base::Seq;
 use rg_keep::{KeptAdmin, ReopenCause};
 use rg_keeper::{FailingCall, Keeper, MemKeeper};
 use std::alloc::{AllocError, Global};
+use test_tables::{add_record, failing_keeper, keeper_of, way_of};
 
 /// What is asked under a configuration, in texts.
 #[derive(Clone, Copy)]

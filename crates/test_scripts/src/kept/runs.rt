@@ -1,7 +1,6 @@
 // A run of `keep` in memory.
 ghost use Rattle.std.specs.Prelude.{◌≡◌, ◌≤◌, ◌<◌, length, IfOk, IsSome};
 
-use crate::keepers::text_of;
 use rg_base::{Moment, NoMemory, Seq};
 use rg_hook::{AuditSink, MemAudit, RequestHooks};
 use rg_keeper::MemKeeper;
@@ -13,6 +12,7 @@ use rg_run::run;
 use std::alloc::{AllocError, Global};
 use std::sync::Wait;
 use std::thread::Threads;
+use test_tables::text_of;
 
 fn words_of(alloc: Global) -> Result<Vec<String>, AllocError> {
     let mut words = Vec::new(alloc);

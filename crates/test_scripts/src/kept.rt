@@ -5,12 +5,12 @@
 // The last rows are of a keeper that holds `{}`.
 mod runs;
 
-use crate::keepers::{add_record, both_ways, calls_before, failing_keeper, keeper_of, way_of};
 use rg_keeper::{FailingCall, MemKeeper};
 use runs::tell_run;
 use std::alloc::{AllocError, Global};
 use std::sync::Wait;
 use std::thread::Threads;
+use test_tables::{add_record, both_ways, calls_before, failing_keeper, keeper_of, way_of};
 
 /// Past the last call of a keeper that fails nothing.
 const MOST_CALLS: u64 = 38;
