@@ -32,9 +32,15 @@ pub(crate) enum Found {
 }
 
 /// What the publisher tells a pass: its newest publication, shared. Contracts see its whole list.
-#[derive(Drop)]
 pub struct Told {
     pub(crate) shown: Shown,
+}
+
+/// Letting what is told go is one call.
+impl Drop for Told {
+    fn drop(self) {
+        let Self { shown: _ } = self;
+    }
 }
 
 impl Model for Told {
@@ -47,12 +53,23 @@ impl Model for Told {
 
 /// A reader of what is published. Contracts see which publisher it is of, the publications that it has seen, and how often it
 /// entered and answered.
-#[derive(Drop)]
 pub struct Pass {
     pub(crate) entry: Option<Entry>,
     pub(crate) kept: Shown,
     pub(crate) entered: u64,
     pub(crate) answered: u64,
+}
+
+/// Letting a pass go is one call.
+impl Drop for Pass {
+    fn drop(self) {
+        let Self {
+            entry: _,
+            kept: _,
+            entered: _,
+            answered: _,
+        } = self;
+    }
 }
 
 impl Model for Pass {

@@ -14,13 +14,25 @@ use std::marker::Model;
 use std::sync::Wait;
 
 /// A service, but for its passes. Contracts see what it has published.
-#[derive(Drop)]
 pub(crate) struct OpenService<R: Wait + Drop> {
     pub(crate) alloc: Global,
     pub(crate) turn: Turn<Admin>,
     pub(crate) seat: Seat<Admin>,
     other_seat: Seat<Admin>,
     refresher: Refresher<R>,
+}
+
+/// Letting a service go is one call.
+impl<R: Wait + Drop> Drop for OpenService<R> {
+    fn drop(self) {
+        let Self {
+            alloc: _,
+            turn: _,
+            seat: _,
+            other_seat: _,
+            refresher: _,
+        } = self;
+    }
 }
 
 impl<R: Wait + Drop> Model for OpenService<R> {
@@ -135,7 +147,12 @@ impl<R: Wait + Drop> OpenService<R> {
         let Some(seats) = pair(alloc, seat, other_seat) else {
             return None;
         };
-        match close(alloc, refresher.publisher, passes, turn, seats) {
+        let Refresher {
+            publisher,
+            service: _,
+            seq: _,
+        } = refresher;
+        match close(alloc, publisher, passes, turn, seats) {
             Ok(totals) => Some(totals),
             Err(_) => None,
         }
