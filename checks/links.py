@@ -249,6 +249,18 @@ def bells():
          bell=["rung" if is_change else "silent" for _, _, is_change in messages])
 
 
+def enriched():
+    """Requests get the pair `k`, `v` behind their own. Of two pairs with one key the first counts."""
+    definition = {"name": "hive", "resources": [{"name": "database"}], "accessTypes": [{"name": "select"}],
+                  "policyConditions": [{"name": "ctx", "evaluator": "context-value-in", "evaluatorOptions": {"attributeName": "k"}}]}
+    item = {"users": ["ann"], "accesses": [{"type": "select"}], "conditions": [{"type": "ctx", "values": ["v"]}]}
+    before = send("POST", f"{API}/servicedef", compact(definition)) + send("POST", f"{API}/policy", policy(policyItems=[item]))
+    own = compact(json.loads(request()) | {"context": {"k": "w"}})
+    case("a pair of the enricher", ASK, "ended after 1", 0, [decision("ALLOWED", 1, 2, 3)], [audit("ALLOWED", 1, 2)], before=before)
+    case("a pair of the request", send("POST", DECIDE, own, user="ann"), "ended after 1", 0, [decision("DENIED", -1, 2, 3)],
+         [audit("DENIED", -1, 2)], before=before)
+
+
 def unanswered():
     """Calls on the link that fail between a step and its answer. The calls are a read, the answers, and a read at the end."""
     two = send("POST", DECIDE, request("a")) + send("POST", DECIDE, request("b"))
@@ -278,7 +290,7 @@ def with_table(stdout):
 
 def main():
     for title, table in (("downloads, and what is refused", downloads_and_refusals), ("how a link ends", ends),
-                         ("heads and bodies at their limits", limits), ("decisions", decisions), ("sinks", sinks), ("the bell", bells),
+                         ("heads and bodies at their limits", limits), ("decisions", decisions), ("sinks", sinks), ("an enricher", enriched), ("the bell", bells),
                          ("answers that can't be written", unanswered)):
         rows.append(f"# {title}")
         table()
