@@ -1,9 +1,11 @@
 #!/usr/bin/env python3
-"""Runs the gate's proofs, and prints how many minutes of one processor each kind of work and each crate took.
+"""Runs the gate's proofs, and prints how many minutes of one processor each kind of work and each crate took, and which functions took
+longest to prove.
 usage: bench/gate.py [WORD]..      (the words of `rt ci`; none: all crates)
 
-The table comes behind what `rt ci` prints; the status is that of `rt ci`. Figures come from looking at its processes every
-half second, so shorter work isn't told apart, and goes into `rest`. Where RT_JOBS doesn't say how many proofs run side by side, as
+The tables come behind what `rt ci` prints; the status is that of `rt ci`. Minutes come from looking at its processes every
+half second, so shorter work isn't told apart, and goes into `rest`. Seconds of functions are by the clock, between the files that a
+proof leaves in the folder that the prover works in; where it has no such folder none are printed. Where RT_JOBS doesn't say how many proofs run side by side, as
 many do as there are processors, and memory for most of them. One that the memory isn't there for, by what crates of its size were
 seen to take, is held still until older ones have ended, so that the system needn't kill one."""
 import os
@@ -64,11 +66,46 @@ def crates_below():
     return {crate: len(others) for crate, others in below.items()}
 
 
+class Parts:
+    """When each file came that the proofs of crates leave: one for each part of what is proved of a function."""
+
+    FOLDER, EVERY, MOST = "/tmp/rattle-logic-built-locked-%d-0", 10, 40
+    FILE = re.compile(r"Rattle-\w+-proofs\.(.+)\.[^.]+\.oantt$")
+
+    def __init__(self):
+        self.came, self.next = defaultdict(dict), 0
+
+    def look(self, running):
+        if time.monotonic() < self.next:
+            return
+        self.next = time.monotonic() + self.EVERY
+        for job in running:
+            try:
+                with os.scandir(self.FOLDER % job.pid) as files:
+                    for it in files:
+                        self.came[job.pid, job.crate][it.name] = it.stat().st_mtime
+            except OSError:
+                # (the folder went, or a file of it)
+                pass
+
+    def longest(self):
+        """The functions that took longest, each with its crate and its seconds."""
+        seconds = defaultdict(float)
+        for (_, crate), files in self.came.items():
+            before = None
+            for when, name in sorted((when, name) for name, when in files.items()):
+                part = self.FILE.match(name)
+                if part and before is not None:
+                    seconds[crate, part[1]] += when - before
+                before = when
+        return sorted(seconds.items(), key=lambda it: -it[1])[: self.MOST]
+
+
 class Job:
     """A process that checks or builds a crate."""
 
     def __init__(self, pid, crate, fields, below):
-        self.pid, self.begun = pid, int(fields[19])
+        self.pid, self.crate, self.begun = pid, crate, int(fields[19])
         self.held = fields[0] == "T"
         self.has = int(fields[21]) * PAGE
         self.needs = max(self.has, BYTES_AT_LEAST + BYTES_A_CRATE * below.get(crate, 0))
@@ -116,11 +153,13 @@ def jobs(memory):
 
 
 def main(words):
-    seen, start, below = {}, time.monotonic(), crates_below()
+    seen, parts, start, below = {}, Parts(), time.monotonic(), crates_below()
     memory = PAGE * os.sysconf("SC_PHYS_PAGES")
     gate = subprocess.Popen(["rt", "ci", *words], env={"RT_JOBS": str(jobs(memory)), **os.environ})
     while gate.poll() is None:
-        hold(look(seen, gate.pid, below), SHARE * memory)
+        running = look(seen, gate.pid, below)
+        hold(running, SHARE * memory)
+        parts.look(running)
         time.sleep(0.5)
     used = resource.getrusage(resource.RUSAGE_CHILDREN)
     total, clock = (used.ru_utime + used.ru_stime) / 60, (time.monotonic() - start) / 60
@@ -128,6 +167,8 @@ def main(words):
     for (_, (kind, crate)), seconds in seen.items():
         kinds[kind] += seconds / 60
         crates[crate][kind] += seconds / 60
+    for (crate, function), took in parts.longest():
+        print(f"seconds: {crate} {function} {took:.0f}")
     for crate, of in sorted(crates.items(), key=lambda it: -sum(it[1].values())):
         print(f"minutes: {crate}", *(f"{kind} {of[kind]:.1f}" for kind in sorted(of)))
     print("minutes: all", *(f"{kind} {kinds[kind]:.0f}" for kind in sorted(kinds)), f"rest {max(total - sum(kinds.values()), 0):.0f}; of one processor {total:.0f}, by the clock {clock:.0f}", flush=True)
