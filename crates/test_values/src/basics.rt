@@ -47,9 +47,8 @@ fn tell_split(alloc: Global, text: &str) -> Result<String, NoMemory> {
     }
 }
 
-/// `list|NAMES|NAME|NAME`: a list that grew by a push into a reserved place and by another name; whether it is empty, its names, and
-/// those that its copy gives back.
-fn tell_list(alloc: Global, start: &str, pushed: &str, added: &str) -> Result<String, NoMemory> {
+/// A list that grew by a push into a reserved place, and by another name.
+fn grown(alloc: Global, start: &str, pushed: &str, added: &str) -> Result<Seq<Text>, NoMemory> {
     let mut list = Seq::from_vec(names(alloc, start)?.into_vec());
     list.reserve()?;
     let pushed = Text::copy_of(alloc, pushed)?;
@@ -57,15 +56,24 @@ fn tell_list(alloc: Global, start: &str, pushed: &str, added: &str) -> Result<St
         return Err(NoMemory);
     }
     list.add(Text::copy_of(alloc, added)?)?;
-    let mut answer = format!(in alloc;
-        "{} names, empty {}, ",
-        list.len(),
-        yes_or_no(list.is_empty())
-    )?;
-    add_names(&mut answer, list.as_slice())?;
+    Ok(list)
+}
+
+/// Adds the names of the list, and those that its copy gives back.
+fn add_both(answer: &mut String, alloc: Global, list: &Seq<Text>) -> Result<(), NoMemory> {
+    add_names(answer, list.as_slice())?;
     answer.push(' ')?;
     let copy = list.try_copy(alloc)?.into_vec();
-    add_names(&mut answer, copy.as_slice())?;
+    add_names(answer, copy.as_slice())
+}
+
+/// `list|NAMES|NAME|NAME`: a list that grew by two names; whether it is empty, its names, and those that its copy gives back.
+fn tell_list(alloc: Global, start: &str, pushed: &str, added: &str) -> Result<String, NoMemory> {
+    let list = grown(alloc, start, pushed, added)?;
+    let count = list.len();
+    let empty = yes_or_no(list.is_empty());
+    let mut answer = format!(in alloc; "{count} names, empty {empty}, ")?;
+    add_both(&mut answer, alloc, &list)?;
     Ok(answer)
 }
 

@@ -1,5 +1,5 @@
 // Rows about ports over readers, writers, streams and the machine.
-use crate::ports::{DIGITS, add_bytes, add_read};
+use crate::ports::{DIGITS, add_bytes, add_reads};
 use crate::rows::{count, field, told};
 use rg_base::{Failed, Moment, NoMemory};
 use rg_ports::{
@@ -87,9 +87,7 @@ fn add_failures(answer: &mut String, failures: u64) -> Result<(), NoMemory> {
 fn tell_reader(alloc: Global, rooms: &str) -> Result<String, NoMemory> {
     let mut source = StdSource::new(DIGITS);
     let mut answer = String::new(alloc);
-    for room in rooms.split(',') {
-        add_read(&mut answer, &mut source, count(room))?;
-    }
+    add_reads(&mut answer, &mut source, rooms)?;
     add_failures(&mut answer, source.failures())?;
     Ok(answer)
 }

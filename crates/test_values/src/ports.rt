@@ -59,14 +59,29 @@ pub(crate) fn add_read<S: Source>(
     Ok(answer.push('|')?)
 }
 
+/// Adds what the reads into rooms of these sizes give.
+pub(crate) fn add_reads<S: Source>(
+    answer: &mut String,
+    source: &mut S,
+    rooms: &str,
+) -> Result<(), NoMemory> {
+    for room in rooms.split(',') {
+        add_read(answer, source, count(room))?;
+    }
+    Ok(())
+}
+
+fn source(alloc: Global, pieces: &str, fails: &str) -> Result<MemSource, NoMemory> {
+    let pieces = sizes(alloc, pieces)?;
+    let fails = calls(alloc, fails)?;
+    Ok(MemSource::new(digits(alloc)?, pieces, fails))
+}
+
 /// `source|PIECES|FAILS|ROOMS`: what the reads into these rooms give.
 fn tell_source(alloc: Global, row: &str) -> Result<String, NoMemory> {
-    let pieces = sizes(alloc, field(row, 1))?;
-    let mut source = MemSource::new(digits(alloc)?, pieces, calls(alloc, field(row, 2))?);
+    let mut source = source(alloc, field(row, 1), field(row, 2))?;
     let mut answer = String::new(alloc);
-    for room in field(row, 3).split(',') {
-        add_read(&mut answer, &mut source, count(room))?;
-    }
+    add_reads(&mut answer, &mut source, field(row, 3))?;
     Ok(answer)
 }
 
@@ -82,14 +97,24 @@ fn add_write(answer: &mut String, sink: &mut MemSink) -> Result<(), NoMemory> {
     Ok(answer.push('|')?)
 }
 
+fn add_writes(answer: &mut String, sink: &mut MemSink, times: u32) -> Result<(), NoMemory> {
+    for _ in 0..times {
+        add_write(answer, sink)?;
+    }
+    Ok(())
+}
+
+fn sink(alloc: Global, pieces: &str, fails: &str) -> Result<MemSink, NoMemory> {
+    let pieces = sizes(alloc, pieces)?;
+    let fails = calls(alloc, fails)?;
+    Ok(MemSink::new(Seq::new(alloc), pieces, fails))
+}
+
 /// `sink|PIECES|FAILS|TIMES`: so many writes of `abc`.
 fn tell_sink(alloc: Global, row: &str) -> Result<String, NoMemory> {
-    let pieces = sizes(alloc, field(row, 1))?;
-    let mut sink = MemSink::new(Seq::new(alloc), pieces, calls(alloc, field(row, 2))?);
+    let mut sink = sink(alloc, field(row, 1), field(row, 2))?;
     let mut answer = String::new(alloc);
-    for _ in 0..count(field(row, 3)) {
-        add_write(&mut answer, &mut sink)?;
-    }
+    add_writes(&mut answer, &mut sink, count(field(row, 3)))?;
     Ok(answer)
 }
 
@@ -116,16 +141,22 @@ fn add_link_write(answer: &mut String, link: &mut MemLink) -> Result<(), NoMemor
     }
 }
 
+/// Adds so often a read, and then a write.
+fn add_turns(answer: &mut String, link: &mut MemLink, times: u32) -> Result<(), NoMemory> {
+    for _ in 0..times {
+        add_link_read(answer, link)?;
+        answer.push(' ')?;
+        add_link_write(answer, link)?;
+        answer.push('|')?;
+    }
+    Ok(())
+}
+
 /// `link|PIECES|FAILS|TIMES`: so often a read, and then a write of `abc`.
 fn tell_link(alloc: Global, row: &str) -> Result<String, NoMemory> {
     let mut link = link(alloc, field(row, 1), field(row, 2))?;
     let mut answer = String::new(alloc);
-    for _ in 0..count(field(row, 3)) {
-        add_link_read(&mut answer, &mut link)?;
-        answer.push(' ')?;
-        add_link_write(&mut answer, &mut link)?;
-        answer.push('|')?;
-    }
+    add_turns(&mut answer, &mut link, count(field(row, 3)))?;
     Ok(answer)
 }
 
@@ -154,18 +185,24 @@ fn links(alloc: Global, sizes: &str) -> Result<Vec<MemLink>, NoMemory> {
     Ok(list)
 }
 
-/// `listener|SIZES|FAILS|CALLS`: what `listen` and `accept` answer, with one read of each link.
-fn tell_listener(alloc: Global, row: &str) -> Result<String, NoMemory> {
-    let links = links(alloc, field(row, 1))?;
-    let mut listener = MemListener::new(links, calls(alloc, field(row, 2))?);
-    let mut answer = String::new(alloc);
-    for call in field(row, 3).split(',') {
+/// Adds what each of these calls answers.
+fn add_calls(answer: &mut String, listener: &mut MemListener, calls: &str) -> Result<(), NoMemory> {
+    for call in calls.split(',') {
         match call {
-            "listen" => add_listened(&mut answer, &mut listener)?,
-            _ => add_accepted(&mut answer, &mut listener)?,
+            "listen" => add_listened(answer, listener)?,
+            _ => add_accepted(answer, listener)?,
         }
         answer.push('|')?;
     }
+    Ok(())
+}
+
+/// `listener|SIZES|FAILS|CALLS`: what `listen` and `accept` answer, with one read of each link.
+fn tell_listener(alloc: Global, row: &str) -> Result<String, NoMemory> {
+    let fails = calls(alloc, field(row, 2))?;
+    let mut listener = MemListener::new(links(alloc, field(row, 1))?, fails);
+    let mut answer = String::new(alloc);
+    add_calls(&mut answer, &mut listener, field(row, 3))?;
     Ok(answer)
 }
 
