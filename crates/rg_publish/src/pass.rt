@@ -32,15 +32,9 @@ pub(crate) enum Found {
 }
 
 /// What the publisher tells a pass: its newest publication, shared. Contracts see its whole list.
+#[derive(Drop)]
 pub struct Told {
     pub(crate) shown: Shown,
-}
-
-/// Letting what is told go is one call.
-impl Drop for Told {
-    fn drop(self) {
-        let Self { shown: _ } = self;
-    }
 }
 
 impl Model for Told {

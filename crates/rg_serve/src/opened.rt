@@ -19,6 +19,7 @@ use std::sync::Wait;
 
 /// An administration with its plugin, and workers that serve no links yet. It is asked through a seat of its own, the refresher's.
 /// Contracts see the history and the publications, and how many of the entries are known to be its own calls.
+#[derive(Drop)]
 pub struct Opened<R: Wait + Drop> {
     pub(crate) turn: Turn<Admin>,
     /// The refresher's.
@@ -27,19 +28,6 @@ pub struct Opened<R: Wait + Drop> {
     /// Those of the workers, as many as passes.
     pub(crate) seats: Vec<Seat<Admin>>,
     pub(crate) passes: Vec<Pass>,
-}
-
-/// Letting it go is one call.
-impl<R: Wait + Drop> Drop for Opened<R> {
-    fn drop(self) {
-        let Self {
-            turn: _,
-            seat: _,
-            refresher: _,
-            seats: _,
-            passes: _,
-        } = self;
-    }
 }
 
 impl<R: Wait + Drop> Model for Opened<R> {

@@ -22,23 +22,12 @@ use std::alloc::Global;
 use std::sync::Wait;
 
 /// A service that is open: its one history, the publications that follow it, and the passes that decide by them.
+#[derive(Drop)]
 pub struct Service<R: Wait + Drop> {
     pub turn: Turn<Admin>,
     pub seats: Vec<Seat<Admin>>,
     pub refresher: Refresher<R>,
     pub passes: Vec<Pass>,
-}
-
-/// Letting a service go is one call.
-impl<R: Wait + Drop> Drop for Service<R> {
-    fn drop(self) {
-        let Self {
-            turn: _,
-            seats: _,
-            refresher: _,
-            passes: _,
-        } = self;
-    }
 }
 
 /// An engine over what the plugin sees.

@@ -57,23 +57,13 @@ fn take<R: Wait + Drop, L: Ledger>(
 }
 
 /// A publisher that follows the history of one administration.
+#[derive(Drop)]
 pub struct Refresher<R: Wait + Drop> {
     pub publisher: Publisher<R>,
     /// The plugin's service.
     pub service: Text,
     /// How many entries came before the download of the last refresh that met no want of memory; 0 before the first.
     pub seq: u64,
-}
-
-/// Letting a refresher go is one call.
-impl<R: Wait + Drop> Drop for Refresher<R> {
-    fn drop(self) {
-        let Self {
-            publisher: _,
-            service: _,
-            seq: _,
-        } = self;
-    }
 }
 
 impl<R: Wait + Drop> Refresher<R> {

@@ -14,25 +14,13 @@ use std::marker::Model;
 use std::sync::Wait;
 
 /// A service, but for its passes. Contracts see what it has published.
+#[derive(Drop)]
 pub(crate) struct OpenService<R: Wait + Drop> {
     pub(crate) alloc: Global,
     pub(crate) turn: Turn<Admin>,
     pub(crate) seat: Seat<Admin>,
     other_seat: Seat<Admin>,
     refresher: Refresher<R>,
-}
-
-/// Letting a service go is one call.
-impl<R: Wait + Drop> Drop for OpenService<R> {
-    fn drop(self) {
-        let Self {
-            alloc: _,
-            turn: _,
-            seat: _,
-            other_seat: _,
-            refresher: _,
-        } = self;
-    }
 }
 
 impl<R: Wait + Drop> Model for OpenService<R> {
