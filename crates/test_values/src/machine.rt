@@ -158,20 +158,29 @@ fn tell_unsteady_link(alloc: Global, times: u32) -> Result<String, NoMemory> {
     Ok(answer)
 }
 
-/// `net|CALLS`: whether each call succeeds, `accept` or else the address to listen at, and how many failed so far.
+/// Adds whether the call succeeds, `accept` or else the address to listen at, and how many failed so far.
+fn add_call(
+    answer: &mut String,
+    net: &mut TcpNet<HostRuntime>,
+    call: &str,
+) -> Result<(), NoMemory> {
+    let is_met = match call {
+        "accept" => net.accept().is_ok(),
+        address => net.listen(address).is_ok(),
+    };
+    answer.push_str(if is_met { "met" } else { "failed" })?;
+    add_failures(answer, net.failures())
+}
+
+/// `net|CALLS`: whether each call succeeds, and how many failed so far.
 fn tell_net(rt: &HostRuntime, calls: &str) -> Result<String, NoMemory> {
-    let mut answer = String::new(rt.alloc());
     let Ok(machine) = rt.clone() else {
         return Err(NoMemory);
     };
     let mut net = TcpNet::new(machine);
+    let mut answer = String::new(rt.alloc());
     for call in calls.split(',') {
-        let is_met = match call {
-            "accept" => net.accept().is_ok(),
-            address => net.listen(address).is_ok(),
-        };
-        answer.push_str(if is_met { "met" } else { "failed" })?;
-        add_failures(&mut answer, net.failures())?;
+        add_call(&mut answer, &mut net, call)?;
     }
     Ok(answer)
 }

@@ -53,16 +53,21 @@ fn tell_walk(alloc: Global, row: &str) -> Result<String, NoMemory> {
     Ok(answer)
 }
 
+/// The entries under the value in both tries.
+fn told_beside(alloc: Global, old: &Trie, new: &Trie, value: &str) -> Result<String, NoMemory> {
+    let mut answer = String::new(alloc);
+    add_walk(&mut answer, old, value, false)?;
+    answer.push_str(" beside ")?;
+    add_walk(&mut answer, new, value, false)?;
+    Ok(answer)
+}
+
 /// `beside|EDITS|EDIT|VALUE`: after one more edit, the entries under the value in the old trie and in the new one.
 fn tell_beside(alloc: Global, row: &str) -> Result<String, NoMemory> {
     let mut steps = Steps::counted();
     let old = built(alloc, field(row, 1), &mut steps)?;
     let new = edited(alloc, &old, field(row, 2), &mut steps)?;
-    let mut answer = String::new(alloc);
-    add_walk(&mut answer, &old, field(row, 3), false)?;
-    answer.push_str(" beside ")?;
-    add_walk(&mut answer, &new, field(row, 3), false)?;
-    Ok(answer)
+    told_beside(alloc, &old, &new, field(row, 3))
 }
 
 /// `steps|EDITS`: the steps that the edits count.
