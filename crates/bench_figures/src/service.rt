@@ -17,21 +17,11 @@ use std::marker::Model;
 use std::sync::Wait;
 
 /// A service that is open. Contracts see the administration that it began with.
+#[derive(Drop)]
 pub(crate) struct OpenService<R: Wait + Drop> {
     turn: Turn<Admin>,
     seat: Seat<Admin>,
     refresher: Refresher<R>,
-}
-
-/// Letting a service go is one call.
-impl<R: Wait + Drop> Drop for OpenService<R> {
-    fn drop(self) {
-        let Self {
-            turn: _,
-            seat: _,
-            refresher: _,
-        } = self;
-    }
 }
 
 impl<R: Wait + Drop> Model for OpenService<R> {

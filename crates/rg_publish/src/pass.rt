@@ -47,23 +47,12 @@ impl Model for Told {
 
 /// A reader of what is published. Contracts see which publisher it is of, the publications that it has seen, and how often it
 /// entered and answered.
+#[derive(Drop)]
 pub struct Pass {
     pub(crate) entry: Option<Entry>,
     pub(crate) kept: Shown,
     pub(crate) entered: u64,
     pub(crate) answered: u64,
-}
-
-/// Letting a pass go is one call.
-impl Drop for Pass {
-    fn drop(self) {
-        let Self {
-            entry: _,
-            kept: _,
-            entered: _,
-            answered: _,
-        } = self;
-    }
 }
 
 impl Model for Pass {

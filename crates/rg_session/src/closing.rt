@@ -18,6 +18,7 @@ use std::alloc::Global;
 use std::sync::Wait;
 
 /// What is left of a service.
+#[derive(Drop)]
 pub struct Totals {
     /// The administration after the whole history.
     pub admin: Admin,
@@ -30,20 +31,6 @@ pub struct Totals {
     pub decisions: u64,
     /// The first pass that has seen more than the publisher has.
     pub ahead: Option<Ahead>,
-}
-
-/// Letting totals go is one call.
-impl Drop for Totals {
-    fn drop(self) {
-        let Self {
-            admin: _,
-            past: _,
-            published: _,
-            publications: _,
-            decisions: _,
-            ahead: _,
-        } = self;
-    }
 }
 
 /// The first pass that is ahead; where none is, each pass learns all that was published.
