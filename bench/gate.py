@@ -5,9 +5,11 @@ usage: bench/gate.py [WORD]..      (the words of `rt ci`; none: all crates)
 
 The tables come behind what `rt ci` prints; the status is that of `rt ci`. Minutes come from looking at its processes every
 half second, so shorter work isn't told apart, and goes into `rest`. Seconds of functions are by the clock, between the files that a
-proof leaves in the folder that the prover works in; where it has no such folder none are printed. Where RT_JOBS doesn't say how many proofs run side by side, as
-many do as there are processors, and memory for most of them. One that the memory isn't there for, by what crates of its size were
-seen to take, is held still until older ones have ended, so that the system needn't kill one."""
+proof leaves in the folder that the prover works in; where it has no such folder none are printed.
+
+Where RT_JOBS doesn't say how many proofs run side by side, as many do as there are processors, and memory for most of them. One that
+the memory isn't there for, by what it was seen to take, is held still until older ones have ended, so that the system needn't kill
+one."""
 import os
 import re
 import resource
@@ -17,12 +19,12 @@ import sys
 import time
 from collections import defaultdict
 
-TOP = os.path.dirname(os.path.dirname(os.path.abspath(__file__)))
 TICK = os.sysconf("SC_CLK_TCK")
 # What a job takes in the middle. (What rt reckons with by itself leaves processors idle.)
 BYTES_OF_A_JOB = 5.5e9
-# What the check of a crate takes at most: so much, and so much more for each crate below it.
-BYTES_AT_LEAST, BYTES_A_CRATE = 1.5e9, 0.11e9
+# What the proofs of the largest programs were seen to take at most, in GB, and what other work may take.
+OF_A_PROGRAM = {"test_scripts": 10, "test_kept": 7, "test_threads": 6.5, "test_values": 5, "check_models": 5}
+OF_A_KIND = {"programs": 6, "libraries": 3.3, "edits": 3.3, "builds": 2.5}
 # What other processes leave of the memory.
 SHARE = 0.93
 CRATE = re.compile(r"crate-name\0(\w+)")
@@ -54,16 +56,10 @@ def is_below(pid, top):
     return pid == top
 
 
-def crates_below():
-    """How many crates each of crates.txt stands on."""
-    below = {}
-    with open(os.path.join(TOP, "crates.txt")) as it:
-        for line in it:
-            crate, colon, named = line.partition("#")[0].partition(":")
-            if colon:
-                named = [other for other in named.split() if other in below]
-                below[crate.split()[0]] = set(named).union(*(below[other] for other in named))
-    return {crate: len(others) for crate, others in below.items()}
+def bytes_of(kind, crate):
+    """How much memory such work for the crate may take."""
+    most = OF_A_KIND[kind]
+    return 1e9 * (OF_A_PROGRAM.get(crate, most) if kind == "programs" else most)
 
 
 class Parts:
@@ -104,11 +100,11 @@ class Parts:
 class Job:
     """A process that checks or builds a crate."""
 
-    def __init__(self, pid, crate, fields, below):
+    def __init__(self, pid, kind, crate, fields):
         self.pid, self.crate, self.begun = pid, crate, int(fields[19])
         self.held = fields[0] == "T"
         self.has = int(fields[21]) * PAGE
-        self.needs = max(self.has, BYTES_AT_LEAST + BYTES_A_CRATE * below.get(crate, 0))
+        self.needs = max(self.has, bytes_of(kind, crate))
 
     def signal(self, number):
         try:
@@ -118,7 +114,7 @@ class Job:
             pass
 
 
-def look(seen, top, below):
+def look(seen, top):
     """Notes the processor time of each process below this one that checks or builds a crate, and gives these, the oldest first."""
     found = []
     for pid in map(int, filter(str.isdigit, os.listdir("/proc"))):
@@ -130,7 +126,7 @@ def look(seen, top, below):
                 fields = fields_of(pid)
                 # (its own time, and that of the children it waited for)
                 seen[pid, kind] = sum(map(int, fields[11:15])) / TICK
-                found.append(Job(pid, kind[1], fields, below))
+                found.append(Job(pid, *kind, fields))
         except OSError:
             # (it has ended)
             pass
@@ -153,11 +149,11 @@ def jobs(memory):
 
 
 def main(words):
-    seen, parts, start, below = {}, Parts(), time.monotonic(), crates_below()
+    seen, parts, start = {}, Parts(), time.monotonic()
     memory = PAGE * os.sysconf("SC_PHYS_PAGES")
     gate = subprocess.Popen(["rt", "ci", *words], env={"RT_JOBS": str(jobs(memory)), **os.environ})
     while gate.poll() is None:
-        running = look(seen, gate.pid, below)
+        running = look(seen, gate.pid)
         hold(running, SHARE * memory)
         parts.look(running)
         time.sleep(0.5)
