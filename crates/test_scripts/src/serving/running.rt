@@ -1,6 +1,7 @@
 // A run of `serve` with links in memory.
 ghost use Rattle.std.specs.Prelude.{◌≡◌, ◌≤◌, length, IfOk};
 
+use crate::hooks::no_hooks;
 use crate::serving::listening::{Links, SharedLink};
 use rg_base::{Moment, Seq};
 use rg_hook::WorkerHooks;
@@ -10,7 +11,7 @@ use rg_run::run;
 use std::alloc::{AllocError, Global};
 use std::sync::Wait;
 use std::thread::Threads;
-use test_tables::{no_hooks, written};
+use test_tables::written;
 
 /// A run, and what it meets.
 #[derive(Clone, Copy)]
