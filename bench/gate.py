@@ -23,8 +23,8 @@ TICK = os.sysconf("SC_CLK_TCK")
 # What a job takes in the middle. (What rt reckons with by itself leaves processors idle.)
 BYTES_OF_A_JOB = 5.5e9
 # What the proofs of the largest programs were seen to take at most, in GB, and what other work may take.
-OF_A_PROGRAM = {"test_scripts": 10, "test_kept": 7, "test_threads": 6.5, "test_values": 5, "check_models": 5}
-OF_A_KIND = {"programs": 6, "libraries": 3.3, "edits": 3.3, "builds": 2.5}
+OF_A_PROGRAM = {"test_kept": 7, "test_threads": 5.5, "test_values": 5}
+OF_A_KIND = {"programs": 4.7, "libraries": 3.3, "edits": 3.3, "builds": 2}
 # What other processes leave of the memory.
 SHARE = 0.93
 CRATE = re.compile(r"crate-name\0(\w+)")
