@@ -1,5 +1,5 @@
 // A run of `serve` with links in memory.
-ghost use Rattle.std.specs.Prelude.{◌≡◌, ◌≤◌, length, IfOk};
+ghost use Rattle.std.specs.Prelude.{◌≤◌, length};
 
 use crate::hooks::no_hooks;
 use crate::serving::listening::{Links, SharedLink};
@@ -47,17 +47,6 @@ fn words_of(alloc: Global, most: &str) -> Result<Vec<String>, AllocError> {
     Ok(words)
 }
 
-/// No sinks and no enrichers, for so many workers.
-fn hooks_of(alloc: Global, workers: u32) -> Result<Vec<WorkerHooks>, AllocError>
-    ensures { IfOk result (λ hooks. length hooks.items ≡ workers) }
-{
-    let mut all = Vec::new(alloc);
-    for made in 0..workers {
-        all.push(no_hooks(alloc))?;
-    }
-    Ok(all)
-}
-
 /// What a run asks of the outside.
 #[derive(Drop)]
 struct Outside<S, K, C, N, G> {
@@ -68,7 +57,7 @@ struct Outside<S, K, C, N, G> {
     gate: G,
 }
 
-/// Runs with these workers. In `served` it isn't found that they may cross threads.
+/// Runs with these workers. In `run_plain` it isn't found that they may cross threads.
 fn run_with<S: Source, K: Sink, C: Clock, N: Listener, G: Gate, R: Threads + Wait + Sync>(
     rt: &R,
     alloc: Global,
@@ -112,6 +101,23 @@ fn outside_of(
     })
 }
 
+/// Runs with so many workers, who have no sinks and no enrichers.
+fn run_plain<R: Threads + Wait + Sync>(
+    rt: &R,
+    alloc: Global,
+    case: &Case,
+    outside: &mut Outside<MemSource, MemSink, ListClock, Links, MeetingGate>,
+) -> Result<u8, AllocError>
+    requires { (1 ≤ case.now.workers) × (case.now.workers ≤ 64) }
+{
+    let words = words_of(alloc, case.most)?;
+    let mut workers = Vec::new(alloc);
+    for made in 0..case.workers {
+        workers.push(no_hooks(alloc))?;
+    }
+    Ok(run_with(rt, alloc, words.as_slice(), outside, &mut workers))
+}
+
 /// Runs, and tells the status and what was printed.
 pub(crate) fn served<R: Threads + Wait + Sync>(
     rt: &R,
@@ -121,10 +127,8 @@ pub(crate) fn served<R: Threads + Wait + Sync>(
 ) -> Result<String, AllocError>
     requires { (1 ≤ case.now.workers) × (case.now.workers ≤ 64) }
 {
-    let words = words_of(alloc, case.most)?;
     let mut outside = outside_of(alloc, case, links)?;
-    let mut hooks = hooks_of(alloc, case.workers)?;
-    let status = run_with(rt, alloc, words.as_slice(), &mut outside, &mut hooks);
+    let status = run_plain(rt, alloc, case, &mut outside)?;
     let printed = written(alloc, outside.sink.held(), "\n")?;
     let mut told = format!(in alloc; "{status}|{}", printed.as_str())?;
     if outside.gate.gave_up() {
