@@ -3,19 +3,10 @@ ghost use Rattle.std.specs.Prelude.{[], None};
 
 use crate::table::Row;
 use rg_base::{Failed, NoMemory, Pair, Seq, Tally, TryCopy};
-use rg_hook::{AuditFan, AuditSink, Enricher, Enrichers, MemAudit, WorkerHooks};
+use rg_hook::{AuditSink, Enricher, MemAudit, WorkerHooks};
 use rg_policy::AccessRequest;
 use std::alloc::{AllocError, Global};
 use std::sync::{Arc, Mutex};
-
-/// No sinks and no enrichers. (The gate refuses a function that hands out what another crate's function gives, where that may hold
-/// boxes of a trait: so this one stands here.)
-pub(crate) fn no_hooks(alloc: Global) -> WorkerHooks {
-    WorkerHooks {
-        sinks: AuditFan::new(Vec::new(alloc)),
-        enrichers: Enrichers::new(Vec::new(alloc)),
-    }
-}
 
 /// Adds the row's pair to each request, if the row has one.
 #[derive(Drop)]

@@ -1,7 +1,6 @@
 // A run of `serve` with links in memory.
 ghost use Rattle.std.specs.Prelude.{◌≤◌, length};
 
-use crate::hooks::no_hooks;
 use crate::serving::listening::{Links, SharedLink};
 use rg_base::{Moment, Seq};
 use rg_hook::WorkerHooks;
@@ -11,7 +10,7 @@ use rg_run::run;
 use std::alloc::{AllocError, Global};
 use std::sync::Wait;
 use std::thread::Threads;
-use test_tables::written;
+use test_tables::{no_hooks, written};
 
 /// A run, and what it meets.
 #[derive(Clone, Copy)]
