@@ -80,7 +80,7 @@ unpublished facts is = ap (λ b. if b then Some facts else None) (sym is)
 
 -- ---- lines that ask for a decision, and others
 
-asks : (x : Line) (q : AccessRequest) → Some q ≡ request_in x → x ≡ line.Decide q
+pub asks : (x : Line) (q : AccessRequest) → Some q ≡ request_in x → x ≡ line.Decide q
 asks line.Blank q is = absurd (cc is)
 asks (line.Facts facts) q is = absurd (cc is)
 asks (line.Config config) q is = absurd (cc is)
@@ -89,7 +89,7 @@ asks line.Refresh q is = absurd (cc is)
 asks (line.Decide p) q is = ap line.Decide (same_Some p q (sym is))
 
 -- a line that is bad when it is prepared asks for none
-bad_asks_none : (s : State) (x : Line) → prepare_work s x ≡ None → None ≡ request_in x
+pub bad_asks_none : (s : State) (x : Line) → prepare_work s x ≡ None → None ≡ request_in x
 bad_asks_none s line.Blank bad = refl
 bad_asks_none s (line.Facts facts) bad = refl
 bad_asks_none s (line.Config config) bad = refl

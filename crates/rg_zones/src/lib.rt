@@ -16,3 +16,4 @@ pub use laws::{
 };
 pub use map::ZoneMap;
 pub use overlap::{overlapping, overlaps_any};
+pub use resources::zone_maps;

@@ -80,8 +80,8 @@ fn with_entry(
     with_maps(alloc, def, maps, entry.resources.as_slice())
 }
 
-/// What is matched of the zone.
-pub(crate) fn zone_maps(
+/// What is matched of the zone: its maps for the service, as those of policies.
+pub fn zone_maps(
     alloc: Global,
     def: &ServiceDef,
     service: &str,
