@@ -5,7 +5,7 @@ ghost use Rattle.rg_running.specs.Starting.{start_fault};
 ghost use Rattle.rg_running.specs.Running.{opened_unless};
 ghost use Rattle.rg_work.specs.Follow.{IsWorked};
 ghost use Rattle.rg_work.specs.Hooked.{HaveRunOn, IsAudited, hooked, hooks_of};
-ghost use Rattle.rg_replay.specs.Replay.{admin_work, config_work, facts_work, judge_work, newest_of, prepare_work, published_facts, refresh_line, refresh_work, request_in};
+ghost use Rattle.rg_replay.specs.Replay.{admin_work, config_work, decision_by_newest, facts_work, judge_work, newest_of, prepare_work, published_facts, refresh_line, refresh_work, request_in};
 ghost use Rattle.rg_replay.specs.Report.{AreSound};
 
 use rg_base::{Moment, NoMemory, Serial, Steps, Text, TryCopy};
@@ -252,6 +252,26 @@ impl<'a, R: Wait> Replay<'a, R> {
             Stage::Empty => Ok(None),
             Stage::Facts(published) => Ok(Some(published.engine().facts(alloc)?)),
             Stage::Config(administered) => Ok(Some(administered.running.facts(alloc)?)),
+        }
+    }
+
+    /// What is decided on the request by what is published last; None where nothing is.
+    pub fn newest_decision(
+        &mut self,
+        alloc: Global,
+        request: &AccessRequest,
+    ) -> Result<Option<Decision>, NoMemory>
+        ensures same { self.new ≡ self.old }
+        ensures decision { IfOk result (λ d. d ≡ decision_by_newest self.old request.now) }
+    {
+        let decided = match &mut self.stage {
+            Stage::Empty => return Ok(None),
+            Stage::Facts(published) => published.decide(alloc, request),
+            Stage::Config(administered) => administered.decide(alloc, request),
+        };
+        match decided {
+            Ok(decision) => Ok(Some(decision)),
+            Err(refused) => Err(refused),
         }
     }
 
