@@ -1,5 +1,5 @@
 -- Why a request is decided as it is. What is told of one policy stands in rg_standing.
-use Rattle.std.specs.Prelude.{ℕ, eqb, Bool, false, List, [], ◌∷◌, map, filter, flat_map, Option, None, option_map, if◌then◌else◌}
+use Rattle.std.specs.Prelude.{ℕ, eqb, Bool, false, List, [], ◌∷◌, map, filter, flat_map, Option, None, option_map, position, if◌then◌else◌}
 use Rattle.std.specs.List.{find, list_any}
 use Rattle.std.specs.Option.{option_map_or}
 use Rattle.std.specs.Ordering.{int_eq}
@@ -13,15 +13,19 @@ use Rattle.rg_roles.specs.Holding.{holds}
 use Rattle.rg_roles.specs.declared.row.RoleRow.{RoleRow}
 use Rattle.rg_tags.specs.declared.row.TagRow.{TagRow}
 use Rattle.rg_zone_rules.specs.declared.row.ZoneRow.{ZoneRow}
+use Rattle.rg_zone_rules.specs.Zones.{map_lies, maps_for}
 use Rattle.rg_evalr.specs.declared.frame.Side.{Side}
 use Rattle.rg_facts.specs.Candidates.{Candidate, Setting, candidates, context_of, is_chosen, row_lies, setting_of, zone_at}
 use Rattle.rg_facts.specs.Flow.{cell_at, cell_of, cells, eval}
 use Rattle.rg_facts.specs.Texts.{decide}
 use Rattle.rg_facts.specs.declared.facts.Facts.{Facts}
 use Rattle.rg_standing.specs.Asking.{Asked}
+use Rattle.rg_standing.specs.Matching.{member_of}
 use Rattle.rg_standing.specs.Standing.{effect_told, standing_of}
 use Rattle.rg_standing.specs.declared.reason.Standing.{Standing}
 use Rattle.rg_explain.specs.declared.explanation.Explanation.{Explanation}
+use Rattle.rg_explain.specs.declared.explanation.HeldBy.{HeldBy}
+use Rattle.rg_explain.specs.declared.explanation.InZone.{InZone}
 use Rattle.rg_explain.specs.declared.explanation.TaggedBy.{TaggedBy}
 use Rattle.rg_explain.specs.declared.explanation.Told.{Told}
 
@@ -33,6 +37,7 @@ asked_of s c = record { frame = c.source.frame; side = c.source.side; context = 
 abbrev pub told : Setting → Candidate → Told
 told s c = record {
   policy = c.source.policy.id;
+  name = c.source.policy.name;
   tag = option_map (λ (t : Tag). t.kind) c.tag;
   cell = cell_at s c;
   standing = standing_of (asked_of s c) c.source.policy;
@@ -58,12 +63,26 @@ fills n t = option_map_or (λ m. eqb m n) t.cell false
 abbrev pub first_filled : List Told → Option ℕ
 first_filled ts = find (λ n. list_any (fills n) ts) cells
 
--- the roles that hold the user
+-- ---- where the request stands
+
+-- the place, among the zone's maps for the service, of the first that reaches down to the resource
+abbrev pub map_place : Facts → AccessRequest → ZoneRow → Option ℕ
+map_place facts q zone = position (map_lies facts.def q.resource.elements.items) (maps_for facts.service zone)
+
+abbrev pub in_zone : Facts → AccessRequest → ZoneRow → InZone
+in_zone facts q zone = record { zone = zone.name; map = map_place facts q zone }
+
+-- the role holds the user
 abbrev pub is_holding : List RoleRow → AccessRequest → RoleRow → Bool
 is_holding rows q row = holds rows row.name q.user q.groups.items
 
-abbrev pub roles_holding : List RoleRow → AccessRequest → List (List ℕ)
-roles_holding rows q = map (λ (row : RoleRow). row.name) (filter (is_holding rows q) rows)
+-- it does, by the first of its users, groups and roles that is the user
+abbrev pub held_by : List RoleRow → AccessRequest → RoleRow → HeldBy
+held_by rows q row = record { role = row.name; by = member_of rows q row.users.items row.groups.items row.roles.items }
+
+-- the roles that do
+abbrev pub roles_holding : List RoleRow → AccessRequest → List HeldBy
+roles_holding rows q = map (held_by rows q) (filter (is_holding rows q) rows)
 
 -- a tag row with its tags
 abbrev pub tagged_by : TagRow → TaggedBy
@@ -73,10 +92,12 @@ tagged_by row = record { row = row.id; tags = listed (map (λ (t : Tag). t.kind)
 abbrev pub rows_lying : Facts → AccessRequest → List TagRow
 rows_lying facts q = filter (row_lies facts q) facts.tag_rows.items
 
+-- ---- the whole
+
 -- what is told of a request
 abbrev pub explanation : Facts → AccessRequest → Serial → Explanation
 explanation facts q serial = record {
-  zone = option_map (λ (z : ZoneRow). z.name) (zone_at facts q);
+  zone = option_map (in_zone facts q) (zone_at facts q);
   roles = listed (roles_holding facts.roles.items q);
   rows = listed (map tagged_by (rows_lying facts q));
   policies = listed (told_all (setting_of facts q) (candidates facts q));

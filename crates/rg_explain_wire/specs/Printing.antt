@@ -1,10 +1,15 @@
 -- What is printed for an explanation. Members stand in byte order of their keys, since `put` keeps that order.
-use Rattle.std.specs.Prelude.{ℕ, List, [], ◌∷◌, Option, Some, None, codes}
-use Rattle.serde_json.specs.Data.{Data, string}
+use Rattle.std.specs.Prelude.{ℕ, ◌×◌, Bool, List, [], ◌∷◌, Option, Some, None, codes}
+use Rattle.std.specs.Str.{encode_utf8_all}
+use Rattle.serde_json.specs.Data.{Data, Members, no_members, object, put, string}
 use Rattle.serde_json.specs.Written.{compact_text}
 use Rattle.rg_base.specs.Listed.{Listed, listed}
+use Rattle.rg_base.specs.declared.pair.Pair.{Pair}
 use Rattle.rg_json.specs.Printing.{bool_data, count_data, integer_data, list_data, object_of, option_data, text_data}
 use Rattle.rg_wire.specs.Printing.{access_data}
+use Rattle.rg_policy.specs.declared.request.AccessRequest.{AccessRequest}
+use Rattle.rg_policy.specs.declared.request.Element.{Element}
+use Rattle.rg_policy.specs.declared.request.Resource.{Resource}
 use Rattle.rg_facts.specs.declared.decision.ItemPlace.{ItemPlace}
 use Rattle.rg_standing.specs.declared.reason.Match.{Match}
 use Rattle.rg_standing.specs.declared.reason.Matches.{Matches}
@@ -15,37 +20,86 @@ use Rattle.rg_standing.specs.declared.reason.Standing.TheVariants.{FarOff, Disab
 use Rattle.rg_standing.specs.declared.reason.Subject.{Subject}
 use Rattle.rg_standing.specs.declared.reason.Subject.TheVariants.{EveryUser, Owner, User, Group, Everybody, Role}
 use Rattle.rg_explain.specs.declared.explanation.Explanation.{Explanation}
+use Rattle.rg_explain.specs.declared.explanation.HeldBy.{HeldBy}
+use Rattle.rg_explain.specs.declared.explanation.InZone.{InZone}
 use Rattle.rg_explain.specs.declared.explanation.TaggedBy.{TaggedBy}
 use Rattle.rg_explain.specs.declared.explanation.Told.{Told}
+use Rattle.rg_explain_wire.specs.Listing.{far_count, listed_policies}
 use Rattle.rg_explain_wire.specs.declared.key.Key.{Key}
 use Rattle.rg_explain_wire.specs.declared.key.Key.TheVariants as key
 
 unfoldable pub name_of : Key → List ℕ
 name_of key.Access = codes "access"
+name_of key.AccessTime = codes "accessTime"
+name_of key.AccessType = codes "accessType"
 name_of key.Allow = codes "allow"
 name_of key.AllowException = codes "allowException"
 name_of key.By = codes "by"
 name_of key.Cell = codes "cell"
+name_of key.ClientAddress = codes "clientIPAddress"
+name_of key.Context = codes "context"
 name_of key.Deny = codes "deny"
 name_of key.DenyException = codes "denyException"
+name_of key.Elements = codes "elements"
+name_of key.FarOff = codes "farOff"
 name_of key.Filter = codes "filter"
 name_of key.Id = codes "id"
 name_of key.Is = codes "is"
 name_of key.Item = codes "item"
 name_of key.Items = codes "items"
 name_of key.Level = codes "level"
+name_of key.Map = codes "map"
 name_of key.Maps = codes "maps"
 name_of key.Mask = codes "mask"
 name_of key.Name = codes "name"
+name_of key.OwnerUser = codes "ownerUser"
+name_of key.Path = codes "path"
 name_of key.Policies = codes "policies"
 name_of key.PolicyId = codes "policyId"
+name_of key.Request = codes "request"
+name_of key.Resource = codes "resource"
 name_of key.Roles = codes "roles"
 name_of key.RowFilter = codes "rowFilter"
 name_of key.Rows = codes "rows"
 name_of key.Tag = codes "tag"
 name_of key.Tags = codes "tags"
 name_of key.Unmet = codes "unmet"
+name_of key.User = codes "user"
+name_of key.UserGroups = codes "userGroups"
 name_of key.Zone = codes "zone"
+
+-- ---- the request
+
+-- a map of names and texts, filled from the last one, so that of equal names the first stays
+abbrev pub texts_by_name : {X : Type 0} → (X → List ℕ × List ℕ) → List X → Members
+texts_by_name pair_of [] = no_members
+texts_by_name pair_of (x ∷ xs) = put (encode_utf8_all (pair_of x).0) (text_data (pair_of x).1) (texts_by_name pair_of xs)
+
+unfoldable pub elements_data : Listed Element → Data
+elements_data es = object (texts_by_name (λ (e : Element). (e.level, e.value)) es.items)
+
+unfoldable pub context_data : Listed Pair → Data
+context_data ps = object (texts_by_name (λ (p : Pair). (p.key, p.value)) ps.items)
+
+abbrev pub asked_resource_members : Resource → List (Key × Data)
+asked_resource_members r = (key.Elements, elements_data r.elements) ∷ (key.OwnerUser, text_data r.owner) ∷ []
+
+unfoldable pub asked_resource_data : Resource → Data
+asked_resource_data r = object_of name_of (asked_resource_members r)
+
+-- the keys are those of a `decide` line
+abbrev pub request_members : AccessRequest → List (Key × Data)
+request_members q =
+    (key.AccessTime, integer_data q.moment.0) ∷
+    (key.AccessType, text_data q.access) ∷
+    (key.ClientAddress, text_data q.address) ∷
+    (key.Context, context_data q.context) ∷
+    (key.Resource, asked_resource_data q.resource) ∷
+    (key.User, text_data q.user) ∷
+    (key.UserGroups, list_data text_data q.groups) ∷ []
+
+unfoldable pub request_data : AccessRequest → Data
+request_data q = object_of name_of (request_members q)
 
 -- ---- what keeps a map out
 
@@ -148,6 +202,7 @@ told_members t =
     (key.Is, string (standing_word t.standing)) ∷
     (key.Items, option_data matches_data (told_matches t.standing)) ∷
     (key.Maps, option_data (list_data miss_data) (told_misses t.standing)) ∷
+    (key.Name, text_data t.name) ∷
     (key.Tag, option_data text_data t.tag) ∷
     (key.Unmet, option_data text_data (told_condition t.standing)) ∷ []
 
@@ -168,21 +223,37 @@ row_members r = (key.Id, integer_data r.row) ∷ (key.Tags, list_data text_data 
 unfoldable pub row_data : TaggedBy → Data
 row_data r = object_of name_of (row_members r)
 
-abbrev pub explanation_members : Explanation → List (Key × Data)
-explanation_members e =
+abbrev pub zone_members : InZone → List (Key × Data)
+zone_members z = (key.Map, option_data count_data z.map) ∷ (key.Name, text_data z.zone) ∷ []
+
+unfoldable pub zone_data : InZone → Data
+zone_data z = object_of name_of (zone_members z)
+
+abbrev pub role_members : HeldBy → List (Key × Data)
+role_members h = (key.By, option_data subject_data h.by) ∷ (key.Name, text_data h.role) ∷ []
+
+unfoldable pub role_data : HeldBy → Data
+role_data h = object_of name_of (role_members h)
+
+-- of a request, with all policies or with those that aren't far off
+abbrev pub explanation_members : Bool → AccessRequest → Explanation → List (Key × Data)
+explanation_members all q e =
     (key.Access, access_data e.verdict.access) ∷
     (key.Cell, option_data count_data e.cell) ∷
+    (key.FarOff, count_data (far_count e)) ∷
     (key.Mask, option_data place_data e.verdict.mask) ∷
-    (key.Policies, list_data told_data e.policies) ∷
+    (key.Path, text_data e.decision.path) ∷
+    (key.Policies, list_data told_data (listed (listed_policies all e))) ∷
     (key.PolicyId, integer_data e.verdict.policy.0) ∷
-    (key.Roles, list_data text_data e.roles) ∷
+    (key.Request, request_data q) ∷
+    (key.Roles, list_data role_data e.roles) ∷
     (key.RowFilter, option_data place_data e.verdict.filter) ∷
     (key.Rows, list_data row_data e.rows) ∷
-    (key.Zone, option_data text_data e.zone) ∷ []
+    (key.Zone, option_data zone_data e.zone) ∷ []
 
-unfoldable pub explanation_data : Explanation → Data
-explanation_data e = object_of name_of (explanation_members e)
+unfoldable pub explanation_data : Bool → AccessRequest → Explanation → Data
+explanation_data all q e = object_of name_of (explanation_members all q e)
 
 -- the line of an explanation, without its LF
-unfoldable pub explanation_text : Explanation → List ℕ
-explanation_text e = compact_text (explanation_data e)
+unfoldable pub explanation_text : Bool → AccessRequest → Explanation → List ℕ
+explanation_text all q e = compact_text (explanation_data all q e)

@@ -3,6 +3,8 @@ use Rattle.std.specs.Prelude.{ℕ, ℤ, Bool, false, true, ◌&&◌, not, List, 
 use Rattle.std.specs.Fmt.{signed_decimal}
 use Rattle.serde_json.specs.Written.{compact_text}
 use Rattle.rg_base.specs.Listed.{Listed}
+use Rattle.rg_base.specs.Texts.{is_empty}
+use Rattle.rg_policy.specs.declared.request.AccessRequest.{AccessRequest}
 use Rattle.rg_json.specs.Printing.{list_data, text_data}
 use Rattle.rg_wire.specs.Printing.{word_of}
 use Rattle.rg_facts.specs.Flow.{denies}
@@ -17,8 +19,12 @@ use Rattle.rg_standing.specs.declared.reason.Standing.TheVariants.{FarOff, Disab
 use Rattle.rg_standing.specs.declared.reason.Subject.{Subject}
 use Rattle.rg_standing.specs.declared.reason.Subject.TheVariants.{EveryUser, Owner, User, Group, Everybody, Role}
 use Rattle.rg_explain.specs.declared.explanation.Explanation.{Explanation}
+use Rattle.rg_explain.specs.declared.explanation.HeldBy.{HeldBy}
+use Rattle.rg_explain.specs.declared.explanation.InZone.{InZone}
 use Rattle.rg_explain.specs.declared.explanation.TaggedBy.{TaggedBy}
 use Rattle.rg_explain.specs.declared.explanation.Told.{Told}
+use Rattle.rg_explain_wire.specs.Listing.{far_count, listed_policies}
+use Rattle.rg_explain_wire.specs.Printing.{elements_data}
 
 -- ---- names
 
@@ -44,22 +50,7 @@ unfoldable pub given_words : List ℕ → Option ItemPlace → List ℕ
 given_words what None = []
 given_words what (Some p) = what ++ (codes " by item " ++ (decimal p.item ++ (codes " of policy " ++ (signed_decimal p.policy.0 ++ codes ".\n"))))
 
--- ---- where the request stands
-
-unfoldable pub zone_words : Option (List ℕ) → List ℕ
-zone_words (Some name) = codes "The resource lies in zone " ++ (quoted name ++ codes ".\n")
-zone_words None = codes "The resource lies in no zone.\n"
-
-unfoldable pub roles_words : Listed (List ℕ) → List ℕ
-roles_words names = if is_nil names.items then codes "No role holds the user.\n" else codes "The user is held by the roles " ++ (quoted_list names ++ codes ".\n")
-
-unfoldable pub row_words : TaggedBy → List ℕ
-row_words r = codes "Tag row " ++ (signed_decimal r.row ++ (codes " reaches down to the resource, with the tags " ++ (quoted_list r.tags ++ codes ".\n")))
-
-unfoldable pub rows_words : List TaggedBy → List ℕ
-rows_words rs = if is_nil rs then codes "No tag row reaches down to the resource.\n" else flat_map row_words rs
-
--- ---- what matches
+-- ---- by whom
 
 unfoldable pub subject_words : Subject → List ℕ
 subject_words EveryUser = codes "{USER}"
@@ -69,10 +60,48 @@ subject_words (Group name) = codes "group " ++ quoted name
 subject_words Everybody = codes "public"
 subject_words (Role name) = codes "role " ++ quoted name
 
--- by whom an item matches; each has a subject
+-- what matches or holds the user has a subject
 unfoldable pub by_words : Option Subject → List ℕ
 by_words (Some s) = codes " by " ++ subject_words s
 by_words None = []
+
+-- ---- the request
+
+-- who asks for what, on which path of which levels, and when
+unfoldable pub asked_words : AccessRequest → List ℕ → List ℕ
+asked_words q path =
+    codes "User " ++ (quoted q.user ++ (codes " with the groups " ++ (quoted_list q.groups
+    ++ (codes " asks for " ++ (quoted q.access ++ (codes " on " ++ (quoted path
+    ++ (codes ", " ++ (compact_text (elements_data q.resource.elements) ++ (codes ", at " ++ (signed_decimal q.moment.0 ++ codes ".\n")))))))))))
+
+-- nothing where nobody owns the resource
+unfoldable pub owner_words : List ℕ → List ℕ
+owner_words owner = if is_empty owner then [] else codes "The resource belongs to " ++ (quoted owner ++ codes ".\n")
+
+-- ---- where it stands
+
+-- a zone in which a resource lies has such a map
+unfoldable pub by_map_words : Option ℕ → List ℕ
+by_map_words (Some n) = codes " by its resource map " ++ decimal n
+by_map_words None = []
+
+unfoldable pub zone_words : Option InZone → List ℕ
+zone_words (Some z) = codes "The resource lies in zone " ++ (quoted z.zone ++ (by_map_words z.map ++ codes ".\n"))
+zone_words None = codes "The resource lies in no zone.\n"
+
+unfoldable pub role_words : HeldBy → List ℕ
+role_words h = codes "Role " ++ (quoted h.role ++ (codes " holds the user" ++ (by_words h.by ++ codes ".\n")))
+
+unfoldable pub roles_words : List HeldBy → List ℕ
+roles_words hs = if is_nil hs then codes "No role holds the user.\n" else flat_map role_words hs
+
+unfoldable pub row_words : TaggedBy → List ℕ
+row_words r = codes "Tag row " ++ (signed_decimal r.row ++ (codes " reaches down to the resource, with the tags " ++ (quoted_list r.tags ++ codes ".\n")))
+
+unfoldable pub rows_words : List TaggedBy → List ℕ
+rows_words rs = if is_nil rs then codes "No tag row reaches down to the resource.\n" else flat_map row_words rs
+
+-- ---- what matches
 
 -- the item of one list, if one matches
 unfoldable pub match_words : List ℕ → Option Match → List ℕ
@@ -120,32 +149,19 @@ standing_words cell (InPlay m) = codes "is in play and " ++ (effect_words cell m
 
 -- ---- the policies
 
-abbrev pub is_far_off : Standing → Bool
-is_far_off FarOff = true
-is_far_off Disabled = false
-is_far_off Unscheduled = false
-is_far_off (Elsewhere misses) = false
-is_far_off (Unmet name) = false
-is_far_off (InPlay m) = false
-
-unfoldable pub is_far : Told → Bool
-is_far t = is_far_off t.standing
-
-unfoldable pub who_words : ℤ → Option (List ℕ) → List ℕ
-who_words id (Some tag) = codes "Policy " ++ (signed_decimal id ++ (codes ", asked for the tag " ++ (quoted tag ++ codes ",")))
-who_words id None = codes "Policy " ++ signed_decimal id
+-- of a tag policy the tag that it is asked for
+unfoldable pub for_words : Option (List ℕ) → List ℕ
+for_words (Some tag) = codes ", asked for the tag " ++ (quoted tag ++ codes ",")
+for_words None = []
 
 -- the line of a policy
 unfoldable pub line_words : Told → List ℕ
-line_words t = who_words t.policy.0 t.tag ++ (codes " " ++ (standing_words t.cell t.standing ++ codes ".\n"))
+line_words t = codes "Policy " ++ (signed_decimal t.policy.0 ++ (codes " " ++ (quoted t.name ++ (for_words t.tag ++ (codes " " ++ (standing_words t.cell t.standing ++ codes ".\n"))))))
 
--- nothing where it is far off
-abbrev pub told_words : Told → List ℕ
-told_words t = if is_far t then [] else line_words t
-
--- how many are
-unfoldable pub far_words : List Told → List ℕ
-far_words ts = codes "Further policies, of which no level matches: " ++ (decimal (length (filter is_far ts)) ++ codes ".\n")
+-- how many are far off, where they aren't listed
+unfoldable pub far_words : Bool → ℕ → List ℕ
+far_words true n = []
+far_words false n = codes "Further policies, of which no level matches: " ++ (decimal n ++ codes ".\n")
 
 -- ---- the whole
 
@@ -153,13 +169,13 @@ far_words ts = codes "Further policies, of which no level matches: " ++ (decimal
 unfoldable pub decision_words : Explanation → List ℕ
 decision_words e = decided_words e.verdict e.cell ++ (given_words (codes "Rows are filtered") e.verdict.filter ++ given_words (codes "Values are masked") e.verdict.mask)
 
--- where the request stands
-unfoldable pub place_words : Explanation → List ℕ
-place_words e = zone_words e.zone ++ (roles_words e.roles ++ rows_words e.rows.items)
+-- what is asked, and where it stands
+unfoldable pub place_words : AccessRequest → Explanation → List ℕ
+place_words q e = asked_words q e.decision.path ++ (owner_words q.resource.owner ++ (zone_words e.zone ++ (roles_words e.roles.items ++ rows_words e.rows.items)))
 
-unfoldable pub head_words : Explanation → List ℕ
-head_words e = decision_words e ++ place_words e
+unfoldable pub head_words : AccessRequest → Explanation → List ℕ
+head_words q e = decision_words e ++ place_words q e
 
--- then each policy that isn't far off, in the order told, and how many are
-unfoldable pub explanation_words : Explanation → List ℕ
-explanation_words e = head_words e ++ (flat_map told_words e.policies.items ++ far_words e.policies.items)
+-- then each policy that is listed, in the order told, and how many aren't
+unfoldable pub explanation_words : Bool → AccessRequest → Explanation → List ℕ
+explanation_words all q e = head_words q e ++ (flat_map line_words (listed_policies all e) ++ far_words all (far_count e))

@@ -31,15 +31,20 @@ own_group own groups = find (λ g. is_among g groups) own
 abbrev pub holding_role : List RoleRow → AccessRequest → List (List ℕ) → Option (List ℕ)
 holding_role rows q roles = find (λ role. holds rows role q.user q.groups.items) roles
 
+-- the first of these users, groups and roles that is the asker
+abbrev pub member_of : List RoleRow → AccessRequest → List (List ℕ) → List (List ℕ) → List (List ℕ) → Option Subject
+member_of rows q users groups roles =
+    option_or (told_if (is_among q.user users) User)
+    (option_or (option_map Group (own_group q.groups.items groups))
+    (option_or (told_if (is_among everybody groups) Everybody)
+    (option_map Role (holding_role rows q roles))))
+
 -- the first subject of the item that is the asker, in the order in which they are asked
 abbrev pub subject_of : List RoleRow → AccessRequest → Item → Option Subject
 subject_of rows q item =
     option_or (told_if (is_among user_word item.users.items) EveryUser)
     (option_or (told_if (is_among owner_word item.users.items && is_owner q) Owner)
-    (option_or (told_if (is_among q.user item.users.items) User)
-    (option_or (option_map Group (own_group q.groups.items item.groups.items))
-    (option_or (told_if (is_among everybody item.groups.items) Everybody)
-    (option_map Role (holding_role rows q item.roles.items))))))
+    (member_of rows q item.users.items item.groups.items item.roles.items))
 
 -- the item at this place, and the subject of it
 abbrev pub match_at : Asked → List Item → ℕ → Match
