@@ -1,0 +1,147 @@
+#!/usr/bin/env python3
+"""Runs each command over a script again and again, and has another request for memory refused each time, another read or another write.
+
+usage: checks/refusals.py [--every N] [--only WORD] [--programs FOLDER]      (each request; all commands; crates where not given)
+
+FOLDER has the built programs (FOLDER/NAME/out/NAME). What has to stand, by the theorems on the statuses:
+- where memory is refused, the status is 9 and nothing is written, or all is as if nothing had been refused;
+- where a read fails, the status is 3 and nothing is written;
+- where a write fails, the status is 4 and what was written is a beginning of what would have been;
+- where reads and writes are cut to one byte, or broken off by a signal before they begin, all is as ever.
+A run never hangs, and never ends by a signal. It is no part of the gate, since it needs a C compiler."""
+import argparse
+import os
+import subprocess
+import sys
+import tempfile
+
+TOP = os.path.dirname(os.path.dirname(os.path.abspath(__file__)))
+HOOKS = r"""
+#define _GNU_SOURCE
+#include <dlfcn.h>
+#include <errno.h>
+#include <stdlib.h>
+#include <string.h>
+#include <unistd.h>
+static long number(const char *name) { const char *n = getenv(name); return n ? atol(n) : 0; }
+static int is_turn(long *asked, const char *name) { return ++*asked == number(name); }
+static long memory_asked, reads_asked, writes_asked;
+void *malloc(size_t n) {
+    static void *(*real)(size_t);
+    if (!real) real = dlsym(RTLD_NEXT, "malloc");
+    return is_turn(&memory_asked, "MEMORY") ? 0 : real(n);
+}
+void *realloc(void *p, size_t n) {
+    static void *(*real)(void *, size_t);
+    if (!real) real = dlsym(RTLD_NEXT, "realloc");
+    return is_turn(&memory_asked, "MEMORY") ? 0 : real(p, n);
+}
+static int failing(const char *how, long asked) {
+    if (!strcmp(how, "interrupt") && asked % 2) { errno = EINTR; return 1; }
+    return 0;
+}
+ssize_t read(int fd, void *to, size_t n) {
+    static ssize_t (*real)(int, void *, size_t);
+    if (!real) real = dlsym(RTLD_NEXT, "read");
+    const char *how = getenv("HOW") ? getenv("HOW") : "";
+    if (fd != 0) return real(fd, to, n);
+    if (is_turn(&reads_asked, "READ")) { errno = EIO; return -1; }
+    if (failing(how, reads_asked)) return -1;
+    return real(fd, to, !strcmp(how, "short") && n ? 1 : n);
+}
+ssize_t write(int fd, const void *from, size_t n) {
+    static ssize_t (*real)(int, const void *, size_t);
+    if (!real) real = dlsym(RTLD_NEXT, "write");
+    const char *how = getenv("HOW") ? getenv("HOW") : "";
+    if (fd != 1) return real(fd, from, n);
+    if (is_turn(&writes_asked, "WRITE")) { errno = EIO; return -1; }
+    if (failing(how, writes_asked)) return -1;
+    return real(fd, from, !strcmp(how, "short") && n ? 1 : n);
+}
+"""
+
+
+def example(name):
+    with open(os.path.join(TOP, "examples", name + ".script"), "rb") as it:
+        return it.read()
+
+
+def stored(crate):
+    with open(os.path.join(TOP, "crates", crate, "stdin"), "rb") as it:
+        return it.read()
+
+
+# the program, its words, and its script
+RUNS = [
+    ("rangerd", ["replay"], example("administration")),
+    ("rangerd", ["replay"], example("flow")),
+    ("rangerd", ["replay"], example("refreshes")),
+    ("rangerd", ["grants"], example("grants")),
+    ("rangerd", ["report"], example("report")),
+    ("rangerd", ["keep"], example("keep")),
+    ("rangerd", ["drill", "7", "20", "30"], b""),
+    ("rangerd_check", [], stored("rangerd_check")),
+    ("rangerd_explain", [], example("cells")),
+    ("rangerd_explain", ["--json", "--all"], example("zones")),
+    ("rangerd_test", ["--junit"], example("tests")),
+]
+
+
+class Command:
+    def __init__(self, program, words, script, preload):
+        self.line, self.script, self.preload = [program, *words], script, preload
+        self.status, self.text = self.run()
+
+    def run(self, **settings):
+        given = {name: str(value) for name, value in settings.items()}
+        ran = subprocess.run(self.line, input=self.script, stdout=subprocess.PIPE, stderr=subprocess.DEVNULL, timeout=60,
+                             env={"LD_PRELOAD": self.preload, **given})
+        return ran.returncode, ran.stdout
+
+    def is_whole(self, ran):
+        return ran == (self.status, self.text)
+
+    def sweep(self, setting, passes, every):
+        """Refuses each request of a kind, until a run comes to its end without that request. How many were refused with another end."""
+        number = other = at_end = 0
+        while at_end < 3:
+            number += every
+            ran = self.run(**{setting: number})
+            if self.is_whole(ran):
+                at_end += 1
+                continue
+            at_end = 0
+            other += 1
+            if not passes(*ran):
+                sys.exit("%s: with %s %d refused: status %d, %r" % (" ".join(self.line), setting, number, *ran))
+        return number, other
+
+
+def main():
+    asked = argparse.ArgumentParser(usage=__doc__)
+    asked.add_argument("--every", type=int, default=1)
+    asked.add_argument("--only")
+    asked.add_argument("--programs", default=os.path.join(TOP, "crates"))
+    words = asked.parse_args()
+    with tempfile.TemporaryDirectory() as folder:
+        source, preload = folder + "/hooks.c", folder + "/hooks.so"
+        with open(source, "w") as it:
+            it.write(HOOKS)
+        subprocess.run(["cc", "-O1", "-shared", "-fPIC", "-o", preload, source, "-ldl"], check=True)
+        for name, parts, script in RUNS:
+            program = os.path.join(words.programs, name, "out", name)
+            if words.only not in (None, name, *parts) or not os.path.exists(program):
+                continue
+            command = Command(program, parts, script, preload)
+            _, memory = command.sweep("MEMORY", lambda status, text: (status, text) == (9, b""), words.every)
+            _, reads = command.sweep("READ", lambda status, text: (status, text) == (3, b""), 1)
+            _, writes = command.sweep("WRITE", lambda status, text: status == 4 and command.text.startswith(text), 1)
+            for how in ("short", "interrupt"):
+                ran = command.run(HOW=how)
+                assert command.is_whole(ran), (" ".join(command.line), how, ran)
+            print("%s %s: %d bytes of text; refused with another end: %d of memory, %d reads, %d writes"
+                  % (name, " ".join(parts), len(command.text), memory, reads, writes))
+
+
+if __name__ == "__main__":
+    main()
