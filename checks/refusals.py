@@ -20,6 +20,7 @@ HOOKS = r"""
 #define _GNU_SOURCE
 #include <dlfcn.h>
 #include <errno.h>
+#include <stdio.h>
 #include <stdlib.h>
 #include <string.h>
 #include <unistd.h>
@@ -35,6 +36,9 @@ void *realloc(void *p, size_t n) {
     static void *(*real)(void *, size_t);
     if (!real) real = dlsym(RTLD_NEXT, "realloc");
     return is_turn(&memory_asked, "MEMORY") ? 0 : real(p, n);
+}
+__attribute__((destructor)) static void tell(void) {
+    if (number("TELL")) fprintf(stderr, "%ld %ld %ld\n", memory_asked, reads_asked, writes_asked);
 }
 static int failing(const char *how, long asked) {
     if (!strcmp(how, "interrupt") && asked % 2) { errno = EINTR; return 1; }
@@ -90,31 +94,27 @@ RUNS = [
 class Command:
     def __init__(self, program, words, script, preload):
         self.line, self.script, self.preload = [program, *words], script, preload
-        self.status, self.text = self.run()
+        self.status, self.text, told = self.run(TELL=1)
+        self.asked = dict(zip(("MEMORY", "READ", "WRITE"), map(int, told.splitlines()[-1].split())))
 
     def run(self, **settings):
         given = {name: str(value) for name, value in settings.items()}
-        ran = subprocess.run(self.line, input=self.script, stdout=subprocess.PIPE, stderr=subprocess.DEVNULL, timeout=60,
-                             env={"LD_PRELOAD": self.preload, **given})
-        return ran.returncode, ran.stdout
+        ran = subprocess.run(self.line, input=self.script, capture_output=True, timeout=60, env={"LD_PRELOAD": self.preload, **given})
+        return ran.returncode, ran.stdout, ran.stderr
 
-    def is_whole(self, ran):
-        return ran == (self.status, self.text)
+    def is_whole(self, status, text):
+        return (status, text) == (self.status, self.text)
 
-    def sweep(self, setting, passes, every):
-        """Refuses each request of a kind, until a run comes to its end without that request. How many were refused with another end."""
-        number = other = at_end = 0
-        while at_end < 3:
-            number += every
-            ran = self.run(**{setting: number})
-            if self.is_whole(ran):
-                at_end += 1
-                continue
-            at_end = 0
-            other += 1
-            if not passes(*ran):
-                sys.exit("%s: with %s %d refused: status %d, %r" % (" ".join(self.line), setting, number, *ran))
-        return number, other
+    def sweep(self, setting, passes, every=1):
+        """Refuses each request of a kind. How many were refused, and how many of these runs had another end."""
+        other, turns = 0, range(1, self.asked[setting] + 1, every)
+        for number in turns:
+            status, text, _ = self.run(**{setting: number})
+            if not self.is_whole(status, text):
+                other += 1
+                if not passes(status, text):
+                    sys.exit("%s: %s %d refused: status %d, %r" % (" ".join(self.line), setting, number, status, text[:2000]))
+        return "%d of %d" % (other, len(turns))
 
 
 def main():
@@ -133,14 +133,13 @@ def main():
             if words.only not in (None, name, *parts) or not os.path.exists(program):
                 continue
             command = Command(program, parts, script, preload)
-            _, memory = command.sweep("MEMORY", lambda status, text: (status, text) == (9, b""), words.every)
-            _, reads = command.sweep("READ", lambda status, text: (status, text) == (3, b""), 1)
-            _, writes = command.sweep("WRITE", lambda status, text: status == 4 and command.text.startswith(text), 1)
+            memory = command.sweep("MEMORY", lambda status, text: (status, text) == (9, b""), words.every)
+            reads = command.sweep("READ", lambda status, text: (status, text) == (3, b""))
+            writes = command.sweep("WRITE", lambda status, text: status == 4 and command.text.startswith(text))
             for how in ("short", "interrupt"):
-                ran = command.run(HOW=how)
-                assert command.is_whole(ran), (" ".join(command.line), how, ran)
-            print("%s %s: %d bytes of text; refused with another end: %d of memory, %d reads, %d writes"
-                  % (name, " ".join(parts), len(command.text), memory, reads, writes))
+                status, text, _ = command.run(HOW=how)
+                assert command.is_whole(status, text), (" ".join(command.line), how, status, text)
+            print("%s: ended otherwise with memory refused %s times, a read %s, a write %s" % (" ".join([name, *parts]), memory, reads, writes), flush=True)
 
 
 if __name__ == "__main__":
