@@ -1,0 +1,13 @@
+// Tests of policies: a script of `replay` whose comments say what is expected of the lines before them.
+#![tactic(auto)]
+
+mod command;
+mod expecting;
+mod form;
+mod outcome;
+mod printing;
+mod program;
+mod testing;
+
+pub use form::Form;
+pub use program::{out_of_memory, start, test, unknown_words};
