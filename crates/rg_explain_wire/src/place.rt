@@ -38,12 +38,7 @@ fn levels_words(alloc: Global, request: &AccessRequest) -> Result<String, NoMemo
 }
 
 /// What is asked for on which path, and the rest.
-fn access_words(
-    alloc: Global,
-    access: &Text,
-    path: &Text,
-    rest: &str,
-) -> Result<String, NoMemory>
+fn access_words(alloc: Global, access: &Text, path: &Text, rest: &str) -> Result<String, NoMemory>
     ensures { IfOk result (λ s. string_bytes s ≡ codes " asks for " ++ (quoted access.now ++ (codes " on " ++ (quoted path.now ++ rest.now)))) }
 {
     let access = quoted(alloc, access)?;

@@ -51,10 +51,7 @@ impl NamedText for Pair {
 }
 
 /// The map of the names, filled from the last one, so that of equal names the first stays.
-fn texts_by_name<X: NamedText>(
-    alloc: Global,
-    items: &[X],
-) -> Result<Map<String, Value>, NoMemory>
+fn texts_by_name<X: NamedText>(alloc: Global, items: &[X]) -> Result<Map<String, Value>, NoMemory>
     ensures { IfOk result (λ m. members_view m.entries ≡ texts_by_name X.pair_of items.now) }
 {
     let mut members = Map::new(alloc);
