@@ -5,6 +5,7 @@ mod hits;
 mod items;
 mod laws;
 mod maps;
+mod members;
 mod question;
 mod reason;
 mod standing;
@@ -14,5 +15,6 @@ pub use laws::{
     told_standing_gives_effect,
 };
 pub use maps::resources_lie;
+pub use members::member_of;
 pub use question::Question;
 pub use reason::{Match, Matches, Miss, Standing, Subject};
