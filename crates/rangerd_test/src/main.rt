@@ -15,7 +15,7 @@ fn main(rt: HostRuntime) -> ExitCode {
     match words_of(&rt) {
         Ok(words) => rg_test_script::start(&rt, &rt, words.as_slice()),
         // A word that isn't UTF-8 asks for no form.
-        Err(error) if error.kind() == ErrorKind::InvalidData => rg_test_script::unknown_words(),
+        Err(error) if error.kind() == ErrorKind::InvalidData => rg_test_script::refused(),
         Err(_) => rg_test_script::out_of_memory(),
     }
 }

@@ -10,4 +10,4 @@ mod program;
 mod testing;
 
 pub use form::Form;
-pub use program::{out_of_memory, start, test, unknown_words};
+pub use program::{out_of_memory, start, test, refused};

@@ -100,7 +100,7 @@ pub fn test<S: Source, K: Sink, C: Clock, R: Wait>(
 }
 
 /// What `main` ends with where a word asks for no form, as one that isn't UTF-8.
-pub fn unknown_words() -> ExitCode
+pub fn refused() -> ExitCode
     ensures { IsEnd None (exit_status result) }
 {
     ExitCode::from(Status::Usage.number())
