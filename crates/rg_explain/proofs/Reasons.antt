@@ -1,16 +1,15 @@
 -- A role holds the user where its row names the user, or a role that does.
-use Rattle.std.proofs.Common.{◌≡◌, ◌||◌, ℕ, Bool, true, List, Option, Some, None, Contains, get_or, refl, ap, sym, subst, ◌∙◌, inl, inr}
+use Rattle.std.proofs.Common.{◌≡◌, ◌||◌, ℕ, true, List, Option, Some, None, Contains, get_or, refl, ap, sym, subst, ◌∙◌, inl, inr}
 use Rattle.std.proofs.Math.Bool.{or_assoc}
 use Rattle.std.proofs.lemmas.Bool.{or_cases, or_left, or_right, true≢false}
 use Rattle.std.proofs.lemmas.Bool.Decides.{same_from_decides}
 use Rattle.std.proofs.lemmas.List.{get_or_default}
-use Rattle.std.specs.Bool.{Decides}
 use Rattle.std.specs.Option.{is_none}
 use Rattle.std.specs.Str.{bytes_eq}
 use Rattle.rg_base.proofs.Lists.{all_distinct-map, any_from, any_holds}
 use Rattle.rg_base.proofs.Names.{distinct_is}
 use Rattle.rg_base.specs.Names.{first_repeat}
-use Rattle.rg_roles.specs.Chains.{Leads, here, leads, there}
+use Rattle.rg_roles.specs.Chains.{Leads, here, there}
 use Rattle.rg_roles.specs.Faults.{first_row, have_own_names, repeats}
 use Rattle.rg_roles.specs.Holding.{holds}
 use Rattle.rg_roles.specs.Members.{names_asker, names_of}
@@ -18,7 +17,7 @@ use Rattle.rg_roles.specs.declared.row.RoleRow.{RoleRow}
 use Rattle.rg_roles.proofs.Built.{repeat_is}
 use Rattle.rg_roles.proofs.Decided.{leads-Decides}
 use Rattle.rg_roles.proofs.Rows.{name_is, unique}
-use Rattle.rg_effect.specs.Subjects.{Subjects, names, names_role}
+use Rattle.rg_effect.specs.Subjects.{Subjects, names, names_group, names_role, names_user}
 
 abbrev members : RoleRow → Subjects
 members row = record { users = row.users.items; groups = row.groups.items; roles = row.roles.items }
@@ -42,7 +41,7 @@ module _ (rows : List RoleRow) (own_names : have_own_names rows ≡ true) where
   module _ (user : List ℕ) (groups : List (List ℕ)) (row : RoleRow) (within : Contains rows row) where
     -- the row names the user, or a role that holds the user
     named : names rows user groups (members row) ≡ (names_asker user groups row || names_role rows user groups row.roles.items)
-    named = sym (or_assoc _ _ _)
+    named = sym (or_assoc (names_user user row.users.items) (names_group groups row.groups.items) (names_role rows user groups row.roles.items))
 
     chained : names rows user groups (members row) ≡ true → Leads rows (names_asker user groups) row.name
     chained h = elim (or_cases (names_asker user groups row) (names_role rows user groups row.roles.items) (sym named ∙ h)) [
@@ -64,5 +63,5 @@ module _ (rows : List RoleRow) (own_names : have_own_names rows ≡ true) where
         (any_from (λ r. holds rows r user groups) row.roles.items other named_there ((leads-Decides rows (names_asker user groups) other).1 rest))
 
     pub row_names : names rows user groups (members row) ≡ holds rows row.name user groups
-    row_names = same_from_decides (names rows user groups (members row)) (holds rows row.name user groups)
-        {P = Leads rows (names_asker user groups) row.name} (chained, begun row.name refl) (leads-Decides rows (names_asker user groups) row.name)
+    row_names = same_from_decides {P = Leads rows (names_asker user groups) row.name} (names rows user groups (members row)) (holds rows row.name user groups)
+        (chained, begun row.name refl) (leads-Decides rows (names_asker user groups) row.name)
