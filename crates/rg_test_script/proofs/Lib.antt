@@ -1,0 +1,4 @@
+pub mod Behind
+pub mod CommandLine
+pub mod Ending
+pub mod Working

@@ -20,7 +20,6 @@ use std::alloc::Global;
 const FORM_WORDS: [&str; 5] = ["ALLOWED", "DENIED", "UNDETERMINED", "filter", "mask"];
 
 /// What is expected by such a comment; None of any other line.
-#[tactic(auto, using(crate::proofs::Expecting::wanted), unfolding(crate::specs::Expecting::expecting))]
 pub(crate) fn wanted_by(line: &[u8]) -> Option<&[u8]>
     ensures { option_map (λ wanted. wanted.now) result ≡ wanted_by line.now }
 {
@@ -61,7 +60,7 @@ fn is_access_by(
 }
 
 /// The row filter as the decision line spells it.
-#[tactic(auto, using(crate::proofs::Expecting::filters))]
+#[tactic(auto, using(crate::proofs::Behind::filters))]
 fn filter_text(alloc: Global, filter: &Option<Text>) -> Result<Text, NoMemory>
     ensures { IfOk result (λ t. encode_utf8_all t ≡ compact_text (option_data text_data filter.now)) }
 {
