@@ -1,4 +1,5 @@
 pub mod Behind
 pub mod CommandLine
 pub mod Ending
+pub mod Said
 pub mod Working

@@ -60,7 +60,7 @@ fn is_access_by(
 }
 
 /// The row filter as the decision line spells it.
-#[tactic(auto, using(crate::proofs::Behind::filters))]
+#[tactic(auto, using(crate::proofs::Said::filters))]
 fn filter_text(alloc: Global, filter: &Option<Text>) -> Result<Text, NoMemory>
     ensures { IfOk result (λ t. encode_utf8_all t ≡ compact_text (option_data text_data filter.now)) }
 {

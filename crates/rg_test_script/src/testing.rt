@@ -8,7 +8,7 @@ ghost use Rattle.rg_script.specs.Line.{is_blank};
 ghost use Rattle.rg_work.specs.Follow.{IsWorked};
 ghost use Rattle.rg_replay.specs.Replay.{decide_work, newest_of, replay_step};
 ghost use Rattle.rg_test_script.specs.Coming.{CameTo};
-ghost use Rattle.rg_test_script.specs.Testing.{begins, counted, ended_by, failure, framed, is_sound, judge_work, judged_text, line_of_outcome, moved, next_number, other_work, outcome_by, reason_of, stands_behind};
+ghost use Rattle.rg_test_script.specs.Testing.{begins, counted, ended_by, failure, framed, is_sound, judge_work, judged_text, line_of_outcome, moved, other_work, outcome_by, reason_of, stands_behind};
 ghost use Rattle.rg_test_script.specs.Expecting as the;
 
 use crate::expecting::{is_form, is_met, wanted_by};
@@ -52,7 +52,7 @@ fn printed(text: String) -> Outcome
 }
 
 /// Decides the request by what is published last.
-#[tactic(auto, unfolding(rg_replay::specs::Replay::decide_work))]
+#[tactic(auto, using(crate::proofs::Working::decisions))]
 fn decide<R: Wait>(
     alloc: Global,
     replay: &mut Replay<R>,
@@ -94,7 +94,10 @@ fn replay_line<R: Wait>(
     let mut text = String::new(alloc);
     match replay.prepare(alloc, read, &mut text) {
         Ok(None) => Ok(printed(text)),
-        Ok(Some(request)) => decide(alloc, replay, request),
+        Ok(Some(request)) => match decide(alloc, replay, request) {
+            Ok(outcome) => Ok(outcome),
+            Err(fault) => Err(fault),
+        },
         Err(fault) => Err(fault),
     }
 }
@@ -220,6 +223,7 @@ impl<'a, R: Wait> Testing<'a, R> {
     }
 
     /// The expectation, where it is of a form and stands behind a line that came to something.
+    #[tactic(auto, using(rg_json::proofs::Utf8::utf8_facts))]
     fn sound<'w>(&self, wanted: &'w [u8]) -> Option<&'w str>
         ensures { option_map (λ text. text.now) result ≡ (if is_sound self.now wanted.now then Some wanted.now else None) }
     {
@@ -245,7 +249,7 @@ impl<'a, R: Wait> Testing<'a, R> {
     }
 
     /// Judges the expectation of a comment.
-    #[tactic(auto, using(crate::proofs::Working::judging), unfolding(crate::specs::Testing::judge_work))]
+    #[tactic(auto, using(crate::proofs::Working::judging))]
     fn judge(&mut self, alloc: Global, wanted: &[u8], text: &mut String) -> Result<(), LineFault>
         ensures worked { OnOk result (IsWorked (judge_work self.old wanted.now) self.new (string_bytes text.old) (string_bytes text.new)) }
         ensures bad { result ≡ Err LineFault.Bad → judge_work self.old wanted.now ≡ None }
@@ -265,21 +269,39 @@ impl<'a, R: Wait> Testing<'a, R> {
         Ok(())
     }
 
+    /// A line was blank.
+    fn pass(&mut self)
+        ensures { self.new ≡ moved self.old self.old.script self.old.last }
+    {
+        self.number = self.number.saturating_add(1);
+    }
+
+    /// A line came to this.
+    fn come_to(&mut self, outcome: Outcome)
+        ensures { self.new ≡ moved self.old self.old.script outcome }
+    {
+        drop(mem::replace(&mut self.last, outcome));
+        self.number = self.number.saturating_add(1);
+    }
+
     /// Works any other line, of which nothing is printed.
-    #[tactic(auto, using(crate::proofs::Working::moving), unfolding(crate::specs::Testing::other_work))]
+    #[tactic(auto, using(crate::proofs::Working::moving))]
     fn other(&mut self, alloc: Global, line: &[u8], now: Moment) -> Result<(), LineFault>
         ensures worked { OnOk result ((text : List ℕ) → IsWorked (other_work self.old line.now now) self.new text text) }
         ensures bad { result ≡ Err LineFault.Bad → other_work self.old line.now now ≡ None }
         ensures unchanged { result ≡ Err LineFault.Bad → self.new ≡ self.old }
     {
-        if !is_blank(line) {
-            match replay_line(alloc, &mut self.replay, line, now) {
-                Ok(outcome) => drop(mem::replace(&mut self.last, outcome)),
-                Err(fault) => return Err(fault),
-            }
+        if is_blank(line) {
+            self.pass();
+            return Ok(());
         }
-        self.number = self.number.saturating_add(1);
-        Ok(())
+        match replay_line(alloc, &mut self.replay, line, now) {
+            Ok(outcome) => {
+                self.come_to(outcome);
+                Ok(())
+            }
+            Err(fault) => Err(fault),
+        }
     }
 
     /// The status of tests whose lines end with this one: they are done where all expectations were met, and there was one.
