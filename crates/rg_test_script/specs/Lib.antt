@@ -1,3 +1,4 @@
+pub mod Alike
 pub mod Coming
 pub mod CommandLine
 pub mod Ends

@@ -4,10 +4,12 @@
 mod command;
 mod expecting;
 mod form;
+mod laws;
 mod outcome;
 mod printing;
 mod program;
 mod testing;
 
 pub use form::Form;
+pub use laws::tested_as_replayed;
 pub use program::{out_of_memory, start, test, refused};
