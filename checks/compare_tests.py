@@ -32,7 +32,7 @@ NONE = [b"# expect maybe", b"# expect ", b"# expect  ALLOWED", b"# expect allowe
 COMMENTS = [b"", b"# expect", b"#expect DENIED", b"# expected ALLOWED", b"# Expect DENIED", b"#", b"# nothing <&>"]
 # what no line says, and what is one by chance
 OTHERS = ["ALLOWED", "DENIED", "UNDETERMINED", "DENIED -1", "ALLOWED 1", "ALLOWED -1", "DENIED 01", "filter null", "filter \"a = 1\"", "filter",
-          "filter \"é = '\\\"'\"", "filter  null", "mask null", "mask MASK", "mask MASK_NONE", "mask CUSTOM", "mask", "mask <\"&'\x01>", "{}",
+          "filter \"é = '\\\"'\"", "filter  null", "mask null", "mask MASK", "mask MASK_NONE", "mask CUSTOM", "mask", "mask <\"&'\x01\t\ufffe\uffff\ufffd\x7f>", "{}",
           '{"done":true}', '{"refused":"V5"}', '{"unchanged":true}', '{"published":2}', "{", "ALLOWED ", "DENIED\r", "DENIED by policy 1"]
 
 

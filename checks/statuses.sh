@@ -48,13 +48,14 @@ while IFS= read -r line; do
 done < "$table"
 
 # Runs a program over the script with the other arguments as its words: it is to end with this status, and where a line is wanted that is to
-# be the last one.
+# be the last one. With status 1 nothing is printed.
 end_as() {
   local name=$1 wanted=$2 last=$3 input=$4 status
   shift 4
   printf '%s' "$input" | "$@" > "$printed" 2> /dev/null
   status=$?
-  if [ "$status" -eq "$wanted" ] && { [ -z "$last" ] || [ "$(tail -n 1 "$printed")" = "$last" ]; }; then
+  if [ "$wanted" -eq 1 ] && [ -s "$printed" ]; then status="1 with something printed"; fi
+  if [ "$status" = "$wanted" ] && { [ -z "$last" ] || [ "$(tail -n 1 "$printed")" = "$last" ]; }; then
     passed=$((passed + 1))
   else
     echo "$name: not as wanted; its status is $status, and $wanted is wanted${last:+ with the last line $last}"
@@ -64,16 +65,17 @@ end_as() {
 
 facts=$'facts {"service":"s","serviceDef":{"name":"d","resources":[{"name":"r"}],"accessTypes":[{"name":"a"}]}}\n'
 asked=$facts$'decide {"user":"u","resource":{"elements":{"r":"x"}},"accessType":"a","accessTime":0}\n'
-for words in --jsn --junit help x 0 -1 '1 2' '1 x' '--json x'; do
+for words in --jsn --junit --help help x 0 01 -1 +1 4294967296 '1 2' '1 x' '--json x' '--json --json' '--all 1 --all'; do
   # (unquoted: each is a word)
   end_as "rangerd-explain $words" 1 "" "$asked" "$explainer" $words
 done
 end_as "nothing to explain" 0 "" "" "$explainer"
 end_as "explained" 0 "" "$asked" "$explainer"
 end_as "explained with all words" 0 "" "$asked" "$explainer" --json --all 1
+end_as "explained with all words in another order" 0 "" "$asked" "$explainer" 4294967295 --all --json
 end_as "no such decision" 0 "" "$asked" "$explainer" 2
 end_as "a bad line" 2 "bad line 3" "$asked"$'refresh\n' "$explainer" --all
-for words in --json --all help x 1 '--junit x'; do
+for words in --json --all --help help x 1 '--junit x' '--junit --junit'; do
   end_as "rangerd-test $words" 1 "" "$asked" "$tester" $words
 done
 end_as "no test" 2 "0 passed, 0 failed" "$asked" "$tester"

@@ -21,7 +21,8 @@ ENTITIES = {"&": "&amp;", "<": "&lt;", ">": "&gt;", '"': "&quot;"}
 
 
 def escaped(text):
-    return "".join("?" if char < " " and char != "\n" else ENTITIES.get(char, char) for char in text)
+    """What XML can't have is a question mark: a control character but tab, LF and CR, and the two that are no characters."""
+    return "".join("?" if char < " " and char not in "\t\n\r" or char in "\ufffe\uffff" else ENTITIES.get(char, char) for char in text)
 
 
 def is_form(wanted):
