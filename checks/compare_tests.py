@@ -80,7 +80,7 @@ class Maker:
                 lines += self.expectations(tests.last["said"], spoils)
             if breaks and self.maybe(.05) or self.maybe(.002):
                 lines.append(self.pick(NONE + [b"# expect ALLOWED"]))
-        return b"\n".join(lines) + self.pick([b"\n", b"\n", b""])
+        return self.pick([b"\n"] * 7 + [b"\r\n"]).join(lines) + self.pick([b"\n", b"\n", b""])
 
 
 def label_of(wanted):
