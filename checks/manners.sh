@@ -6,7 +6,7 @@
 set -u
 cd "$(dirname "$0")/.." || exit 1
 program=$(readlink -f "${1:-crates/rangerd/out/rangerd}")
-explainer=$(readlink -f "${2:-crates/rangerd_explain/out/rangerd_explain}") tester=$(readlink -f "${3:-crates/rangerd_test/out/rangerd_test}")
+explainer=$(readlink -m "${2:-crates/rangerd_explain/out/rangerd_explain}") tester=$(readlink -m "${3:-crates/rangerd_test/out/rangerd_test}")
 room=$(mktemp -d)
 trap 'rm -rf "$room"' EXIT
 mkdir "$room/bin" && cp bin/rangerd bin/rangerd-explain bin/rangerd-test "$room/bin" || exit 1
