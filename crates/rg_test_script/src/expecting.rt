@@ -6,7 +6,7 @@ ghost use Rattle.std.specs.Str.{bytes_eq, encode_utf8_all};
 ghost use Rattle.serde_json.specs.Written.{compact_text};
 ghost use Rattle.rg_json.specs.Printing.{option_data, text_data};
 ghost use Rattle.rg_wire.specs.Printing.{decision_text};
-ghost use Rattle.rg_test_script.specs.Expecting.{begins_object, is_form, is_met, mask_type, said_of, wanted_by};
+ghost use Rattle.rg_test_script.specs.Expecting.{begins_object, form_words, is_form, is_met, mask_type, said_of, wanted_by};
 
 use crate::outcome::Outcome;
 use rg_base::{NoMemory, PolicyId, Text};
@@ -15,9 +15,6 @@ use rg_json::{ToJson, text_of};
 use rg_script::split_word;
 use rg_wire::{Key, access_word, print_decision};
 use std::alloc::Global;
-
-/// The words that forms begin with.
-const FORM_WORDS: [&str; 5] = ["ALLOWED", "DENIED", "UNDETERMINED", "filter", "mask"];
 
 /// What is expected by such a comment; None of any other line.
 pub(crate) fn wanted_by(line: &[u8]) -> Option<&[u8]>
@@ -35,13 +32,29 @@ fn begins_object(wanted: &[u8]) -> bool
     }
 }
 
+fn is_word(word: &[u8], form: &str) -> bool
+    ensures { result ≡ bytes_eq word.now form.now }
+{
+    word == form.as_bytes()
+}
+
+/// Whether a form begins with the word.
+fn is_form_word(word: &[u8]) -> bool
+    ensures { result ≡ list_any (bytes_eq word.now) form_words }
+{
+    is_word(word, "ALLOWED")
+        || is_word(word, "DENIED")
+        || is_word(word, "UNDETERMINED")
+        || is_word(word, "filter")
+        || is_word(word, "mask")
+}
+
 /// Whether it is of a form.
 #[tactic(auto, unfolding(crate::specs::Expecting::is_form))]
 pub(crate) fn is_form(wanted: &[u8]) -> bool
     ensures { result ≡ is_form wanted.now }
 {
-    let word = split_word(wanted).0;
-    FORM_WORDS.iter().any(|form| word == form.as_bytes()) || begins_object(wanted)
+    is_form_word(split_word(wanted).0) || begins_object(wanted)
 }
 
 // ---- what can be expected of a decision

@@ -1,5 +1,5 @@
 // What is printed of tests.
-ghost use Rattle.std.specs.Prelude.{◌≡◌, ◌++◌, IfOk, OnOk, string_bytes};
+ghost use Rattle.std.specs.Prelude.{◌≡◌, ◌++◌, IfOk, OnOk, codes, string_bytes};
 ghost use Rattle.rg_test_script.specs.Printing.{case_open, escaped, escaped_char, failed_text, is_no_xml, passed_text, summary, top};
 
 use crate::form::Form;
@@ -77,6 +77,17 @@ pub(crate) fn passed_text(
     }
 }
 
+fn failure_element(alloc: Global, line: &str, reason: &str) -> Result<String, NoMemory>
+    ensures { let rest = codes "\">" ++ (escaped reason.now ++ codes "</failure></testcase>\n") in
+        IfOk result (λ s. string_bytes s ≡ codes "><failure message=\"" ++ (escaped line.now ++ rest)) }
+{
+    let line = escaped(alloc, line)?;
+    let reason = escaped(alloc, reason)?;
+    let line = line.as_str();
+    let reason = reason.as_str();
+    Ok(format!(in alloc; "><failure message=\"{line}\">{reason}</failure></testcase>\n")?)
+}
+
 #[tactic(auto, unfolding(crate::specs::Printing::failed_text))]
 fn failed_case(
     alloc: Global,
@@ -88,13 +99,10 @@ fn failed_case(
     ensures { IfOk result (λ s. string_bytes s ≡ failed_text Form.Junit number wanted.now line.now reason.now) }
 {
     let open = case_open(alloc, number, wanted)?;
-    let line = escaped(alloc, line)?;
-    let reason = escaped(alloc, reason)?;
+    let failure = failure_element(alloc, line, reason)?;
     let open = open.as_str();
-    let line = line.as_str();
-    let reason = reason.as_str();
-    let whole = format!(in alloc; "{open}><failure message=\"{line}\">{reason}</failure></testcase>\n")?;
-    Ok(whole)
+    let failure = failure.as_str();
+    Ok(format!(in alloc; "{open}{failure}")?)
 }
 
 /// What is printed of one that isn't: the line that came instead, and why.
