@@ -1,5 +1,6 @@
 """Runs `rangerd-explain` over the examples and over scripts made from a seed, of facts and of an administration with refreshes, and
-compares each line with the model of explaining.py.
+compares each line with the model of explaining.py: of an example in words and in JSON, each with and without policies far off, of the
+made-up ones by turns in words and in JSON, with the other options by chance.
 
 usage: checks/compare_explained.py [SEED] [SCRIPTS] [--program PROGRAM | --dry]      (1 and 300 where not given)
 
@@ -14,6 +15,7 @@ import collections
 import glob
 import json
 import os
+import random
 import subprocess
 import sys
 import tempfile
@@ -27,14 +29,23 @@ import spoils
 TOP = os.path.dirname(os.path.dirname(os.path.abspath(__file__)))
 REQUESTS = 25
 LINES = 60
+ALL_STYLES = [[], ["--all"], ["--json"], ["--json", "--all"]]
 
 
 # ---- scripts
 
+def timed(line):
+    """A request without a time is made by the clock, and the time is told: such a line gets one."""
+    if not line.startswith(b"decide "):
+        return line
+    request = json.loads(line[len(b"decide "):])
+    return line if "accessTime" in request else b"decide " + json.dumps({**request, "accessTime": 0}).encode()
+
+
 def examples():
     for path in sorted(glob.glob(os.path.join(TOP, "examples", "*.script"))):
         with open(path, "rb") as script:
-            yield os.path.basename(path), script.read()
+            yield os.path.basename(path), b"".join(timed(line) + b"\n" for line in script.read().splitlines())
 
 
 def of_facts(making):
@@ -62,12 +73,19 @@ def of_administration(making):
 
 
 def scripts(seed, count):
-    """The examples, and so many made ones."""
-    yield from examples()
-    plain, administering = maker.Maker(seed), admin_maker.AdminMaker(seed)
+    """The examples, and so many made ones, each with the words of the command line."""
+    for name, script in examples():
+        yield from ((name, script, style) for style in ALL_STYLES)
+    plain, administering, choice = maker.Maker(seed), admin_maker.AdminMaker(seed), random.Random(seed)
     for number in range(count):
         script = of_administration(administering) if number % 3 == 2 else of_facts(plain)
-        yield "script %d of seed %d" % (number, seed), script
+        alone = [str(choice.choice([1, 2, 3, choice.randint(1, REQUESTS), 4294967295]))] * (choice.random() < .2)
+        yield "script %d of seed %d" % (number, seed), script, ["--json"] * (number % 2) + ["--all"] * (choice.random() < .3) + alone
+
+
+def model_of(style):
+    numbers = [int(word) for word in style if word.isdigit()]
+    return explaining.ExplainedScript("--json" in style, "--all" in style, *numbers)
 
 
 # ---- what came up
@@ -79,10 +97,15 @@ def subjects(told):
 
 
 def labels(explanation):
-    """What an explanation is counted under."""
+    """What an explanation is counted under. A zone has the map by which the resource lies in it, and each role that holds the user has
+    a reason."""
     yield "cell %s: %s" % (explanation["cell"], explanation["access"])
     if explanation["zone"] is not None:
-        yield "in a zone"
+        assert explanation["zone"]["map"] is not None, explanation
+        yield "in a zone by map %d" % explanation["zone"]["map"]
+    for role in explanation["roles"]:
+        assert role["by"] is not None, explanation
+        yield "role holds by %s" % role["by"]["is"]
     for part in ("mask", "rowFilter"):
         if explanation[part]:
             yield "%s by a policy of the %s" % (part, "tag service" if explanation[part]["tag"] else "service")
@@ -92,9 +115,9 @@ def labels(explanation):
         yield from subjects(told)
 
 
-def counted(text, counts):
-    for line in text.splitlines():
-        counts.update(labels(json.loads(line)) if line.startswith("{") else [line.split(" line")[0] + " line"])
+def form_of(style):
+    return "printed in %s, %s%s" % ("JSON" if "--json" in style else "words", "all policies" if "--all" in style else "without those far off",
+                                    ", one alone" if style and style[-1].isdigit() else "")
 
 
 # ---- the program
@@ -104,8 +127,8 @@ def built_program():
     return subprocess.run([os.path.join(TOP, "bin", "built"), "rangerd_explain"], stdout=subprocess.PIPE, text=True, check=True).stdout.strip()
 
 
-def compare(program, name, script, text, status):
-    ran = subprocess.run([program], input=script, capture_output=True)
+def compare(program, name, script, style, text, status):
+    ran = subprocess.run([program, *style], input=script, capture_output=True)
     got = ran.stdout.decode("utf-8", "replace")
     if (got, ran.returncode) == (text, status):
         return
@@ -113,8 +136,8 @@ def compare(program, name, script, text, status):
         kept.write(script)
     pairs = enumerate(zip(got.splitlines() + [""], text.splitlines() + [""]), 1)
     line, (here, there) = next(((n, pair) for n, pair in pairs if pair[0] != pair[1]), (0, ("", "")))
-    sys.exit("%s differs, at printed line %d of %s\ngot:    %s\nwanted: %s\nstatus: %d, wanted %d"
-             % (name, line, kept.name, here, there, ran.returncode, status))
+    sys.exit("%s differs with the words [%s], at printed line %d of %s\ngot:    %s\nwanted: %s\nstatus: %d, wanted %d"
+             % (name, " ".join(style), line, kept.name, here, there, ran.returncode, status))
 
 
 def words():
@@ -129,11 +152,13 @@ def words():
 def main():
     given, counts = words(), collections.Counter()
     program, worked = None if given.dry else given.program or built_program(), 0
-    for name, script in scripts(given.seed, given.scripts):
-        text, status, _ = admin_model.worked(script, kind=explaining.ExplainedScript)
-        counted(text, counts)
+    for name, script, style in scripts(given.seed, given.scripts):
+        work = model_of(style)
+        text, status, _ = admin_model.worked(script, kind=lambda: work)
+        counts.update(label for told in work.explained for label in labels(told))
+        counts.update([form_of(style)] + ["bad line"] * (status == 2))
         if program:
-            compare(program, name, script, text, status)
+            compare(program, name, script, style, text, status)
         worked += 1
     print("%d scripts %s" % (worked, "made" if given.dry else "agree"))
     for label, count in sorted(counts.items()):

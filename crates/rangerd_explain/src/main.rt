@@ -1,8 +1,21 @@
 // rangerd-explain: for each decision of a script of `rangerd replay` why it is as it is.
 #![tactic(auto)]
 
+use std::io::ErrorKind;
 use std::process::ExitCode;
+use std::{env, io};
+
+/// The words behind the program's name.
+fn words_of(rt: &HostRuntime) -> io::Result<Vec<String>> {
+    let words = env::args(rt)?.skip(1).collect(rt.alloc())?;
+    Ok(words)
+}
 
 fn main(rt: HostRuntime) -> ExitCode {
-    rg_explain_script::start(&rt, &rt)
+    match words_of(&rt) {
+        Ok(words) => rg_explain_script::start(&rt, &rt, words.as_slice()),
+        // A word that isn't UTF-8 asks for nothing.
+        Err(error) if error.kind() == ErrorKind::InvalidData => rg_explain_script::refused(),
+        Err(_) => rg_explain_script::out_of_memory(),
+    }
 }

@@ -1,8 +1,13 @@
 -- For proofs: what an explainer asks and keeps.
-use Rattle.std.specs.Prelude.{ℕ, List, Option, Some, None}
+use Rattle.std.specs.Prelude.{ℕ, Bool, List, [], Option, Some, None}
+use Rattle.rg_defs.specs.declared.service_def.ServiceDef.{ServiceDef}
 use Rattle.rg_policy.specs.declared.policy.Policy.{Policy}
+use Rattle.rg_policy.specs.declared.policy.ResourceMap.{ResourceMap}
 use Rattle.rg_policy.specs.declared.request.AccessRequest.{AccessRequest}
+use Rattle.rg_policy.specs.declared.request.Element.{Element}
 use Rattle.rg_policy.specs.declared.tags.Tag.{Tag}
+use Rattle.rg_resmatch.specs.declared.reach.Reach.TheVariants.{Down}
+use Rattle.rg_resmatch.specs.Tests.{lies}
 use Rattle.rg_zone_rules.specs.declared.row.ZoneRow.{ZoneRow}
 use Rattle.rg_evalr.specs.Frames.{requested_access}
 use Rattle.rg_evalr.specs.declared.frame.Side.TheVariants.{Resource, Tag as Tagged}
@@ -32,3 +37,7 @@ setting_in a zone = record { request = a.context.request; roles = a.context.role
 -- a policy that is asked
 abbrev pub candidate_in : Asked → Policy → Candidate
 candidate_in a p = candidate a.frame a.side a.context.tag p
+
+-- a map of a zone, as one of a policy, reaches down to what is asked about, whoever asks
+abbrev pub reaches : ServiceDef → List Element → ResourceMap → Bool
+reaches def elements m = lies def m.levels.items Down elements []

@@ -2,7 +2,6 @@
 ghost use Rattle.std.specs.Prelude.{◌≡◌, ◌++◌, IfOk, List, flat_map, option_map, true};
 ghost use Rattle.rg_base.specs.Listed.{listed};
 ghost use Rattle.rg_tags.specs.declared.row.TagRow.{TagRow};
-ghost use Rattle.rg_zone_rules.specs.declared.row.ZoneRow.{ZoneRow};
 ghost use Rattle.rg_facts.specs.Candidates.{resource_candidates, tag_candidates, zone_at};
 ghost use Rattle.rg_facts.specs.Sound.{sound};
 ghost use Rattle.rg_explain.specs.Explaining.{explanation, told_all};
@@ -16,7 +15,8 @@ use crate::parts::{
     tag_paths_of, zones_of,
 };
 use crate::telling::with_policies;
-use rg_base::{NoMemory, Seq, Serial, Text, TryCopy};
+use crate::zoning::in_zone;
+use rg_base::{NoMemory, Seq, Serial, Text};
 use rg_defs::Paths;
 use rg_evalr::{Frame, Side};
 use rg_facts::{Facts, frame_of};
@@ -72,16 +72,6 @@ impl Model for Explainer {
         × (e.zones ≡ record { zones = e.engine.zones.items; service = e.engine.service; def = e.engine.def })
         × (e.paths ≡ e.engine.def.levels.items)
         × (e.tag_paths ≡ (def_of (frame_of e.engine) Tagged).levels.items) };
-}
-
-fn name_of(alloc: Global, zone: Option<&ZoneRow>) -> Result<Option<Text>, NoMemory>
-    ensures { let found = option_map (λ z. z.now) zone.entry in
-        IfOk result (λ name. name ≡ option_map (λ (z : ZoneRow). z.name) found) }
-{
-    match zone {
-        Some(zone) => Ok(Some(zone.name.try_copy(alloc)?)),
-        None => Ok(None),
-    }
 }
 
 impl Explainer {
@@ -254,7 +244,7 @@ impl Explainer {
         let policies = self.tag_policies(alloc, request, zone, rows.as_slice())?;
         let policies = self.with_resource_policies(alloc, request, zone, policies)?;
         Ok(Explanation {
-            zone: name_of(alloc, zone)?,
+            zone: in_zone(alloc, facts, &self.paths, request, zone)?,
             roles: roles_holding(alloc, &self.roles, facts.roles.as_slice(), request)?,
             rows: rows_told(alloc, rows.as_slice())?,
             cell: first_filled(policies.as_slice()),

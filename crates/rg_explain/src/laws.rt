@@ -1,18 +1,20 @@
 // Laws of what is told, each the contract of a function that does nothing: no explanation disagrees with the flow.
-ghost use Rattle.std.specs.Prelude.{◌≡◌, ◌&&◌, Contains, option_map, true};
+ghost use Rattle.std.specs.Prelude.{◌≡◌, ◌&&◌, Contains, IsSome, List, Some, is_some, option_map, true};
 ghost use Rattle.rg_base.specs.declared.numbers.Serial.{Serial};
 ghost use Rattle.rg_policy.specs.declared.policy.Policy.{Policy};
 ghost use Rattle.rg_policy.specs.declared.request.AccessRequest.{AccessRequest};
+ghost use Rattle.rg_roles.specs.declared.row.RoleRow.{RoleRow};
+ghost use Rattle.rg_roles.specs.Faults.{have_own_names};
 ghost use Rattle.rg_zone_rules.specs.declared.row.ZoneRow.{ZoneRow};
 ghost use Rattle.rg_facts.specs.Candidates.{Candidate, Setting, candidates, is_chosen, setting_of, takes_part, zone_at};
 ghost use Rattle.rg_facts.specs.Flow.{decider, eval};
 ghost use Rattle.rg_facts.specs.Texts.{decide};
 ghost use Rattle.rg_facts.specs.declared.facts.Facts.{Facts};
 ghost use Rattle.rg_standing.specs.Standing.{is_told_in_play};
-ghost use Rattle.rg_explain.specs.Explaining.{explanation, told};
+ghost use Rattle.rg_explain.specs.Explaining.{explanation, held_by, in_zone, is_holding, map_place, told};
 ghost use Rattle.rg_explain.specs.declared.explanation.Told.{Told};
 
-use rg_standing::told_in_play_where_it_is;
+use rg_standing::{member_is_told_where_named, told_in_play_where_it_is};
 
 /// The decision that is told is the one that is made, and the zone that is told is the one in which it is made.
 pub fn decision_is_told()
@@ -21,8 +23,23 @@ pub fn decision_is_told()
     ensures verdict { (facts : Facts) (q : AccessRequest) (serial : Serial)
         → (explanation facts q serial).verdict ≡ eval facts q }
     ensures zone { (facts : Facts) (q : AccessRequest) (serial : Serial)
-        → (explanation facts q serial).zone ≡ option_map (λ (z : ZoneRow). z.name) (zone_at facts q) }
+        → (explanation facts q serial).zone ≡ option_map (in_zone facts q) (zone_at facts q) }
 {}
+
+/// The zone that is told is told with a map that reaches down to the resource.
+pub fn zone_is_told_with_its_map()
+    ensures { (facts : Facts) (q : AccessRequest) (zone : ZoneRow)
+        → zone_at facts q ≡ Some zone → IsSome (map_place facts q zone) }
+{}
+
+/// Each role that holds the user has a reason, and no other has one, where no two roles have one name.
+pub fn holding_roles_have_a_reason()
+    ensures { (rows : List RoleRow) (q : AccessRequest) (row : RoleRow)
+        → have_own_names rows ≡ true → Contains rows row
+        → is_some (held_by rows q row).by ≡ is_holding rows q row }
+{
+    member_is_told_where_named();
+}
 
 /// Of each candidate that the zone chooses it is told how it stands, and of nothing else.
 pub fn chosen_policies_are_told()

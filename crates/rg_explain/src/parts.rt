@@ -10,17 +10,18 @@ ghost use Rattle.rg_evalr.specs.Frames.{def_of};
 ghost use Rattle.rg_evalr.specs.declared.frame.Side.TheVariants.{Tag as Tagged};
 ghost use Rattle.rg_facts.specs.Candidates.{frame_of, row_lies};
 ghost use Rattle.rg_facts.specs.Sound.{sound};
-ghost use Rattle.rg_explain.specs.Explaining.{roles_holding, rows_lying, tagged_by};
+ghost use Rattle.rg_explain.specs.Explaining.{held_by, roles_holding, rows_lying, tagged_by};
 
-use crate::explanation::TaggedBy;
+use crate::explanation::{HeldBy, TaggedBy};
 use rg_base::{NoMemory, Seq, Text, TryCopy};
 use rg_defs::{Paths, ServiceDef, tag_name};
+use rg_effect::Subjects;
 use rg_evalr::Frame;
 use rg_facts::Facts;
 use rg_policy::{AccessRequest, Element, Tag};
 use rg_resmatch::Reach;
 use rg_roles::{RoleRow, Roles};
-use rg_standing::resources_lie;
+use rg_standing::{member_of, resources_lie};
 use rg_tags::TagRow;
 use rg_zones::ZoneMap;
 use std::alloc::Global;
@@ -172,13 +173,33 @@ pub(crate) fn rows_told(alloc: Global, rows: &[TagRow]) -> Result<Seq<TaggedBy>,
     Ok(list)
 }
 
-/// The names of the roles that hold the user, of whose rows these are all.
+/// The role with the first of its users, groups and roles that is the user.
+fn held_by(
+    alloc: Global,
+    roles: &Roles,
+    request: &AccessRequest,
+    row: &RoleRow,
+) -> Result<HeldBy, NoMemory>
+    ensures { IfOk result (λ held. held ≡ held_by roles.now request.now row.now) }
+{
+    let subjects = Subjects {
+        users: row.users.as_slice(),
+        groups: row.groups.as_slice(),
+        roles: row.roles.as_slice(),
+    };
+    Ok(HeldBy {
+        role: row.name.try_copy(alloc)?,
+        by: member_of(alloc, roles, request, &subjects)?,
+    })
+}
+
+/// The roles that hold the user, of whose rows these are all.
 pub(crate) fn roles_holding(
     alloc: Global,
     roles: &Roles,
     rows: &[RoleRow],
     request: &AccessRequest,
-) -> Result<Seq<Text>, NoMemory>
+) -> Result<Seq<HeldBy>, NoMemory>
     requires { roles.now ≡ rows.now }
     ensures { IfOk result (λ list. list ≡ listed (roles_holding rows.now request.now)) }
 {
@@ -187,7 +208,7 @@ pub(crate) fn roles_holding(
     let mut list = Seq::new(alloc);
     for row in rows {
         if roles.holds(row.name.as_str(), user, groups) {
-            list.add(row.name.try_copy(alloc)?)?;
+            list.add(held_by(alloc, roles, request, row)?)?;
         }
     }
     Ok(list)

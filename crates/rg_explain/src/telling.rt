@@ -61,6 +61,7 @@ fn tell(
     let tag = kind_of(alloc, question.tag)?;
     Ok(Told {
         policy: policy.id,
+        name: policy.name.try_copy(alloc)?,
         tag,
         cell,
         standing,

@@ -49,41 +49,45 @@ then_wanted wanted.Nothing = wanted.Nothing
 
 -- ---- the work of a line in a state; None for a bad line
 
--- how far the script has come, and which of its decisions to come are wanted
+-- how explanations are told, which never changes, how far the script has come, and which of its decisions to come are wanted
 pub record Progress : Type 0 where
+  pub style : Style
   pub script : State
   pub wanted : Wanted
 
-abbrev pub progress : State → Wanted → Progress
-progress s w = record { script = s; wanted = w }
+abbrev pub progress : Style → State → Wanted → Progress
+progress style s w = record { style = style; script = s; wanted = w }
 
 -- it is printed where it is wanted, and nothing is decided for the request
-abbrev pub explaining : Style → Progress → AccessRequest → Publication → Work Progress
-explaining style s q p = record {
-  text = if is_wanted s.wanted then explained_text style p.facts q else [];
-  state = progress s.script (then_wanted s.wanted);
+abbrev pub explaining : Progress → AccessRequest → Publication → Work Progress
+explaining s q p = record {
+  text = if is_wanted s.wanted then explained_text s.style p.facts q else [];
+  state = progress s.style s.script (then_wanted s.wanted);
   decided = [];
 }
 
 -- a request is explained by what is published last
-unfoldable pub explain_work : Style → Progress → AccessRequest → Option (Work Progress)
-explain_work style s q = option_map (explaining style s q) (newest_of s.script)
+unfoldable pub explain_work : Progress → AccessRequest → Option (Work Progress)
+explain_work s q = option_map (explaining s q) (newest_of s.script)
 
 -- nothing is printed of any other line
-abbrev pub unprinted : Wanted → Work State → Work Progress
-unprinted wanted w = quiet (progress w.state wanted)
+abbrev pub unprinted : Progress → Work State → Work Progress
+unprinted s w = quiet (progress s.style w.state s.wanted)
 
-abbrev pub line_work : Style → Progress → Option Line → Option (Work Progress)
-line_work style s None = None
-line_work style s (Some (line.Decide q)) = explain_work style s q
-line_work style s (Some read) = option_map (unprinted s.wanted) (prepare_work s.script read)
+abbrev pub line_work : Progress → Option Line → Option (Work Progress)
+line_work s None = None
+line_work s (Some (line.Decide q)) = explain_work s q
+line_work s (Some read) = option_map (unprinted s) (prepare_work s.script read)
 
 -- ---- the script
 
 -- a line in a state at its moment
-abbrev pub explain_step : Style → Progress → List ℕ → Moment → Option (Work Progress)
-explain_step style s bytes now = line_work style s (line_of bytes now)
+abbrev pub explain_step : Progress → List ℕ → Moment → Option (Work Progress)
+explain_step s bytes now = line_work s (line_of bytes now)
+
+abbrev pub begins : Options → Progress
+begins o = progress o.style state.Empty o.wanted
 
 -- what the lines come to, each read and worked at its moment
 abbrev pub explained : Options → Script Progress
-explained o = worked (explain_step o.style) (progress state.Empty o.wanted) 1
+explained o = worked explain_step (begins o) 1

@@ -1,3 +1,5 @@
 pub mod Alike
+pub mod CommandLine
 pub mod Ends
 pub mod Explained
+pub mod Words

@@ -1,44 +1,61 @@
-// From the bytes of a script to the explanations of its decisions.
-ghost use Rattle.std.specs.Process.{exit_status};
+// From words and the bytes of a script to the explanations of its decisions.
+ghost use Rattle.std.specs.Prelude.{◌≡◌, None, map, string_bytes};
 ghost use Rattle.rg_work.specs.Ports.{ports};
-ghost use Rattle.rg_work.specs.Runs.{IsRun, OfStatus, Stands};
-ghost use Rattle.rg_explain_script.specs.Ends.{IsEnd};
-ghost use Rattle.rg_explain_script.specs.Explained.{explained};
+ghost use Rattle.rg_work.specs.Runs.{IsRun, OfStatus};
+ghost use Rattle.rg_explain_script.specs.Ends.{Answers};
+ghost use Rattle.rg_explain_script.specs.Words.{options_of};
 
 use crate::explaining::Explaining;
-use rg_ports::{Clock, Sink, Source, StdSink, StdSource, WallClock};
-use rg_work::work_script;
+use crate::options::Options;
+use crate::words::options_of;
+use rg_ports::{Clock, Sink, Source};
+use rg_work::{Status, work_script};
 use std::alloc::Global;
-use std::process::ExitCode;
 use std::sync::Wait;
 
-/// Explains a script, and answers the number of a status, which is that of its replay.
+/// Explains a script by these options.
+fn explain_by<S: Source, K: Sink, C: Clock, R: Wait>(
+    rt: &R,
+    alloc: Global,
+    options: Options,
+    source: &mut S,
+    sink: &mut K,
+    clock: &mut C,
+) -> Status
+    ensures run { IsRun (Stands _ (explained options))
+        (ports (S.left source.old) (S.ended source.old) (S.faults source.old) (C.given clock.old) (K.held sink.old) (K.faults sink.old))
+        (ports (S.left source.new) (S.ended source.new) (S.faults source.new) (C.given clock.new) (K.held sink.new) (K.faults sink.new)) result }
+{
+    let mut explaining = Explaining::new(rt, options);
+    let status = work_script(alloc, &mut explaining, source, sink, clock);
+    drop(explaining);
+    status
+}
+
+/// Explains a script as the words ask for, and answers the number of a status, which is that of the script's replay, or that of
+/// words that ask for nothing.
 pub fn explain<S: Source, K: Sink, C: Clock, R: Wait>(
     rt: &R,
     alloc: Global,
+    words: &[String],
     source: &mut S,
     sink: &mut K,
     clock: &mut C,
 ) -> u8
-    // Each status comes as `Stands` says: with Done and BadLine the sink got exactly the explanations of what the source's lines
-    // decide, after a failed write a prefix of them, and a count of faults rose exactly where the status says so.
-    ensures answers { OfStatus result (IsRun (Stands _ explained)
+    // Each status comes as `Answers` says: with Done and BadLine the sink got exactly the explanations of what the source's lines
+    // decide, of all or of the one that is wanted, after a failed write a prefix of them, and a count of faults rose exactly where
+    // the status says so.
+    ensures answers { OfStatus result (IsRun (Answers (options_of (map string_bytes words.now)))
         (ports (S.left source.old) (S.ended source.old) (S.faults source.old) (C.given clock.old) (K.held sink.old) (K.faults sink.old))
         (ports (S.left source.new) (S.ended source.new) (S.faults source.new) (C.given clock.new) (K.held sink.new) (K.faults sink.new))) }
+    // Words that ask for nothing leave all as it is.
+    ensures refused { options_of (map string_bytes words.now) ≡ None → result ≡ 1 }
+    ensures untouched { options_of (map string_bytes words.now) ≡ None →
+        (source.new ≡ source.old) × (sink.new ≡ sink.old) × (clock.new ≡ clock.old) }
 {
-    let mut explaining = Explaining::new(rt);
-    let status = work_script(alloc, &mut explaining, source, sink, clock);
-    drop(explaining);
-    status.number()
-}
-
-/// Explains standard input on standard output. The answer is what `main` ends with.
-pub fn start(rt: &HostRuntime, waits: &impl Wait) -> ExitCode
-    ensures { IsEnd (exit_status result) }
-{
-    let mut source = StdSource::new(rt.stdin());
-    let mut sink = StdSink::new(rt.stdout());
-    let mut clock = WallClock(*rt);
-    let status = explain(waits, rt.alloc(), &mut source, &mut sink, &mut clock);
-    ExitCode::from(status)
+    match options_of(alloc, words) {
+        Ok(Some(options)) => explain_by(rt, alloc, options, source, sink, clock).number(),
+        Ok(None) => Status::Usage.number(),
+        Err(_) => Status::NoMemory.number(),
+    }
 }

@@ -2,9 +2,13 @@
 #![tactic(auto)]
 
 mod key;
+mod listing;
+mod names;
+mod place;
 mod policies;
 mod print;
 mod reasons;
+mod request;
 mod words;
 
 pub use print::print_explanation;

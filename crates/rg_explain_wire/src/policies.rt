@@ -250,6 +250,7 @@ impl ToJson<Key> for Told {
         put_word(alloc, &mut members, Key::Is, standing_word(standing))?;
         put_option(alloc, &mut members, Key::Items, told_matches(standing))?;
         put_option(alloc, &mut members, Key::Maps, told_misses(standing))?;
+        put(alloc, &mut members, Key::Name, &self.name)?;
         put(alloc, &mut members, Key::Tag, &self.tag)?;
         put_option(alloc, &mut members, Key::Unmet, condition)?;
         Ok(Value::Object(members))

@@ -1,14 +1,20 @@
 // An explanation, printed.
 ghost use Rattle.std.specs.Prelude.{◌≡◌, IfOk};
 ghost use Rattle.std.specs.Str.{chars, encode_utf8_all};
-ghost use Rattle.rg_explain_wire.specs.Printing.{explanation_text};
+ghost use Rattle.serde_json.specs.View.{view};
+ghost use Rattle.rg_base.specs.Listed.{listed};
+ghost use Rattle.rg_json.specs.Printing.{count_data, list_data, option_data};
+ghost use Rattle.rg_explain_wire.specs.Listing.{listed_policies};
+ghost use Rattle.rg_explain_wire.specs.Printing.{explanation_data, explanation_text, told_data};
 
 use crate::key::Key;
+use crate::listing::{far_count, is_listed};
 use crate::policies::{put_cell, word_json};
 use rg_base::{NoMemory, Text};
-use rg_explain::{Explanation, TaggedBy};
+use rg_explain::{Explanation, HeldBy, InZone, TaggedBy};
 use rg_facts::{Access, ItemPlace};
-use rg_json::{ToJson, put, text_of};
+use rg_json::{Name, ToJson, put, put_value, text_of};
+use rg_policy::AccessRequest;
 use rg_wire::access_word;
 use serde_json::{Map, Value};
 use std::alloc::Global;
@@ -43,6 +49,45 @@ impl ToJson<Key> for TaggedBy {
     }
 }
 
+/// The place of a zone's map, null where there is none.
+fn map_json(map: Option<usize>) -> Value
+    ensures { view result ≡ option_data count_data map }
+{
+    match map {
+        Some(place) => Value::from(place as u64),
+        None => Value::Null,
+    }
+}
+
+impl ToJson<Key> for InZone {
+    ghost use Rattle.rg_explain_wire.specs.Printing.{zone_data};
+
+    ghost printing = { zone_data };
+
+    #[tactic(auto, unfolding(crate::specs::Printing::zone_data))]
+    fn json(&self, alloc: Global) -> Result<Value, NoMemory> {
+        let mut members = Map::new(alloc);
+        let map = map_json(self.map);
+        put_value(alloc, &mut members, Key::Map.name(), map)?;
+        put(alloc, &mut members, Key::Name, &self.zone)?;
+        Ok(Value::Object(members))
+    }
+}
+
+impl ToJson<Key> for HeldBy {
+    ghost use Rattle.rg_explain_wire.specs.Printing.{role_data};
+
+    ghost printing = { role_data };
+
+    #[tactic(auto, unfolding(crate::specs::Printing::role_data))]
+    fn json(&self, alloc: Global) -> Result<Value, NoMemory> {
+        let mut members = Map::new(alloc);
+        put(alloc, &mut members, Key::By, &self.by)?;
+        put(alloc, &mut members, Key::Name, &self.role)?;
+        Ok(Value::Object(members))
+    }
+}
+
 impl ToJson<Key> for Access {
     ghost use Rattle.rg_wire.specs.Printing.{access_data};
 
@@ -53,34 +98,60 @@ impl ToJson<Key> for Access {
     }
 }
 
-impl ToJson<Key> for Explanation {
-    ghost use Rattle.rg_explain_wire.specs.Printing.{explanation_data};
-
-    ghost printing = { explanation_data };
-
-    #[tactic(auto, unfolding(crate::specs::Printing::explanation_data))]
-    fn json(&self, alloc: Global) -> Result<Value, NoMemory> {
-        let mut members = Map::new(alloc);
-        let verdict = &self.verdict;
-        put(alloc, &mut members, Key::Access, &verdict.access)?;
-        put_cell(alloc, &mut members, Key::Cell, self.cell)?;
-        put(alloc, &mut members, Key::Mask, &verdict.mask)?;
-        put(alloc, &mut members, Key::Policies, &self.policies)?;
-        put(alloc, &mut members, Key::PolicyId, &verdict.policy.0)?;
-        put(alloc, &mut members, Key::Roles, &self.roles)?;
-        put(alloc, &mut members, Key::RowFilter, &verdict.filter)?;
-        put(alloc, &mut members, Key::Rows, &self.rows)?;
-        put(alloc, &mut members, Key::Zone, &self.zone)?;
-        Ok(Value::Object(members))
+/// The policies that are listed.
+#[tactic(auto, unfolding(rg_json::specs::Printing::list_data))]
+fn policies_json(alloc: Global, explanation: &Explanation, all: bool) -> Result<Value, NoMemory>
+    ensures { IfOk result (λ v. view v ≡ list_data told_data (listed (listed_policies all explanation.now))) }
+{
+    let mut made = Vec::new(alloc);
+    for told in explanation.policies.as_slice() {
+        if is_listed(all, told) {
+            made.push(told.json(alloc)?)?;
+        }
     }
+    Ok(Value::Array(made))
 }
 
-/// Prints an explanation: one line, without its LF.
-#[tactic(auto, using(crate::proofs::Plain::explanations), unfolding(crate::specs::Printing::explanation_text))]
-pub fn print_explanation(alloc: Global, explanation: &Explanation) -> Result<Text, NoMemory>
-    ensures text { IfOk result (λ t. t ≡ chars (explanation_text explanation.now)) }
-    ensures bytes { IfOk result (λ t. encode_utf8_all t ≡ explanation_text explanation.now) }
+/// An explanation of a request.
+#[tactic(auto, unfolding(crate::specs::Printing::explanation_data))]
+fn explanation_json(
+    alloc: Global,
+    request: &AccessRequest,
+    explanation: &Explanation,
+    all: bool,
+) -> Result<Value, NoMemory>
+    ensures { IfOk result (λ v. view v ≡ explanation_data all request.now explanation.now) }
 {
-    let value = explanation.json(alloc)?;
+    let mut members = Map::new(alloc);
+    let verdict = &explanation.verdict;
+    let far_off = far_count(explanation) as u64;
+    let policies = policies_json(alloc, explanation, all)?;
+    put(alloc, &mut members, Key::Access, &verdict.access)?;
+    put_cell(alloc, &mut members, Key::Cell, explanation.cell)?;
+    put(alloc, &mut members, Key::FarOff, &far_off)?;
+    put(alloc, &mut members, Key::Mask, &verdict.mask)?;
+    put(alloc, &mut members, Key::Path, &explanation.decision.path)?;
+    put_value(alloc, &mut members, Key::Policies.name(), policies)?;
+    put(alloc, &mut members, Key::PolicyId, &verdict.policy.0)?;
+    put(alloc, &mut members, Key::Request, request)?;
+    put(alloc, &mut members, Key::Roles, &explanation.roles)?;
+    put(alloc, &mut members, Key::RowFilter, &verdict.filter)?;
+    put(alloc, &mut members, Key::Rows, &explanation.rows)?;
+    put(alloc, &mut members, Key::Zone, &explanation.zone)?;
+    Ok(Value::Object(members))
+}
+
+/// Prints an explanation of a request, with all policies or with those that aren't far off: one line, without its LF.
+#[tactic(auto, using(crate::proofs::Plain::explanations), unfolding(crate::specs::Printing::explanation_text))]
+pub fn print_explanation(
+    alloc: Global,
+    request: &AccessRequest,
+    explanation: &Explanation,
+    all: bool,
+) -> Result<Text, NoMemory>
+    ensures text { IfOk result (λ t. t ≡ chars (explanation_text all request.now explanation.now)) }
+    ensures bytes { IfOk result (λ t. encode_utf8_all t ≡ explanation_text all request.now explanation.now) }
+{
+    let value = explanation_json(alloc, request, explanation, all)?;
     text_of(alloc, &value)
 }

@@ -1,48 +1,12 @@
 // What is told of one policy, in words.
 ghost use Rattle.std.specs.Prelude.{◌≡◌, ◌++◌, IfOk, codes, flat_map, option_map, string_bytes};
-ghost use Rattle.std.specs.Str.{encode_utf8_all};
 ghost use Rattle.rg_facts.specs.Flow.{denies};
-ghost use Rattle.rg_explain_wire.specs.Words.{by_words, denies_by_item, effect_word, effect_words, match_words, matches_words, miss_words, quoted, standing_words, subject_words};
+ghost use Rattle.rg_explain_wire.specs.Words.{by_words, denies_by_item, effect_word, effect_words, match_words, matches_words, miss_words, standing_words, subject_words};
 
-use crate::key::Key;
-use rg_base::{NoMemory, Text};
-use rg_json::{ToJson, text_of};
+use crate::names::{after_word, owned, with_name};
+use rg_base::NoMemory;
 use rg_standing::{Match, Matches, Miss, Standing, Subject};
 use std::alloc::Global;
-
-/// The text, in memory of its own.
-pub(crate) fn owned(alloc: Global, text: &str) -> Result<String, NoMemory>
-    ensures { IfOk result (λ s. string_bytes s ≡ text.now) }
-{
-    Ok(String::from_str(alloc, text)?)
-}
-
-/// The name as a JSON string.
-#[tactic(auto, using(crate::proofs::Plain::names), unfolding(crate::specs::Words::quoted))]
-pub(crate) fn quoted(alloc: Global, name: &Text) -> Result<Text, NoMemory>
-    ensures { IfOk result (λ t. encode_utf8_all t ≡ quoted name.now) }
-{
-    let value = <Text as ToJson<Key>>::json(name, alloc)?;
-    text_of(alloc, &value)
-}
-
-/// A name between two words.
-fn with_name(alloc: Global, before: &str, name: &Text, after: &str) -> Result<String, NoMemory>
-    ensures { IfOk result (λ s. string_bytes s ≡ before.now ++ (quoted name.now ++ after.now)) }
-{
-    let name = quoted(alloc, name)?;
-    let name = name.as_str();
-    Ok(format!(in alloc; "{before}{name}{after}")?)
-}
-
-/// A word with a name behind it.
-fn after_word(alloc: Global, word: &str, name: &Text) -> Result<String, NoMemory>
-    ensures { IfOk result (λ s. string_bytes s ≡ word.now ++ quoted name.now) }
-{
-    let name = quoted(alloc, name)?;
-    let name = name.as_str();
-    Ok(format!(in alloc; "{word}{name}")?)
-}
 
 // ---- what matches
 
@@ -60,9 +24,9 @@ fn subject_words(alloc: Global, subject: &Subject) -> Result<String, NoMemory>
     }
 }
 
-/// By whom an item matches. Each has a subject.
+/// By whom an item matches or a role holds the user. Each has a subject.
 #[tactic(auto, unfolding(crate::specs::Words::by_words))]
-fn by_words(alloc: Global, subject: Option<&Subject>) -> Result<String, NoMemory>
+pub(crate) fn by_words(alloc: Global, subject: Option<&Subject>) -> Result<String, NoMemory>
     ensures { IfOk result (λ s. string_bytes s ≡ by_words (option_map (λ x. x.now) subject.entry)) }
 {
     match subject {

@@ -1,44 +1,31 @@
 // Which items match, and by which subject.
 ghost use Rattle.std.specs.Prelude.{◌≡◌, IfOk, is_none, map, not, option_and_then, option_map, position};
-ghost use Rattle.std.specs.List.{find};
-ghost use Rattle.std.specs.Str.{chars};
-ghost use Rattle.rg_base.specs.Texts.{is_among};
 ghost use Rattle.rg_policy.specs.declared.policy.PolicyCondition.{PolicyCondition};
-ghost use Rattle.rg_roles.specs.Members.{everybody};
 ghost use Rattle.rg_cond.specs.Conditions.{condition_holds};
-ghost use Rattle.rg_effect.specs.Subjects.{names_asker};
+ghost use Rattle.rg_effect.specs.Subjects.{names_asker, subjects_of};
 ghost use Rattle.rg_evalr.specs.Items.{all_hold, first_item, item_matches};
-ghost use Rattle.rg_standing.specs.Matching.{effect_by, holding_role, match_at, matched, matches_of, own_group, subject_of};
+ghost use Rattle.rg_standing.specs.Matching.{effect_by, match_at, matched, matches_of, subject_of};
 ghost use Rattle.rg_standing.specs.Standing.{def_asked, first_failing};
 
+use crate::members::member_of;
 use crate::question::Question;
 use crate::reason::{Match, Matches, Subject};
-use rg_base::{NoMemory, Text, TryCopy, is_among};
+use rg_base::NoMemory;
 use rg_cond::compile_condition;
 use rg_effect::{Subjects, any_grants, has_owner_word, has_user_word, is_owner, names};
 use rg_evalr::Effect;
 use rg_policy::{Item, Policy, PolicyCondition};
-use rg_roles::Roles;
 use std::alloc::Global;
 
-/// The first of the asker's groups that the groups have.
-fn own_group<'a>(own: &'a [Text], groups: &[Text]) -> Option<&'a Text>
-    ensures { option_map (λ t. t.now) result ≡ own_group own.now groups.now }
+/// The users, groups and roles of the item.
+fn subjects_of<'a>(item: &'a Item) -> Subjects<'a>
+    ensures { result ≡ subjects_of item.now }
 {
-    own.iter().find(|group| is_among(group.as_str(), groups))
-}
-
-/// Whether the groups have `public`.
-fn has_everybody(roles: &Roles, groups: &[Text]) -> bool
-    ensures { result ≡ is_among everybody groups.now }
-{
-    let none: &[Text] = &[];
-    let subjects = Subjects {
-        users: none,
-        groups,
-        roles: none,
-    };
-    names(roles, "", none, &subjects)
+    Subjects {
+        users: item.users.as_slice(),
+        groups: item.groups.as_slice(),
+        roles: item.roles.as_slice(),
+    }
 }
 
 fn first_set(flags: &[bool]) -> Option<usize>
@@ -85,35 +72,19 @@ impl<'a> Question<'a> {
         }
     }
 
-    /// The first of the roles that holds the asker.
-    fn holding_role<'c>(&self, roles: &'c [Text]) -> Option<&'c Text>
-        ensures { option_map (λ t. t.now) result ≡ holding_role self.now.context.roles self.now.context.request roles.now }
-    {
-        let user = self.request.user.as_str();
-        let own = self.request.groups.as_slice();
-        roles
-            .iter()
-            .find(|role| self.roles.holds(role.as_str(), user, own))
-    }
-
     /// Whether a subject of the item is the asker.
     fn names_asker(&self, item: &Item) -> bool
         ensures { result ≡ names_asker self.now.context.roles self.now.context.request item.now }
     {
         let request = self.request;
         let users = item.users.as_slice();
-        let subjects = Subjects {
-            users,
-            groups: item.groups.as_slice(),
-            roles: item.roles.as_slice(),
-        };
         has_user_word(users)
             || ((has_owner_word(users) && is_owner(request))
                 || names(
                     self.roles,
                     request.user.as_str(),
                     request.groups.as_slice(),
-                    &subjects,
+                    &subjects_of(item),
                 ))
     }
 
@@ -122,26 +93,13 @@ impl<'a> Question<'a> {
         ensures { IfOk result (λ s. s ≡ subject_of self.now.context.roles self.now.context.request item.now) }
     {
         let users = item.users.as_slice();
-        let groups = item.groups.as_slice();
         if has_user_word(users) {
             return Ok(Some(Subject::EveryUser));
         }
         if has_owner_word(users) && is_owner(self.request) {
             return Ok(Some(Subject::Owner));
         }
-        if is_among(self.request.user.as_str(), users) {
-            return Ok(Some(Subject::User));
-        }
-        if let Some(group) = own_group(self.request.groups.as_slice(), groups) {
-            return Ok(Some(Subject::Group(group.try_copy(alloc)?)));
-        }
-        if has_everybody(self.roles, groups) {
-            return Ok(Some(Subject::Everybody));
-        }
-        match self.holding_role(item.roles.as_slice()) {
-            Some(role) => Ok(Some(Subject::Role(role.try_copy(alloc)?))),
-            None => Ok(None),
-        }
+        member_of(alloc, self.roles, self.request, &subjects_of(item))
     }
 
     /// Whether the item matches.

@@ -5,11 +5,12 @@ use Rattle.std.specs.List.{list_any}
 use Rattle.std.specs.Str.{bytes_eq, encode_utf8_all}
 use Rattle.serde_json.specs.Written.{compact_text}
 use Rattle.rg_json.specs.Printing.{option_data, text_data}
-use Rattle.rg_policy.specs.declared.request.AccessRequest.{AccessRequest}
 use Rattle.rg_facts.specs.declared.decision.Decision.{Decision}
 use Rattle.rg_facts.specs.declared.decision.MaskText.{MaskText}
 use Rattle.rg_wire.specs.Printing.{decision_text, word_of}
 use Rattle.rg_script.specs.Words.{front_word}
+use Rattle.rg_test_script.specs.declared.outcome.Outcome.{Outcome}
+use Rattle.rg_test_script.specs.declared.outcome.Outcome.TheVariants as outcome
 
 -- ---- the comment
 
@@ -40,12 +41,6 @@ is_form wanted = list_any (bytes_eq (front_word wanted)) form_words || begins_ob
 
 -- ---- what it stands behind
 
--- what the line before came to: nothing that is printed, a text, or a decision on a request
-pub data Outcome : Type 0 where
-  nothing : Outcome
-  printed : List ℕ → Outcome
-  decided : AccessRequest → Decision → Outcome
-
 -- the mask's type, or null
 abbrev pub mask_type : Option MaskText → List ℕ
 mask_type None = codes "null"
@@ -63,6 +58,6 @@ said_of d =
 
 -- it is so; of a printed line the whole line can be expected
 abbrev pub is_met : List ℕ → Outcome → Bool
-is_met wanted nothing = false
-is_met wanted (printed text) = bytes_eq text (wanted ++ 10 ∷ [])
-is_met wanted (decided q d) = list_any (bytes_eq wanted) (said_of d)
+is_met wanted outcome.Nothing = false
+is_met wanted (outcome.Printed text) = bytes_eq text (wanted ++ 10 ∷ [])
+is_met wanted (outcome.Decided q d) = list_any (bytes_eq wanted) (said_of d)

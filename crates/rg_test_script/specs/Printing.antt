@@ -1,21 +1,26 @@
 -- What is printed of tests.
-use Rattle.std.specs.Prelude.{ℕ, ◌==◌, nat_lt, ◌&&◌, not, ◌++◌, List, [], ◌∷◌, codes, decimal, flat_map, if◌then◌else◌}
+use Rattle.std.specs.Prelude.{ℕ, Bool, ◌==◌, nat_lt, ◌&&◌, ◌||◌, not, ◌++◌, List, [], codes, decimal, encode_utf8, flat_map, if◌then◌else◌}
+use Rattle.std.specs.Str.{chars}
 use Rattle.rg_test_script.specs.declared.form.Form.{Form}
 use Rattle.rg_test_script.specs.declared.form.Form.TheVariants as form
 
 -- ---- XML
 
--- a byte as XML has it in a text; one that XML can't have is a question mark
-abbrev pub escaped_byte : ℕ → List ℕ
-escaped_byte b =
-    if b == 38 then codes "&amp;"
-    else (if b == 60 then codes "&lt;"
-    else (if b == 62 then codes "&gt;"
-    else (if b == 34 then codes "&quot;"
-    else (if nat_lt b 32 && not (b == 10) then codes "?" else b ∷ []))))
+-- what XML can't have: controls but for tab, LF and CR, and the two characters that are none
+abbrev pub is_no_xml : ℕ → Bool
+is_no_xml c = (nat_lt c 32 && not (c == 9 || (c == 10 || c == 13))) || (c == 65534 || c == 65535)
+
+-- a character as XML has it in a text; one that XML can't have is a question mark
+unfoldable pub escaped_char : ℕ → List ℕ
+escaped_char c =
+    if c == 38 then codes "&amp;"
+    else (if c == 60 then codes "&lt;"
+    else (if c == 62 then codes "&gt;"
+    else (if c == 34 then codes "&quot;"
+    else (if is_no_xml c then codes "?" else encode_utf8 c))))
 
 unfoldable pub escaped : List ℕ → List ℕ
-escaped text = flat_map escaped_byte text
+escaped text = flat_map escaped_char (chars text)
 
 unfoldable pub case_open : ℕ → List ℕ → List ℕ
 case_open n wanted = codes "<testcase name=\"line " ++ (decimal n ++ (codes ": " ++ (escaped wanted ++ codes "\"")))

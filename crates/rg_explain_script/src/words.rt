@@ -1,0 +1,173 @@
+// The words of the command line.
+ghost use Rattle.std.specs.Prelude.{◌≡◌, IfErr, IfOk, IfSome, is_some, map, string_bytes, true};
+ghost use Rattle.std.specs.Char.{is_ascii_digit};
+ghost use Rattle.std.specs.List.{list_all};
+ghost use Rattle.clap.specs.Words.{app_of, found_of, matches_of, rows_of};
+ghost use Rattle.rg_explain_script.specs.CommandLine.{words_app};
+ghost use Rattle.rg_explain_script.specs.Words.{are_fitting, at_most_one, is_all, is_json, is_known, is_number, is_numeral, number_of, options_of, wanted_by};
+
+use crate::options::{Form, Options, Style, Wanted};
+use clap::{Arg, ArgAction, ArgMatches};
+use rg_base::NoMemory;
+use std::alloc::{AllocError, Global};
+
+#[tactic(auto, unfolding(crate::specs::Words::is_json))]
+fn is_json(word: &str) -> bool
+    ensures { result ≡ is_json word.now }
+{
+    word == "--json"
+}
+
+#[tactic(auto, unfolding(crate::specs::Words::is_all))]
+fn is_all(word: &str) -> bool
+    ensures { result ≡ is_all word.now }
+{
+    word == "--all"
+}
+
+fn has_digits_alone(word: &str) -> bool
+    ensures { result ≡ list_all is_ascii_digit word.now }
+{
+    word.bytes().all(|byte| byte.is_ascii_digit())
+}
+
+fn is_numeral(word: &str) -> bool
+    ensures { result ≡ is_numeral word.now }
+{
+    match word.as_bytes() {
+        [] | [b'0', ..] => false,
+        _ => has_digits_alone(word),
+    }
+}
+
+/// The number that decimal digits write without a leading zero, where it is a `u32`.
+fn number_of(word: &str) -> Option<u32>
+    ensures { result ≡ number_of word.now }
+{
+    if !is_numeral(word) {
+        return None;
+    }
+    word.parse::<u32>().ok()
+}
+
+#[tactic(auto, unfolding(crate::specs::Words::is_number))]
+fn is_number(word: &str) -> bool
+    ensures { result ≡ is_number word.now }
+{
+    number_of(word).is_some()
+}
+
+fn is_known(word: &str) -> bool
+    ensures { result ≡ is_known word.now }
+{
+    is_json(word) || is_all(word) || is_number(word)
+}
+
+fn are_known(words: &[String]) -> bool
+    ensures { result ≡ list_all (λ word. is_known (string_bytes word)) words.now }
+{
+    words.iter().all(|word| is_known(word.as_str()))
+}
+
+fn has_one_json(words: &[String]) -> bool
+    ensures { result ≡ at_most_one is_json (map string_bytes words.now) }
+{
+    words.iter().filter(|word| is_json(word.as_str())).count() <= 1
+}
+
+fn has_one_all(words: &[String]) -> bool
+    ensures { result ≡ at_most_one is_all (map string_bytes words.now) }
+{
+    words.iter().filter(|word| is_all(word.as_str())).count() <= 1
+}
+
+fn has_one_number(words: &[String]) -> bool
+    ensures { result ≡ at_most_one is_number (map string_bytes words.now) }
+{
+    words.iter().filter(|word| is_number(word.as_str())).count() <= 1
+}
+
+/// Whether each word is a flag or a number, and none of the three is there twice.
+#[tactic(auto, unfolding(crate::specs::Words::are_fitting))]
+fn are_fitting(words: &[String]) -> bool
+    ensures { result ≡ are_fitting (map string_bytes words.now) }
+{
+    are_known(words) && has_one_json(words) && has_one_all(words) && has_one_number(words)
+}
+
+/// How the words are read: two flags, and a number.
+fn command_line<'a>(alloc: Global) -> Result<clap::Command<'a>, AllocError>
+    ensures { IfOk result (λ line. app_of line ≡ words_app) }
+{
+    let json = Arg::new(alloc, "json")
+        .long("json")
+        .action(ArgAction::SetTrue);
+    let all = Arg::new(alloc, "all")
+        .long("all")
+        .action(ArgAction::SetTrue);
+    let number = Arg::new(alloc, "N").action(ArgAction::Set);
+    clap::Command::new(alloc, "rangerd-explain")
+        .no_binary_name(true)
+        .disable_help_flag(true)
+        .arg(json)?
+        .arg(all)?
+        .arg(number)
+}
+
+/// The words as `clap` reads them. Where they fit, it refuses them for want of memory alone.
+fn matches_of<'a>(alloc: Global, words: &'a [String]) -> Result<ArgMatches<'a>, NoMemory>
+    ensures { IfOk result (λ matches. rows_of (found_of matches) ≡ matches_of words_app (map string_bytes words.entry.now)) }
+{
+    let line = command_line(alloc)?;
+    match line.try_get_matches_from(words) {
+        Ok(matches) => Ok(matches),
+        Err(_) => Err(NoMemory),
+    }
+}
+
+/// Which decisions are wanted where this one is, counted from 1.
+fn wanted_by(number: Option<u32>) -> Wanted
+    ensures { result ≡ wanted_by number }
+{
+    match number {
+        Some(number) => Wanted::After(number.saturating_sub(1)),
+        None => Wanted::Every,
+    }
+}
+
+fn number_in(matches: &ArgMatches) -> Option<u32>
+    ensures { result ≡ option_and_then number_of (first_value (found_of matches.now) (codes "N")) }
+{
+    match matches.get_str("N") {
+        Some(word) => number_of(word),
+        None => None,
+    }
+}
+
+fn form_in(matches: &ArgMatches) -> Form
+    ensures json { one_text (found_of matches.now) (codes "json") ≡ Some (codes "true") → result ≡ Form.Json }
+    ensures words { one_text (found_of matches.now) (codes "json") ≡ Some (codes "false") → result ≡ Form.Words }
+{
+    if matches.get_flag("json") {
+        Form::Json
+    } else {
+        Form::Words
+    }
+}
+
+/// What the words ask for; None where they ask for nothing. Memory is refused only to words that ask for something.
+pub(crate) fn options_of(alloc: Global, words: &[String]) -> Result<Option<Options>, NoMemory>
+    ensures asked { IfOk result (λ options. options ≡ options_of (map string_bytes words.now)) }
+    ensures refused { OnErr result (is_some (options_of (map string_bytes words.now)) ≡ true) }
+{
+    if !are_fitting(words) {
+        return Ok(None);
+    }
+    let matches = matches_of(alloc, words)?;
+    let style = Style {
+        form: form_in(&matches),
+        all: matches.get_flag("all"),
+    };
+    let wanted = wanted_by(number_in(&matches));
+    Ok(Some(Options { style, wanted }))
+}

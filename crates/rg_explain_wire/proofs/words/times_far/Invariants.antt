@@ -1,9 +1,0 @@
-use Rattle.std.proofs.Common.{◌≡◌, ◌≤◌, filter, length, take}
-use Rattle.rg_explain_wire.specs.Words.{is_far}
-use Rattle.rg_explain_wire.proofs.words.times_far.Given as goal
-
-abbrev pub invariant-loop-told : goal.invariant-loop-told
-invariant-loop-told l = record {
-  counted : l.count ≡ length (filter is_far (take l.told-index l.policies));
-  few : l.count ≤ l.told-index;
-}
