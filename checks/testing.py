@@ -17,6 +17,7 @@ EXPECTING = b"# expect "
 FORMS = (b"ALLOWED", b"DENIED", b"UNDETERMINED", b"filter", b"mask")
 TOP = '<?xml version="1.0" encoding="UTF-8"?>\n<testsuite name="rangerd-test">\n'
 BOTTOM = "</testsuite>\n"
+BAD_CASE = '<testcase name="bad line"><error message="the tests end at a bad line"/></testcase>\n'
 ENTITIES = {"&": "&amp;", "<": "&lt;", ">": "&gt;", '"': "&quot;"}
 
 
@@ -81,8 +82,11 @@ class Tests(admin_model.Script):
     def case(self, wanted):
         return '<testcase name="line %d: %s"' % (self.number, escaped(wanted))
 
-    def summary(self):
-        return BOTTOM if self.junit else "%d passed, %d failed\n" % (self.passed, self.failed)
+    def summary(self, status):
+        """The status is that of the lines."""
+        if self.junit:
+            return (BAD_CASE if status == 2 else "") + BOTTOM
+        return "%d passed, %d failed\n" % (self.passed, self.failed)
 
 
 def tested(script, tests):
@@ -90,8 +94,8 @@ def tested(script, tests):
     text, status, cause = admin_model.worked(script, kind=lambda: tests)
     if status == 6:
         return text, status, None
-    status = status or (0 if tests.passed and not tests.failed else 2)
-    return (TOP if tests.junit else "") + text + tests.summary(), status, cause
+    whole = (TOP if tests.junit else "") + text + tests.summary(status)
+    return whole, status or (0 if tests.passed and not tests.failed else 2), cause
 
 
 def main():

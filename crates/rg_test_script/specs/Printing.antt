@@ -1,6 +1,8 @@
 -- What is printed of tests.
 use Rattle.std.specs.Prelude.{ℕ, Bool, ◌==◌, nat_lt, ◌&&◌, ◌||◌, not, ◌++◌, List, [], codes, decimal, encode_utf8, flat_map, if◌then◌else◌}
 use Rattle.std.specs.Str.{chars}
+use Rattle.rg_work.specs.declared.status.Status.{Status}
+use Rattle.rg_work.specs.declared.status.Status.TheVariants.{BadLine}
 use Rattle.rg_test_script.specs.declared.form.Form.{Form}
 use Rattle.rg_test_script.specs.declared.form.Form.TheVariants as form
 
@@ -46,7 +48,12 @@ unfoldable pub top : Form → List ℕ
 top form.Words = []
 top form.Junit = codes "<?xml version=\"1.0\" encoding=\"UTF-8\"?>\n<testsuite name=\"rangerd-test\">\n"
 
--- and below
-unfoldable pub summary : Form → ℕ → ℕ → List ℕ
-summary form.Words passed failed = decimal passed ++ (codes " passed, " ++ (decimal failed ++ codes " failed\n"))
-summary form.Junit passed failed = codes "</testsuite>\n"
+-- a case for the bad line at which the tests end, since build servers show nothing but cases
+unfoldable pub bad_case : Status → List ℕ
+bad_case BadLine = codes "<testcase name=\"bad line\"><error message=\"the tests end at a bad line\"/></testcase>\n"
+bad_case _ = []
+
+-- and below, where the lines end with this status
+unfoldable pub summary : Form → Status → ℕ → ℕ → List ℕ
+summary form.Words status passed failed = decimal passed ++ (codes " passed, " ++ (decimal failed ++ codes " failed\n"))
+summary form.Junit status passed failed = bad_case status ++ codes "</testsuite>\n"

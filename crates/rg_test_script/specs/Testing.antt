@@ -115,11 +115,11 @@ ended_by s Done = if s.failed == 0 && not (s.passed == 0) then Done else BadLine
 ended_by s status = status
 
 -- what is printed stands between the top and the summary
-abbrev pub framed : Progress → List ℕ → List ℕ
-framed s text = top s.form ++ (text ++ summary s.form s.passed s.failed)
+abbrev pub framed : Progress → Status → List ℕ → List ℕ
+framed s status text = top s.form ++ (text ++ summary s.form status s.passed s.failed)
 
 abbrev pub ended : Output Progress → Output Progress
-ended o = record { text = framed o.state o.text; status = ended_by o.state o.status; state = o.state; decided = [] }
+ended o = record { text = framed o.state o.status o.text; status = ended_by o.state o.status; state = o.state; decided = [] }
 
 -- what the tests of the lines come to, each read and worked at its moment
 unfoldable pub tested : Form → Script Progress

@@ -1,9 +1,10 @@
 // What is printed of tests.
 ghost use Rattle.std.specs.Prelude.{◌≡◌, ◌++◌, IfOk, OnOk, codes, string_bytes};
-ghost use Rattle.rg_test_script.specs.Printing.{case_open, escaped, escaped_char, failed_text, is_no_xml, passed_text, summary, top};
+ghost use Rattle.rg_test_script.specs.Printing.{bad_case, case_open, escaped, escaped_char, failed_text, is_no_xml, passed_text, summary, top};
 
 use crate::form::Form;
 use rg_base::NoMemory;
+use rg_work::Status;
 use std::alloc::Global;
 
 // ---- XML
@@ -139,18 +140,34 @@ pub(crate) fn top(form: Form) -> &'static str
     }
 }
 
-/// What stands below.
+/// A case for the bad line at which the tests end, since build servers show nothing but cases.
+#[tactic(auto, unfolding(crate::specs::Printing::bad_case))]
+fn bad_case(status: Status) -> &'static str
+    ensures { result.now ≡ bad_case status }
+{
+    match status {
+        Status::BadLine =>
+            "<testcase name=\"bad line\"><error message=\"the tests end at a bad line\"/></testcase>\n",
+        _ => "",
+    }
+}
+
+/// What stands below, where the lines end with this status.
 #[tactic(auto, unfolding(crate::specs::Printing::summary))]
 pub(crate) fn summary(
     alloc: Global,
     form: Form,
+    status: Status,
     passed: u64,
     failed: u64,
 ) -> Result<String, NoMemory>
-    ensures { IfOk result (λ s. string_bytes s ≡ summary form passed failed) }
+    ensures { IfOk result (λ s. string_bytes s ≡ summary form status passed failed) }
 {
     match form {
         Form::Words => Ok(format!(in alloc; "{passed} passed, {failed} failed\n")?),
-        Form::Junit => Ok(String::from_str(alloc, "</testsuite>\n")?),
+        Form::Junit => {
+            let bad = bad_case(status);
+            Ok(format!(in alloc; "{bad}</testsuite>\n")?)
+        }
     }
 }

@@ -37,7 +37,7 @@ fn test_lines<C: Clock, R: Wait>(
 {
     let mut testing = Testing::new(rt, form);
     match follow(alloc, &mut testing, bytes, clock) {
-        Ok(worked) => match testing.framed(alloc, worked.text.as_str()) {
+        Ok(worked) => match testing.framed(alloc, worked.status, worked.text.as_str()) {
             Ok(text) => Ok(Worked {
                 text,
                 status: testing.ended(worked.status),

@@ -314,12 +314,12 @@ impl<'a, R: Wait> Testing<'a, R> {
         }
     }
 
-    /// What was printed, between the top and the summary.
-    pub(crate) fn framed(&self, alloc: Global, text: &str) -> Result<String, NoMemory>
-        ensures { IfOk result (λ s. string_bytes s ≡ framed self.now text.now) }
+    /// What was printed, between the top and the summary of lines that end with this status.
+    pub(crate) fn framed(&self, alloc: Global, status: Status, text: &str) -> Result<String, NoMemory>
+        ensures { IfOk result (λ s. string_bytes s ≡ framed self.now status text.now) }
     {
         let top = top(self.form);
-        let below = summary(alloc, self.form, self.passed, self.failed)?;
+        let below = summary(alloc, self.form, status, self.passed, self.failed)?;
         let below = below.as_str();
         Ok(format!(in alloc; "{top}{text}{below}")?)
     }
