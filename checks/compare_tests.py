@@ -125,9 +125,9 @@ def compare(program, name, script, words, text, status):
 
 
 def cases_in(text):
-    """How many tests a reader of XML finds, and how many that failed."""
+    """How many tests a reader of XML finds, how many that failed, and how many that are bad lines."""
     suite = xml.dom.minidom.parseString(text.encode()).documentElement
-    return len(suite.getElementsByTagName("testcase")), len(suite.getElementsByTagName("failure"))
+    return tuple(len(suite.getElementsByTagName(name)) for name in ("testcase", "failure", "error"))
 
 
 def main():
@@ -142,7 +142,8 @@ def main():
         script, name = making.script(number), "script %d of seed %d" % (number, given.seed)
         for words, tests in (([], Counted(counts)), (["--junit"], testing.Tests(junit=True))):
             text, status, cause = testing.tested(script, tests)
-            assert not words or cases_in(text) == (tests.passed + tests.failed, tests.failed), text
+            bad = int(cause is not None)
+            assert not words or cases_in(text) == (tests.passed + tests.failed + bad, tests.failed, bad), text
             if program:
                 compare(program, name, script, words, text, status)
         counts[end_of(tests, cause)] += 1
