@@ -1,7 +1,9 @@
 -- What a line comes to: in the replay, and in the tests.
-use Rattle.std.proofs.Common.{◌≡◌, ◌∙◌, ◌++◌, [], ℕ, Bool, true, false, not, List, Option, Some, None, option_map, if◌then◌else◌, append-nil, ap, refl, sym, subst}
+use Rattle.std.proofs.Common.{◌≡◌, ◌∙◌, ◌++◌, [], ℕ, ◌&&◌, Bool, true, false, List, Option, Some, None, option_map, if◌then◌else◌, append-nil, ap, refl, sym, subst}
 use Rattle.std.specs.Option.{option_map_or}
+use Rattle.std.specs.Str.{IsUtf8, is_utf8}
 use Rattle.std.proofs.lemmas.Option.{same_Some}
+use Rattle.std.proofs.lemmas.Str.{IsUtf8-from_is_utf8, is_utf8-from_IsUtf8}
 use Rattle.rg_base.specs.declared.numbers.Moment.{Moment}
 use Rattle.rg_policy.specs.declared.request.AccessRequest.{AccessRequest}
 use Rattle.rg_facts.specs.declared.decision.Decision.{Decision}
@@ -19,8 +21,8 @@ use Rattle.rg_replay.specs.Replay.{State, admin_work, config_work, decide_work, 
 use Rattle.rg_replay.specs.declared.replay.Stage.TheVariants as state
 use Rattle.rg_replay.proofs.Working.{asks, bad_asks_none}
 use Rattle.rg_test_script.specs.Coming.{CameTo}
-use Rattle.rg_test_script.specs.Expecting.{is_met, wanted_by}
-use Rattle.rg_test_script.specs.Testing.{Progress, counted, is_sound, judge_work, judged_text, moved, other_work, outcome_by, outcome_of, reason_of, test_step}
+use Rattle.rg_test_script.specs.Expecting.{is_form, is_met, wanted_by}
+use Rattle.rg_test_script.specs.Testing.{Progress, counted, is_sound, judge_work, judged_text, moved, other_work, outcome_by, outcome_of, reason_of, stands_behind, test_step}
 use Rattle.rg_test_script.specs.declared.outcome.Outcome.{Outcome}
 use Rattle.rg_test_script.specs.declared.outcome.Outcome.TheVariants as outcome
 
@@ -141,6 +143,38 @@ of_printed (Some p) text = refl
 pub ruleset reasons = (no_facts, over_facts, of_nothing, of_printed)
 
 -- ---- an expectation
+
+abbrev sound_text : Progress → List ℕ → Option (List ℕ)
+sound_text s wanted = if is_sound s wanted then Some wanted else None
+
+and_false : (b : Bool) → (b && false) ≡ false
+and_false true = refl
+and_false false = refl
+
+unsound : (s : Progress) (wanted : List ℕ) → is_sound s wanted ≡ false → None ≡ sound_text s wanted
+unsound s wanted is = ap (λ (b : Bool). if b then Some wanted else None) (sym is)
+
+pub of_no_form : (s : Progress) (wanted : List ℕ) → is_form wanted ≡ false → None ≡ sound_text s wanted
+of_no_form s wanted no = unsound s wanted (ap (λ b. is_utf8 wanted && (b && stands_behind s.last)) no ∙ and_false (is_utf8 wanted))
+
+pub behind_nothing : (s : Progress) (wanted : List ℕ) → stands_behind s.last ≡ false → None ≡ sound_text s wanted
+behind_nothing s wanted no =
+    unsound s wanted (ap (λ b. is_utf8 wanted && (is_form wanted && b)) no ∙ ap (λ b. is_utf8 wanted && b) (and_false (is_form wanted)) ∙ and_false (is_utf8 wanted))
+
+pub of_no_text : (s : Progress) (wanted : List ℕ) → (IsUtf8 wanted → ⊥) → None ≡ sound_text s wanted
+of_no_text s wanted no = go (is_utf8 wanted) refl
+  where
+    go : (b : Bool) → is_utf8 wanted ≡ b → None ≡ sound_text s wanted
+    go true is = absurd (no (IsUtf8-from_is_utf8 wanted is))
+    go false is = unsound s wanted (ap (λ b. b && (is_form wanted && stands_behind s.last)) is)
+
+pub of_form : (s : Progress) (wanted text : List ℕ) → is_form wanted ≡ true → stands_behind s.last ≡ true → text ≡ wanted → IsUtf8 wanted → Some text ≡ sound_text s wanted
+of_form s wanted text form behind same utf8 =
+    ap Some same
+    ∙ ap (λ (b : Bool). if b then Some wanted else None)
+    (sym (ap (λ b. b && (is_form wanted && stands_behind s.last)) (is_utf8-from_IsUtf8 wanted utf8) ∙ ap (λ b. b && stands_behind s.last) form ∙ behind))
+
+pub ruleset sounding = (of_no_form, behind_nothing, of_no_text, of_form)
 
 pub sound_if : (b : Bool) (wanted text : List ℕ) → Some text ≡ (if b then Some wanted else None) → (b ≡ true) × (text ≡ wanted)
 sound_if true wanted text is = (refl, same_Some text wanted is)

@@ -223,17 +223,19 @@ impl<'a, R: Wait> Testing<'a, R> {
     }
 
     /// The expectation, where it is of a form and stands behind a line that came to something.
-    #[tactic(auto, using(rg_json::proofs::Utf8::utf8_facts))]
+    #[tactic(auto, using(crate::proofs::Working::sounding))]
     fn sound<'w>(&self, wanted: &'w [u8]) -> Option<&'w str>
         ensures { option_map (λ text. text.now) result ≡ (if is_sound self.now wanted.now then Some wanted.now else None) }
     {
-        let Ok(text) = str::from_utf8(wanted) else {
+        if !is_form(wanted) {
             return None;
-        };
-        if is_form(wanted) && stands_behind(&self.last) {
-            Some(text)
-        } else {
-            None
+        }
+        if !stands_behind(&self.last) {
+            return None;
+        }
+        match str::from_utf8(wanted) {
+            Ok(text) => Some(text),
+            Err(_) => None,
         }
     }
 
