@@ -98,15 +98,16 @@ impl<'a, R: Wait> Explaining<'a, R> {
         ensures bad { result ≡ Err LineFault.Bad → (explain_work self.old request.now ≡ None) × (self.new ≡ self.old) }
         ensures unwritten { result ≡ Err LineFault.Bad → string_bytes text.new ≡ string_bytes text.old }
     {
-        match self.replay.newest_facts(alloc) {
-            Ok(None) => Err(LineFault::Bad),
-            Ok(Some(facts)) => match add_explanation(alloc, self.style, facts, request, text) {
-                Ok(()) => {
-                    self.wanted = self.wanted.then();
-                    Ok(())
-                }
-                Err(_) => Err(LineFault::NoMemory),
-            },
+        let facts = match self.replay.newest_facts(alloc) {
+            Ok(Some(facts)) => facts,
+            Ok(None) => return Err(LineFault::Bad),
+            Err(_) => return Err(LineFault::NoMemory),
+        };
+        match add_explanation(alloc, self.style, facts, request, text) {
+            Ok(()) => {
+                self.wanted = self.wanted.then();
+                Ok(())
+            }
             Err(_) => Err(LineFault::NoMemory),
         }
     }
