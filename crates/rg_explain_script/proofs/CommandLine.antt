@@ -1,5 +1,5 @@
 -- What `clap` makes of words that fit.
-use Rattle.std.proofs.Common.{◌≡◌, ◌∙◌, ◌+◌, ◌≤◌, ◌==◌, ◌||◌, ◌&&◌, ◌++◌, ◌⊎◌, inl, inr, suc, ℕ, List, [], ◌∷◌, Bool, true, false, not, cond, length, nat_le, nat_lt, Option, Some, None, is_some, codes, option_map, refl, ap, sym, subst, arith, append-nil, map, fold}
+use Rattle.std.proofs.Common.{◌≡◌, ◌∙◌, ◌+◌, ◌^◌, ◌≤◌, ◌==◌, ◌||◌, ◌&&◌, ◌++◌, ◌⊎◌, inl, inr, suc, ℕ, List, [], ◌∷◌, Bool, true, false, not, cond, length, nat_le, nat_lt, Option, Some, None, Result, Ok, Err, OnErr, is_some, codes, option_map, refl, ap, sym, subst, arith, append-nil, map, fold}
 use Rattle.std.specs.Prelude.{find, if◌then◌else◌, option_and_then}
 use Rattle.std.specs.Char.{is_ascii_digit}
 use Rattle.std.specs.List.{filter, list_all, list_any}
@@ -42,14 +42,14 @@ own : (id : Text) → bytes_eq id id ≡ true
 own id = (bytes_eq-Decides id id).1 refl
 
 not_none : {X : Type 0} {A : Type 0} (x : X) → Some x ≡ None → A
-not_none x e = absurd (let no : ⊥ = cc in no)
+not_none x e = absurd (let never : ⊥ = cc in never)
 
 at_none : (id : Text) (change : Row → List Row) (missing rows : List Row) → find (has id) rows ≡ None → at_row id change missing rows ≡ rows ++ missing
 at_none id change missing [] none = refl
-at_none id change missing (r ∷ rows) none = by_test (bytes_eq r.id id) refl where
-  by_test : (b : Bool) → bytes_eq r.id id ≡ b → at_row id change missing (r ∷ rows) ≡ (r ∷ rows) ++ missing
-  by_test true e = not_none r (subst (λ b. cond b (Some r) (find (has id) rows) ≡ None) e none)
-  by_test false e = rw e (ap (λ rs. r ∷ rs) (at_none id change missing rows (subst (λ b. cond b (Some r) (find (has id) rows) ≡ None) e none)))
+at_none id change missing (r ∷ rows) none = by_test (at_none id change missing rows) (bytes_eq r.id id) refl where
+  by_test : (find (has id) rows ≡ None → at_row id change missing rows ≡ rows ++ missing) → (b : Bool) → bytes_eq r.id id ≡ b → at_row id change missing (r ∷ rows) ≡ (r ∷ rows) ++ missing
+  by_test more true e = not_none r (subst (λ b. cond b (Some r) (find (has id) rows) ≡ None) e none)
+  by_test more false e = rw e (ap (λ rs. r ∷ rs) (more (subst (λ b. cond b (Some r) (find (has id) rows) ≡ None) e none)))
 
 -- a use of an argument that wasn't used stands behind the rows
 with_new : (id : Text) (source : ValueSource) (value : Text) (rows : List Row) → find (has id) rows ≡ None
@@ -67,17 +67,17 @@ found_other p (x ∷ rows) r other = ap (λ o. cond (p x) (Some x) o) (found_oth
 
 found_new : (p : Row → Bool) (rows : List Row) (r : Row) → find p rows ≡ None → p r ≡ true → find p (rows ++ r ∷ []) ≡ Some r
 found_new p [] r none here = rw here refl
-found_new p (x ∷ rows) r none here = by_test (p x) refl where
-  by_test : (b : Bool) → p x ≡ b → find p ((x ∷ rows) ++ r ∷ []) ≡ Some r
-  by_test true e = not_none x (subst (λ b. cond b (Some x) (find p rows) ≡ None) e none)
-  by_test false e = rw e (found_new p rows r (subst (λ b. cond b (Some x) (find p rows) ≡ None) e none) here)
+found_new p (x ∷ rows) r none here = by_test (λ e. found_new p rows r e here) (p x) refl where
+  by_test : (find p rows ≡ None → find p (rows ++ r ∷ []) ≡ Some r) → (b : Bool) → p x ≡ b → find p ((x ∷ rows) ++ r ∷ []) ≡ Some r
+  by_test more true e = not_none x (subst (λ b. cond b (Some x) (find p rows) ≡ None) e none)
+  by_test more false e = rw e (more (subst (λ b. cond b (Some x) (find p rows) ≡ None) e none))
 
 any_found : (p : Row → Bool) (rows : List Row) → list_any p rows ≡ is_some (find p rows)
 any_found p [] = refl
-any_found p (x ∷ rows) = by_test (p x) refl where
-  by_test : (b : Bool) → p x ≡ b → list_any p (x ∷ rows) ≡ is_some (find p (x ∷ rows))
-  by_test true e = rw e refl
-  by_test false e = rw e (any_found p rows)
+any_found p (x ∷ rows) = by_test (any_found p rows) (p x) refl where
+  by_test : list_any p rows ≡ is_some (find p rows) → (b : Bool) → p x ≡ b → list_any p (x ∷ rows) ≡ is_some (find p (x ∷ rows))
+  by_test more true e = rw e refl
+  by_test more false e = rw e more
 
 -- ---- defaults
 
@@ -111,26 +111,26 @@ same_if false rows = refl
 -- ---- what the rows tell
 
 -- before defaults: the flags that are there, and the number
-record Seen (json all : Bool) (number : Option Text) (rows : List Row) : Type 0 where
-  json : find (has (codes "json")) rows ≡ cond json (Some (flag_row (codes "json"))) None
-  all : find (has (codes "all")) rows ≡ cond all (Some (flag_row (codes "all"))) None
-  number : find (has (codes "N")) rows ≡ option_map number_row number
+record Seen (j a : Bool) (n : Option Text) (rows : List Row) : Type 0 where
+  json : find (has (codes "json")) rows ≡ cond j (Some (flag_row (codes "json"))) None
+  all : find (has (codes "all")) rows ≡ cond a (Some (flag_row (codes "all"))) None
+  number : find (has (codes "N")) rows ≡ option_map number_row n
 
 -- after them, as the getters read
-record Told (json all : Bool) (number : Option Text) (rows : List Row) : Type 0 where
-  json : one_of (codes "json") rows ≡ Some (flag_text json)
-  all : one_of (codes "all") rows ≡ Some (flag_text all)
-  number : first_of (codes "N") rows ≡ number
+record Told (j a : Bool) (n : Option Text) (rows : List Row) : Type 0 where
+  json : one_of (codes "json") rows ≡ Some (flag_text j)
+  all : one_of (codes "all") rows ≡ Some (flag_text a)
+  number : first_of (codes "N") rows ≡ n
 
 told_as : (rows : List Row) (json json' all all' : Bool) (number number' : Option Text) → json ≡ json' → all ≡ all' → number ≡ number' → Told json all number rows → Told json' all' number' rows
 told_as rows json json' all all' number number' same same' same'' told =
     subst (λ n. Told json' all' n rows) same'' (subst (λ b. Told json' b number rows) same' (subst (λ b. Told b all number rows) same told))
 
 module _ (json all : Bool) (number : Option Text) (rows : List Row) (seen : Seen json all number rows) where
-  once : List Row
+  abbrev once : List Row
   once = defaulted (codes "json") rows
 
-  twice : List Row
+  abbrev twice : List Row
   twice = defaulted (codes "all") once
 
   all_once : find (has (codes "all")) once ≡ cond all (Some (flag_row (codes "all"))) None
@@ -224,11 +224,11 @@ abbrev bit : Bool → ℕ
 bit b = cond b 1 0
 
 -- the words fit behind those that were read
-record Fits (json all : Bool) (number : Option Text) (words : List Text) : Type 0 where
+record Fits (j a : Bool) (n : Option Text) (words : List Text) : Type 0 where
   known : list_all is_known words ≡ true
-  json : bit json + length (filter is_json words) ≤ 1
-  all : bit all + length (filter is_all words) ≤ 1
-  number : bit (is_some number) + length (filter is_number words) ≤ 1
+  json : bit j + length (filter is_json words) ≤ 1
+  all : bit a + length (filter is_all words) ≤ 1
+  number : bit (is_some n) + length (filter is_number words) ≤ 1
 
 one_more : (test : Text → Bool) (w : Text) (ws : List Text) → test w ≡ true → length (filter test (w ∷ ws)) ≡ suc (length (filter test ws))
 one_more test w ws is = rw is refl
@@ -238,8 +238,8 @@ no_more test w ws is = rw is refl
 
 -- a word of a kind is the first of its kind
 is_first : (b : Bool) (n m : ℕ) → n ≡ suc m → bit b + n ≤ 1 → (b ≡ false) × (m ≡ 0)
-is_first true n m more fits = absurd (let no : 1 + n ≤ 1 = fits in omega (arith, no, more))
-is_first false n m more fits = (refl, let few : n ≤ 1 = fits in omega (arith, few, more))
+is_first true n m more fits = absurd (let some : 1 + n ≤ 1 = fits in omega (arith, some, more))
+is_first false n m more fits = (refl, let some : 0 + n ≤ 1 = fits in omega (arith, some, more))
 
 stays_few : (b : Bool) (n m : ℕ) → n ≡ m → bit b + n ≤ 1 → bit b + m ≤ 1
 stays_few b n m same fits = subst (λ k. bit b + k ≤ 1) same fits
@@ -409,16 +409,25 @@ list_all-map p f (x ∷ xs) = ap (λ b. p (f x) && b) (list_all-map p f xs)
 
 filter-map : {X Y : Type 0} (p : Y → Bool) (f : X → Y) (xs : List X) → length (filter p (map f xs)) ≡ length (filter (λ x. p (f x)) xs)
 filter-map p f [] = refl
-filter-map p f (x ∷ xs) = by_test (p (f x)) refl where
-  by_test : (b : Bool) → p (f x) ≡ b → length (filter p (map f (x ∷ xs))) ≡ length (filter (λ y. p (f y)) (x ∷ xs))
-  by_test true e = rw e (ap suc (filter-map p f xs))
-  by_test false e = rw e (filter-map p f xs)
+filter-map p f (x ∷ xs) = by_test (filter-map p f xs) (p (f x)) refl where
+  by_test : length (filter p (map f xs)) ≡ length (filter (λ y. p (f y)) xs) → (b : Bool) → p (f x) ≡ b → length (filter p (map f (x ∷ xs))) ≡ length (filter (λ y. p (f y)) (x ∷ xs))
+  by_test more true e = rw e (ap suc more)
+  by_test more false e = rw e more
 
 -- what a flag's getter says of its text
-pub flag_read : (is : Bool) (o : Option Text) (result : Bool) → (o ≡ Some (codes "true") → result ≡ true) → (o ≡ Some (codes "false") → result ≡ false)
-    → o ≡ Some (flag_text is) → result ≡ is
-flag_read true o result yes no told = yes told
-flag_read false o result yes no told = no told
+pub flag_read : (is : Bool) (o : Option Text) (read : Bool) → (o ≡ Some (codes "true") → read ≡ true) → (o ≡ Some (codes "false") → read ≡ false)
+    → o ≡ Some (flag_text is) → read ≡ is
+flag_read true o read there missing told = there told
+flag_read false o read there missing told = missing told
+
+same_options : (json json' all all' : Bool) (number number' : Option ℕ) → json ≡ json' → all ≡ all' → number ≡ number' → Some (options_by json all number) ≡ Some (options_by json' all' number')
+same_options json json' all all' number number' same same' same'' =
+    ap (λ b. Some (options_by b all number)) same ∙ ap (λ b. Some (options_by json' b number)) same' ∙ ap (λ n. Some (options_by json' all' n)) same''
+
+-- what holds whatever the result is
+pub at_error : {A E : Type 0} (result : Result A E) (P : Type 0) → P → OnErr result P
+at_error (Ok x) P p = tt
+at_error (Err e) P p = p
 
 module _ {X : Type 0} (spell : X → Text) (words : List X) where
   spelled : are_spelled spell words ≡ are_fitting (map spell words)
@@ -445,4 +454,4 @@ module _ {X : Type 0} (spell : X → Text) (words : List X) where
       let json_is = read_json (list_any is_json (map spell words)) (one_text-rows f (codes "json") ∙ ap (one_of (codes "json")) rows ∙ told.json) in
       let all_is = read_all (list_any is_all (map spell words)) (one_text-rows f (codes "all") ∙ ap (one_of (codes "all")) rows ∙ told.all) in
       let number_is = read_number ∙ ap (option_and_then number_of) (first_value-rows f (codes "N") ∙ ap (first_of (codes "N")) rows ∙ told.number) in
-      rw fit (ap (λ b. Some (options_by b all number)) json_is ∙ ap (λ b. Some (options_by _ b number)) all_is ∙ ap (λ n. Some (options_by _ _ n)) number_is)
+      rw fit (same_options _ _ _ _ _ _ json_is all_is number_is)

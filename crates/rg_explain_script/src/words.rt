@@ -1,10 +1,10 @@
 // The words of the command line.
-ghost use Rattle.std.specs.Prelude.{◌≡◌, Bool, IfOk, OnErr, Some, codes, is_some, map, option_and_then, string_bytes, true};
+ghost use Rattle.std.specs.Prelude.{◌≡◌, Bool, IfOk, OnErr, Some, codes, is_some, length, map, option_and_then, string_bytes, true};
 ghost use Rattle.std.specs.Char.{is_ascii_digit};
-ghost use Rattle.std.specs.List.{list_all};
+ghost use Rattle.std.specs.List.{filter, list_all};
 ghost use Rattle.clap.specs.Words.{app_of, first_value, found_of, matches_of, one_text, rows_of};
 ghost use Rattle.rg_explain_script.specs.CommandLine.{are_spelled, flag_text, words_app};
-ghost use Rattle.rg_explain_script.specs.Words.{at_most_one, is_all, is_json, is_known, is_number, is_numeral, number_of, options_by, options_of};
+ghost use Rattle.rg_explain_script.specs.Words.{is_all, is_json, is_known, is_number, is_numeral, number_of, options_by, options_of};
 
 use crate::options::{Form, Options, Style, Wanted};
 use clap::{Arg, ArgAction, ArgMatches};
@@ -69,29 +69,29 @@ fn are_known(words: &[String]) -> bool
     words.iter().all(|word| is_known(word.as_str()))
 }
 
-fn has_one_json(words: &[String]) -> bool
-    ensures { result ≡ at_most_one (λ word. is_json (string_bytes word)) words.now }
+fn times_json(words: &[String]) -> usize
+    ensures { result ≡ length (filter (λ word. is_json (string_bytes word)) words.now) }
 {
-    words.iter().filter(|word| is_json(word.as_str())).count() <= 1
+    words.iter().filter(|word| is_json(word.as_str())).count()
 }
 
-fn has_one_all(words: &[String]) -> bool
-    ensures { result ≡ at_most_one (λ word. is_all (string_bytes word)) words.now }
+fn times_all(words: &[String]) -> usize
+    ensures { result ≡ length (filter (λ word. is_all (string_bytes word)) words.now) }
 {
-    words.iter().filter(|word| is_all(word.as_str())).count() <= 1
+    words.iter().filter(|word| is_all(word.as_str())).count()
 }
 
-fn has_one_number(words: &[String]) -> bool
-    ensures { result ≡ at_most_one (λ word. is_number (string_bytes word)) words.now }
+fn times_numbered(words: &[String]) -> usize
+    ensures { result ≡ length (filter (λ word. is_number (string_bytes word)) words.now) }
 {
-    words.iter().filter(|word| is_number(word.as_str())).count() <= 1
+    words.iter().filter(|word| is_number(word.as_str())).count()
 }
 
 /// Whether each word is a flag or a number, and none of the three is there twice.
 fn are_fitting(words: &[String]) -> bool
     ensures { result ≡ are_spelled string_bytes words.now }
 {
-    are_known(words) && has_one_json(words) && has_one_all(words) && has_one_number(words)
+    are_known(words) && times_json(words) <= 1 && times_all(words) <= 1 && times_numbered(words) <= 1
 }
 
 /// How the words are read: two flags, and a number.
