@@ -1,5 +1,5 @@
 -- What is printed for an explanation. Members stand in byte order of their keys, since `put` keeps that order.
-use Rattle.std.specs.Prelude.{ℕ, ◌×◌, Bool, List, [], ◌∷◌, Option, Some, None, codes}
+use Rattle.std.specs.Prelude.{ℕ, Bool, List, [], ◌∷◌, Option, Some, None, codes}
 use Rattle.std.specs.Str.{encode_utf8_all}
 use Rattle.serde_json.specs.Data.{Data, Members, no_members, object, put, string}
 use Rattle.serde_json.specs.Written.{compact_text}

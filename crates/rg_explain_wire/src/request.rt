@@ -12,7 +12,7 @@ use std::alloc::Global;
 
 /// A text with a name.
 trait NamedText {
-    ghost use Rattle.std.specs.Prelude.{◌≡◌, ◌×◌, List, ℕ};
+    ghost use Rattle.std.specs.Prelude.{◌≡◌, List, ℕ};
 
     /// The name, and the text.
     ghost pair_of: { Self → List ℕ × List ℕ };
