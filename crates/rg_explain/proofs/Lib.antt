@@ -1,2 +1,4 @@
 pub mod Chosen
 pub mod Filled
+pub mod Reasons
+pub mod Zoned

@@ -14,7 +14,7 @@ ghost use Rattle.rg_standing.specs.Standing.{is_told_in_play};
 ghost use Rattle.rg_explain.specs.Explaining.{explanation, held_by, in_zone, is_holding, map_place, told};
 ghost use Rattle.rg_explain.specs.declared.explanation.Told.{Told};
 
-use rg_standing::told_in_play_where_it_is;
+use rg_standing::{member_is_told_where_named, told_in_play_where_it_is};
 
 /// The decision that is told is the one that is made, and the zone that is told is the one in which it is made.
 pub fn decision_is_told()
@@ -37,7 +37,9 @@ pub fn holding_roles_have_a_reason()
     ensures { (rows : List RoleRow) (q : AccessRequest) (row : RoleRow)
         → have_own_names rows ≡ true → Contains rows row
         → is_some (held_by rows q row).by ≡ is_holding rows q row }
-{}
+{
+    member_is_told_where_named();
+}
 
 /// Of each candidate that the zone chooses it is told how it stands, and of nothing else.
 pub fn chosen_policies_are_told()

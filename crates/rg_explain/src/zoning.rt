@@ -1,5 +1,6 @@
 // The zone in which a resource lies, with the first of its maps that reaches down to it.
-ghost use Rattle.std.specs.Prelude.{◌≡◌, IfOk, option_map, position};
+ghost use Rattle.std.specs.Prelude.{◌≡◌, IfOk, option_map};
+ghost use Rattle.std.specs.List.{position_from};
 ghost use Rattle.rg_explain.specs.Explaining.{in_zone, map_place};
 ghost use Rattle.rg_explain.specs.Parts.{reaches};
 
@@ -38,7 +39,7 @@ fn first_reaching(
     maps: &[ResourceMap],
 ) -> Result<Option<usize>, NoMemory>
     requires { paths.now ≡ def.now.levels.items }
-    ensures { IfOk result (λ place. place ≡ position (reaches def.now elements.now) maps.now) }
+    ensures { IfOk result (λ place. place ≡ position_from (reaches def.now elements.now) 0 maps.now) }
 {
     for (place, map) in maps.iter().enumerate() {
         if reaches(alloc, def, paths, elements, map)? {

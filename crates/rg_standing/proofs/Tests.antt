@@ -1,8 +1,9 @@
 -- Tests of lists, taken apart.
-use Rattle.std.proofs.Common.{◌≡◌, ◌&&◌, ◌||◌, ◌+◌, Bool, true, false, not, cond, ℕ, nat_lt, List, [], ◌∷◌, Some, None, map, refl, sym, ap, ◌∙◌}
+use Rattle.std.proofs.Common.{◌≡◌, ◌&&◌, ◌||◌, ◌+◌, Bool, true, false, not, cond, ℕ, suc, nat_lt, List, [], ◌∷◌, length, Option, Some, None, is_some, map, refl, sym, ap, ◌∙◌, arith}
+use Rattle.std.proofs.lemmas.Bool.Decides.{nat_tests}
 use Rattle.std.proofs.lemmas.List.{length-map}
-use Rattle.std.specs.Prelude.{is_none, position}
-use Rattle.std.specs.List.{find, list_all, list_any, position_or_len}
+use Rattle.std.specs.Prelude.{is_none, option_map, position}
+use Rattle.std.specs.List.{find, list_all, list_any, position_or_len, prefix_len}
 use Rattle.rg_base.proofs.Lists.{list_any-map}
 use Rattle.rg_policy.specs.declared.policy.PolicyResource.{PolicyResource}
 use Rattle.rg_defs.specs.declared.service_def.Level.{Level}
@@ -47,10 +48,41 @@ all_by_first p (x ∷ xs) = elim (p x) as (λ v. (v && list_all p xs) ≡ is_non
   | false ↦ refl
 ]
 
-front-map : {X : Type 0} (p : X → Bool) (xs : List X) → position_or_len (λ b. b) (map p xs) ≡ position_or_len p xs
-front-map p [] = refl
-front-map p (x ∷ xs) = ap (λ n. cond (not (p x)) (1 + n) 0) (front-map p xs)
+front-map : {X Y : Type 0} (p : Y → Bool) (f : X → Y) (xs : List X) → position_or_len p (map f xs) ≡ position_or_len (λ x. p (f x)) xs
+front-map p f [] = refl
+front-map p f (x ∷ xs) = ap (λ n. cond (not (p (f x))) (1 + n) 0) (front-map p f xs)
 
--- the place of the first that passes, by what the test says of each
+-- the place of the first that passes, by what stands for each
+pub position-map : {X Y : Type 0} (p : Y → Bool) (f : X → Y) (xs : List X) → position p (map f xs) ≡ position (λ x. p (f x)) xs
+position-map p f xs = λ i. cond (nat_lt (front-map p f xs i) (length-map xs f i)) (Some (front-map p f xs i)) None
+
+-- the same by what the test says of each
 pub place_mapped : {X : Type 0} (p : X → Bool) (xs : List X) → position (λ b. b) (map p xs) ≡ position p xs
-place_mapped p xs = λ i. cond (nat_lt (front-map p xs i) (length-map xs p i)) (Some (front-map p xs i)) None
+place_mapped p xs = position-map (λ b. b) p xs
+
+-- ---- whether there is one
+
+pub some_mapped : {X Y : Type 0} (f : X → Y) (o : Option X) → is_some (option_map f o) ≡ is_some o
+some_mapped f None = refl
+some_mapped f (Some x) = refl
+
+pub some_if : {X : Type 0} (b : Bool) (x : X) → is_some (cond b (Some x) None) ≡ b
+some_if true x = refl
+some_if false x = refl
+
+short_of : (n k : ℕ) → nat_lt (1 + n) (suc k) ≡ nat_lt n k
+short_of n k = grind (arith, nat_tests)
+
+above_none : (k : ℕ) → nat_lt 0 (suc k) ≡ true
+above_none k = grind (arith, nat_tests)
+
+short_by : {X : Type 0} (p : X → Bool) (xs : List X) → nat_lt (prefix_len (λ x. not (p x)) xs) (length xs) ≡ list_any p xs
+short_by p [] = refl
+short_by p (x ∷ xs) = elim (p x) as (λ v. nat_lt (cond (not v) (1 + prefix_len (λ y. not (p y)) xs) 0) (length (x ∷ xs)) ≡ (v || list_any p xs)) [
+  | true ↦ above_none (length xs)
+  | false ↦ short_of (prefix_len (λ y. not (p y)) xs) (length xs) ∙ short_by p xs
+]
+
+-- there is a first that passes exactly where some does
+pub some_place : {X : Type 0} (p : X → Bool) (xs : List X) → is_some (position p xs) ≡ list_any p xs
+some_place p xs = some_if (nat_lt (prefix_len (λ x. not (p x)) xs) (length xs)) _ ∙ short_by p xs

@@ -4,11 +4,11 @@ ghost use Rattle.rg_policy.specs.declared.policy.Item.{Item};
 ghost use Rattle.rg_policy.specs.declared.policy.Policy.{Policy};
 ghost use Rattle.rg_policy.specs.declared.request.AccessRequest.{AccessRequest};
 ghost use Rattle.rg_roles.specs.declared.row.RoleRow.{RoleRow};
-ghost use Rattle.rg_effect.specs.Subjects.{names_asker};
+ghost use Rattle.rg_effect.specs.Subjects.{Subjects, names, names_asker};
 ghost use Rattle.rg_evalr.specs.Effects.{access_of, in_play};
 ghost use Rattle.rg_evalr.specs.Items.{first_item};
 ghost use Rattle.rg_standing.specs.Asking.{Asked};
-ghost use Rattle.rg_standing.specs.Matching.{matched, subject_of};
+ghost use Rattle.rg_standing.specs.Matching.{matched, member_of, subject_of};
 ghost use Rattle.rg_standing.specs.Standing.{effect_told, is_told_in_play, standing_of};
 ghost use Rattle.rg_standing.specs.declared.reason.Match.{Match};
 
@@ -30,4 +30,9 @@ pub fn told_item_is_first()
 /// A subject is told of an item exactly where the item names the asker.
 pub fn subject_is_told_where_named()
     ensures { (rows : List RoleRow) (q : AccessRequest) (item : Item) → is_some (subject_of rows q item) ≡ names_asker rows q item }
+{}
+
+/// One of the users, groups and roles of a list is told exactly where the list names the asker.
+pub fn member_is_told_where_named()
+    ensures { (rows : List RoleRow) (q : AccessRequest) (s : Subjects) → is_some (member_of rows q s.users s.groups s.roles) ≡ names rows q.user q.groups.items s }
 {}

@@ -11,8 +11,8 @@ mod reason;
 mod standing;
 
 pub use laws::{
-    subject_is_told_where_named, told_in_play_where_it_is, told_item_is_first,
-    told_standing_gives_effect,
+    member_is_told_where_named, subject_is_told_where_named, told_in_play_where_it_is,
+    told_item_is_first, told_standing_gives_effect,
 };
 pub use maps::resources_lie;
 pub use members::member_of;

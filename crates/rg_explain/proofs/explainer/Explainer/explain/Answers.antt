@@ -4,12 +4,11 @@ use Rattle.std.proofs.lemmas.Grind.{flat_map-append}
 use Rattle.rg_base.specs.Listed.{Listed, listed}
 use Rattle.rg_tags.specs.declared.row.TagRow.{TagRow}
 use Rattle.rg_roles.specs.declared.row.RoleRow.{RoleRow}
-use Rattle.rg_zone_rules.specs.declared.row.ZoneRow.{ZoneRow}
 use Rattle.rg_facts.specs.Candidates.{resource_candidates, setting_of, tag_candidates, tags_of, zone_at, candidates}
 use Rattle.rg_facts.specs.Flow.{eval}
 use Rattle.rg_facts.specs.Texts.{decide}
 use Rattle.rg_facts.specs.declared.facts.Facts.{Facts}
-use Rattle.rg_explain.specs.Explaining.{first_filled, roles_holding, rows_lying, tagged_by, told_all, told_by}
+use Rattle.rg_explain.specs.Explaining.{first_filled, in_zone, roles_holding, rows_lying, tagged_by, told_all, told_by}
 use Rattle.rg_explain.specs.Parts.{setting_with}
 use Rattle.rg_explain.specs.declared.explanation.Told.{Told}
 use Rattle.rg_explain.proofs.explainer.Explainer.explain.Goals as goal
@@ -32,11 +31,11 @@ returns c =
     ∙ (λ i. listed ((tagged i).items ++ told_all (setting_with facts q (zone i)) (resource_candidates facts)))
     ∙ ap listed (sym (flat_map-append (told_by s) (flat_map (tag_candidates facts) (tags_of facts q)) (resource_candidates facts))) in
     let told : c.as_slice-4.result.now ≡ told_all s (candidates facts q) = c.as_slice-4.ensures ∙ ap (λ (l : Listed Told). l.items) policies in
-    let named = c.in_ok-name_of.ensures ∙ ap (option_map (λ (z : ZoneRow). z.name)) zone in
+    let zoned = c.in_ok-in_zone.ensures ∙ (λ i. option_map (in_zone (held i) q) (zone i)) in
     let roles = c.in_ok-roles_holding.ensures ∙ ap (λ (rs : List RoleRow). listed (roles_holding rs q)) (c.as_slice-2.ensures ∙ ap (λ (f : Facts). f.roles.items) held) in
     let tags = c.in_ok-rows_told.ensures ∙ ap (λ (rs : List TagRow). listed (map tagged_by rs)) lying_told in
     let cell = c.first_filled.ensures ∙ ap first_filled told in
     let verdict = c.scan.ensures ∙ ap (λ (f : Facts). eval f q) c.self.view_is in
     let decision = c.in_ok-decide.ensures ∙ ap (λ (f : Facts). decide f q c.args.serial) c.self.view_is in
     let shown = c.policies.view_is ∙ policies in
-    λ i. record { zone = named i; roles = roles i; rows = tags i; policies = shown i; cell = cell i; verdict = verdict i; decision = decision i }
+    λ i. record { zone = zoned i; roles = roles i; rows = tags i; policies = shown i; cell = cell i; verdict = verdict i; decision = decision i }
