@@ -33,12 +33,11 @@ module _ (form : Form) (start : Progress) (bytes : List ℕ) (clock clock' : Opt
       → seen ≡ text → printed ≡ framed state status seen → last ≡ ended_by state status
       → (state : Progress) × (decided : List Decided) × Tested [] (record { text = printed; status = last; state = state; decided = decided })
   tested_so text seen printed status last state comes same framed_so ended_so =
-      let o : Output Progress = record { text = text; status = status; state = state; decided = comes.0 } in
-      (
+      let o : Output Progress = record { text = text; status = status; state = state; decided = comes.0 } in (
         state,
         [],
         subst (λ t. Tested [] (record { text = t; status = last; state = state; decided = [] })) (sym (framed_so ∙ ap (framed state status) same))
-        (subst (λ l. Tested [] (record { text = framed state status text; status = l; state = state; decided = [] })) (sym ended_so) (comes_so [] o comes.1)),
+            (subst (λ l. Tested [] (record { text = framed state status text; status = l; state = state; decided = [] })) (sym ended_so) (comes_so [] o comes.1)),
       )
 
   -- where memory was refused before that

@@ -317,7 +317,12 @@ impl<'a, R: Wait> Testing<'a, R> {
     }
 
     /// What was printed, between the top and the summary of lines that end with this status.
-    pub(crate) fn framed(&self, alloc: Global, status: Status, text: &str) -> Result<String, NoMemory>
+    pub(crate) fn framed(
+        &self,
+        alloc: Global,
+        status: Status,
+        text: &str,
+    ) -> Result<String, NoMemory>
         ensures { IfOk result (λ s. string_bytes s ≡ framed self.now status text.now) }
     {
         let top = top(self.form);
