@@ -145,24 +145,24 @@ explanation_plain all q e = object_plain name_of 5 6 (explanation_members all q 
   (
     option_plain 5 count_data e.cell (count_plain 5),
     (
-      count_plain 5 (far_count e),
+      option_plain 5 place_data e.verdict.mask (λ p. more 1 5 (place_data p) (omega arith) (place_plain p)),
       (
-        option_plain 5 place_data e.verdict.mask (λ p. more 1 5 (place_data p) (omega arith) (place_plain p)),
+        integer_plain 5 e.verdict.policy.0,
         (
-          text_plain 5 e.decision.path,
+          option_plain 5 place_data e.verdict.filter (λ p. more 1 5 (place_data p) (omega arith) (place_plain p)),
           (
-            list_plain 4 5 told_data (listed (listed_policies all e)) (omega arith) told_plain,
+            text_plain 5 e.decision.path,
             (
-              integer_plain 5 e.verdict.policy.0,
+              more 3 5 (request_data q) (omega arith) (request_plain q),
               (
-                more 3 5 (request_data q) (omega arith) (request_plain q),
+                list_plain 2 5 role_data e.roles (omega arith) role_plain,
                 (
-                  list_plain 2 5 role_data e.roles (omega arith) role_plain,
+                  list_plain 2 5 row_data e.rows (omega arith) row_plain,
                   (
-                    option_plain 5 place_data e.verdict.filter (λ p. more 1 5 (place_data p) (omega arith) (place_plain p)),
+                    option_plain 5 zone_data e.zone (λ z. more 1 5 (zone_data z) (omega arith) (zone_plain z)),
                     (
-                      list_plain 2 5 row_data e.rows (omega arith) row_plain,
-                      (option_plain 5 zone_data e.zone (λ z. more 1 5 (zone_data z) (omega arith) (zone_plain z)), tt),
+                      count_plain 5 (far_count e),
+                      (list_plain 4 5 told_data (listed (listed_policies all e)) (omega arith) told_plain, tt),
                     ),
                   ),
                 ),

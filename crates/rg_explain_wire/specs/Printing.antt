@@ -1,5 +1,5 @@
--- What is printed for an explanation. Members stand in byte order of their keys, since `put` keeps that order.
-use Rattle.std.specs.Prelude.{ℕ, Bool, List, [], ◌∷◌, Option, Some, None, codes}
+-- What is printed for an explanation. Members are printed in byte order of their keys, which `put` keeps.
+use Rattle.std.specs.Prelude.{ℕ, Bool, List, [], ◌∷◌, ◌++◌, Option, Some, None, codes}
 use Rattle.std.specs.Str.{encode_utf8_all}
 use Rattle.serde_json.specs.Data.{Data, Members, no_members, object, put, string}
 use Rattle.serde_json.specs.Written.{compact_text}
@@ -195,13 +195,17 @@ told_matches Unscheduled = None
 told_matches (Elsewhere misses) = None
 told_matches (Unmet condition) = None
 
-abbrev pub told_members : Told → List (Key × Data)
-told_members t =
+-- which policy it is, and how it stands
+abbrev pub standing_members : Told → List (Key × Data)
+standing_members t =
     (key.Cell, option_data count_data t.cell) ∷
     (key.Id, integer_data t.policy.0) ∷
     (key.Is, string (standing_word t.standing)) ∷
     (key.Items, option_data matches_data (told_matches t.standing)) ∷
-    (key.Maps, option_data (list_data miss_data) (told_misses t.standing)) ∷
+    (key.Maps, option_data (list_data miss_data) (told_misses t.standing)) ∷ []
+
+abbrev pub told_members : Told → List (Key × Data)
+told_members t = standing_members t ++
     (key.Name, text_data t.name) ∷
     (key.Tag, option_data text_data t.tag) ∷
     (key.Unmet, option_data text_data (told_condition t.standing)) ∷ []
@@ -235,21 +239,28 @@ role_members h = (key.By, option_data subject_data h.by) ∷ (key.Name, text_dat
 unfoldable pub role_data : HeldBy → Data
 role_data h = object_of name_of (role_members h)
 
--- of a request, with all policies or with those that aren't far off
-abbrev pub explanation_members : Bool → AccessRequest → Explanation → List (Key × Data)
-explanation_members all q e =
+-- what is decided, and by what
+abbrev pub decided_members : Explanation → List (Key × Data)
+decided_members e =
     (key.Access, access_data e.verdict.access) ∷
     (key.Cell, option_data count_data e.cell) ∷
-    (key.FarOff, count_data (far_count e)) ∷
     (key.Mask, option_data place_data e.verdict.mask) ∷
-    (key.Path, text_data e.decision.path) ∷
-    (key.Policies, list_data told_data (listed (listed_policies all e))) ∷
     (key.PolicyId, integer_data e.verdict.policy.0) ∷
+    (key.RowFilter, option_data place_data e.verdict.filter) ∷ []
+
+-- what is asked, and where it stands
+abbrev pub asked_members : AccessRequest → Explanation → List (Key × Data)
+asked_members q e =
+    (key.Path, text_data e.decision.path) ∷
     (key.Request, request_data q) ∷
     (key.Roles, list_data role_data e.roles) ∷
-    (key.RowFilter, option_data place_data e.verdict.filter) ∷
     (key.Rows, list_data row_data e.rows) ∷
     (key.Zone, option_data zone_data e.zone) ∷ []
+
+-- of a request, with all policies or with those that aren't far off
+abbrev pub explanation_members : Bool → AccessRequest → Explanation → List (Key × Data)
+explanation_members all q e = decided_members e ++ (asked_members q e
+    ++ ((key.FarOff, count_data (far_count e)) ∷ (key.Policies, list_data told_data (listed (listed_policies all e))) ∷ []))
 
 unfoldable pub explanation_data : Bool → AccessRequest → Explanation → Data
 explanation_data all q e = object_of name_of (explanation_members all q e)

@@ -48,20 +48,13 @@ fn access_words(alloc: Global, access: &Text, path: &Text, rest: &str) -> Result
     Ok(format!(in alloc; " asks for {access} on {path}{rest}")?)
 }
 
-/// Who asks, and the rest.
-fn user_words(
-    alloc: Global,
-    user: &Text,
-    groups: &Seq<Text>,
-    rest: &str,
-) -> Result<String, NoMemory>
-    ensures { IfOk result (λ s. string_bytes s ≡ codes "User " ++ (quoted user.now ++ (codes " with the groups " ++ (quoted_list groups.now ++ rest.now)))) }
+/// With which groups, and the rest.
+fn groups_words(alloc: Global, groups: &Seq<Text>, rest: &str) -> Result<String, NoMemory>
+    ensures { IfOk result (λ s. string_bytes s ≡ codes " with the groups " ++ (quoted_list groups.now ++ rest.now)) }
 {
-    let user = quoted(alloc, user)?;
     let groups = quoted_list(alloc, groups)?;
-    let user = user.as_str();
     let groups = groups.as_str();
-    Ok(format!(in alloc; "User {user} with the groups {groups}{rest}")?)
+    Ok(format!(in alloc; " with the groups {groups}{rest}")?)
 }
 
 /// Who asks for what, on which path of which levels, and when.
@@ -71,7 +64,8 @@ fn asked_words(alloc: Global, request: &AccessRequest, path: &Text) -> Result<St
 {
     let levels = levels_words(alloc, request)?;
     let access = access_words(alloc, &request.access, path, levels.as_str())?;
-    user_words(alloc, &request.user, &request.groups, access.as_str())
+    let groups = groups_words(alloc, &request.groups, access.as_str())?;
+    with_name(alloc, "User ", &request.user, groups.as_str())
 }
 
 /// Nothing where nobody owns the resource.

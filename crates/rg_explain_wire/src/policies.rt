@@ -2,8 +2,8 @@
 ghost use Rattle.std.specs.Prelude.{◌≡◌, IfOk, option_map};
 ghost use Rattle.serde_json.specs.Data.{put, string};
 ghost use Rattle.serde_json.specs.View.{members_view, view};
-ghost use Rattle.rg_json.specs.Printing.{count_data, option_data};
-ghost use Rattle.rg_explain_wire.specs.Printing.{miss_level, miss_word, name_of, standing_word, subject_name, subject_word, told_condition, told_matches, told_misses};
+ghost use Rattle.rg_json.specs.Printing.{count_data, option_data, with_members};
+ghost use Rattle.rg_explain_wire.specs.Printing.{miss_level, miss_word, name_of, standing_members, standing_word, subject_name, subject_word, told_condition, told_matches, told_misses};
 
 use crate::key::Key;
 use rg_base::{NoMemory, Seq, Text};
@@ -235,6 +235,22 @@ fn told_matches(standing: &Standing) -> Option<&Matches>
     }
 }
 
+/// Puts which policy it is, and how it stands.
+fn put_standing(
+    alloc: Global,
+    members: &mut Map<String, Value>,
+    told: &Told,
+) -> Result<(), NoMemory>
+    ensures { IfOk result (λ u. members_view members.new.entries ≡ with_members name_of (members_view members.old.entries) (standing_members told.now)) }
+{
+    let standing = &told.standing;
+    put_cell(alloc, members, Key::Cell, told.cell)?;
+    put(alloc, members, Key::Id, &told.policy.0)?;
+    put_word(alloc, members, Key::Is, standing_word(standing))?;
+    put_option(alloc, members, Key::Items, told_matches(standing))?;
+    put_option(alloc, members, Key::Maps, told_misses(standing))
+}
+
 impl ToJson<Key> for Told {
     ghost use Rattle.rg_explain_wire.specs.Printing.{told_data};
 
@@ -243,13 +259,8 @@ impl ToJson<Key> for Told {
     #[tactic(auto, unfolding(crate::specs::Printing::told_data))]
     fn json(&self, alloc: Global) -> Result<Value, NoMemory> {
         let mut members = Map::new(alloc);
-        let standing = &self.standing;
-        let condition = told_condition(standing);
-        put_cell(alloc, &mut members, Key::Cell, self.cell)?;
-        put(alloc, &mut members, Key::Id, &self.policy.0)?;
-        put_word(alloc, &mut members, Key::Is, standing_word(standing))?;
-        put_option(alloc, &mut members, Key::Items, told_matches(standing))?;
-        put_option(alloc, &mut members, Key::Maps, told_misses(standing))?;
+        let condition = told_condition(&self.standing);
+        put_standing(alloc, &mut members, self)?;
         put(alloc, &mut members, Key::Name, &self.name)?;
         put(alloc, &mut members, Key::Tag, &self.tag)?;
         put_option(alloc, &mut members, Key::Unmet, condition)?;

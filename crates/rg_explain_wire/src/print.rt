@@ -1,11 +1,11 @@
 // An explanation, printed.
 ghost use Rattle.std.specs.Prelude.{◌≡◌, IfOk};
 ghost use Rattle.std.specs.Str.{chars, encode_utf8_all};
-ghost use Rattle.serde_json.specs.View.{view};
+ghost use Rattle.serde_json.specs.View.{members_view, view};
 ghost use Rattle.rg_base.specs.Listed.{listed};
-ghost use Rattle.rg_json.specs.Printing.{count_data, list_data, option_data};
+ghost use Rattle.rg_json.specs.Printing.{count_data, list_data, option_data, with_members};
 ghost use Rattle.rg_explain_wire.specs.Listing.{listed_policies};
-ghost use Rattle.rg_explain_wire.specs.Printing.{explanation_data, explanation_text, told_data};
+ghost use Rattle.rg_explain_wire.specs.Printing.{asked_members, decided_members, explanation_data, explanation_text, name_of, told_data};
 
 use crate::key::Key;
 use crate::listing::{far_count, is_listed};
@@ -112,6 +112,38 @@ fn policies_json(alloc: Global, explanation: &Explanation, all: bool) -> Result<
     Ok(Value::Array(made))
 }
 
+/// Puts what is decided, and by what.
+fn put_decided(
+    alloc: Global,
+    members: &mut Map<String, Value>,
+    explanation: &Explanation,
+) -> Result<(), NoMemory>
+    ensures { IfOk result (λ u. members_view members.new.entries ≡ with_members name_of (members_view members.old.entries) (decided_members explanation.now)) }
+{
+    let verdict = &explanation.verdict;
+    put(alloc, members, Key::Access, &verdict.access)?;
+    put_cell(alloc, members, Key::Cell, explanation.cell)?;
+    put(alloc, members, Key::Mask, &verdict.mask)?;
+    put(alloc, members, Key::PolicyId, &verdict.policy.0)?;
+    put(alloc, members, Key::RowFilter, &verdict.filter)
+}
+
+/// Puts what is asked, and where it stands.
+fn put_asked(
+    alloc: Global,
+    members: &mut Map<String, Value>,
+    request: &AccessRequest,
+    explanation: &Explanation,
+) -> Result<(), NoMemory>
+    ensures { IfOk result (λ u. members_view members.new.entries ≡ with_members name_of (members_view members.old.entries) (asked_members request.now explanation.now)) }
+{
+    put(alloc, members, Key::Path, &explanation.decision.path)?;
+    put(alloc, members, Key::Request, request)?;
+    put(alloc, members, Key::Roles, &explanation.roles)?;
+    put(alloc, members, Key::Rows, &explanation.rows)?;
+    put(alloc, members, Key::Zone, &explanation.zone)
+}
+
 /// An explanation of a request.
 #[tactic(auto, unfolding(crate::specs::Printing::explanation_data))]
 fn explanation_json(
@@ -123,21 +155,12 @@ fn explanation_json(
     ensures { IfOk result (λ v. view v ≡ explanation_data all request.now explanation.now) }
 {
     let mut members = Map::new(alloc);
-    let verdict = &explanation.verdict;
     let far_off = far_count(explanation) as u64;
     let policies = policies_json(alloc, explanation, all)?;
-    put(alloc, &mut members, Key::Access, &verdict.access)?;
-    put_cell(alloc, &mut members, Key::Cell, explanation.cell)?;
+    put_decided(alloc, &mut members, explanation)?;
+    put_asked(alloc, &mut members, request, explanation)?;
     put(alloc, &mut members, Key::FarOff, &far_off)?;
-    put(alloc, &mut members, Key::Mask, &verdict.mask)?;
-    put(alloc, &mut members, Key::Path, &explanation.decision.path)?;
     put_value(alloc, &mut members, Key::Policies.name(), policies)?;
-    put(alloc, &mut members, Key::PolicyId, &verdict.policy.0)?;
-    put(alloc, &mut members, Key::Request, request)?;
-    put(alloc, &mut members, Key::Roles, &explanation.roles)?;
-    put(alloc, &mut members, Key::RowFilter, &verdict.filter)?;
-    put(alloc, &mut members, Key::Rows, &explanation.rows)?;
-    put(alloc, &mut members, Key::Zone, &explanation.zone)?;
     Ok(Value::Object(members))
 }
 
