@@ -33,12 +33,11 @@ module _ (form : Form) (start : Progress) (bytes : List ℕ) (clock clock' : Opt
       → printed ≡ framed state text → last ≡ ended_by state status
       → (state : Progress) × (decided : List Decided) × Tested [] (record { text = printed; status = last; state = state; decided = decided })
   tested_so text printed status last state comes framed_so ended_so =
-      let o : Output Progress = record { text = text; status = status; state = state; decided = comes.0 } in
-      (
+      let o : Output Progress = record { text = text; status = status; state = state; decided = comes.0 } in (
         state,
         [],
         subst (λ t. Tested [] (record { text = t; status = last; state = state; decided = [] })) (sym framed_so)
-        (subst (λ l. Tested [] (record { text = framed state text; status = l; state = state; decided = [] })) (sym ended_so) (comes_so [] o comes.1)),
+            (subst (λ l. Tested [] (record { text = framed state text; status = l; state = state; decided = [] })) (sym ended_so) (comes_so [] o comes.1)),
       )
 
   -- where memory was refused before that

@@ -12,4 +12,4 @@ mod testing;
 
 pub use form::Form;
 pub use laws::tested_as_replayed;
-pub use program::{out_of_memory, start, test, refused};
+pub use program::{out_of_memory, refused, start, test};
