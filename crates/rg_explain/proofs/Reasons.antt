@@ -19,7 +19,7 @@ use Rattle.rg_roles.proofs.Decided.{leads-Decides}
 use Rattle.rg_roles.proofs.Rows.{name_is, unique}
 use Rattle.rg_effect.specs.Subjects.{Subjects, names, names_group, names_role, names_user}
 
-abbrev members : RoleRow → Subjects
+abbrev pub members : RoleRow → Subjects
 members row = record { users = row.users.items; groups = row.groups.items; roles = row.roles.items }
 
 none_of : (o : Option ℕ) → is_none o ≡ true → o ≡ None

@@ -1,5 +1,5 @@
 -- The zone in which a resource lies has a map that reaches down to it.
-use Rattle.std.proofs.Common.{◌≡◌, get_or, Option, Some, IsSome, slice_get, position, ap, sym, ◌∙◌}
+use Rattle.std.proofs.Common.{◌≡◌, true, Some, IsSome, slice_get, position, ap, sym, ◌∙◌}
 use Rattle.std.proofs.lemmas.List.Quantifiers.{position-Some}
 use Rattle.std.proofs.lemmas.Option.{get_or_from_slice_get, option_and_then_some}
 use Rattle.rg_policy.specs.declared.request.AccessRequest.{AccessRequest}

@@ -1,2 +1,4 @@
+pub mod CommandLine
 pub mod Ending
+pub mod Numbers
 pub mod Working

@@ -4,7 +4,6 @@ use Rattle.std.specs.Char.{is_ascii_digit}
 use Rattle.std.specs.List.{filter, list_all, list_any}
 use Rattle.std.specs.Str.{bytes_eq}
 use Rattle.std.specs.Str.Parse.{digits_value}
-use Rattle.rg_explain_script.specs.declared.options.Form.{Form}
 use Rattle.rg_explain_script.specs.declared.options.Form.TheVariants as form
 use Rattle.rg_explain_script.specs.declared.options.Options.{Options}
 use Rattle.rg_explain_script.specs.declared.options.Wanted.{Wanted}
@@ -32,26 +31,23 @@ is_number word = is_some (number_of word)
 abbrev pub is_known : List ℕ → Bool
 is_known word = is_json word || (is_all word || is_number word)
 
-abbrev pub at_most_one : (List ℕ → Bool) → List (List ℕ) → Bool
-at_most_one is words = nat_le (length (filter is words)) 1
+abbrev pub at_most_one : {X : Type 0} → (X → Bool) → List X → Bool
+at_most_one is xs = nat_le (length (filter is xs)) 1
 
 -- each is a flag or a number, and none of the three is there twice
 unfoldable pub are_fitting : List (List ℕ) → Bool
 are_fitting words = list_all is_known words && (at_most_one is_json words && (at_most_one is_all words && at_most_one is_number words))
-
-abbrev pub form_in : List (List ℕ) → Form
-form_in words = if list_any is_json words then form.Json else form.Words
 
 -- N is the decision after N - 1 others
 abbrev pub wanted_by : Option ℕ → Wanted
 wanted_by None = wanted.Every
 wanted_by (Some n) = wanted.After (n - 1)
 
-abbrev pub wanted_in : List (List ℕ) → Wanted
-wanted_in words = wanted_by (option_and_then number_of (find is_number words))
+abbrev pub options_by : Bool → Bool → Option ℕ → Options
+options_by json all number = record { style = record { form = if json then form.Json else form.Words; all = all }; wanted = wanted_by number }
 
 abbrev pub options_in : List (List ℕ) → Options
-options_in words = record { style = record { form = form_in words; all = list_any is_all words }; wanted = wanted_in words }
+options_in words = options_by (list_any is_json words) (list_any is_all words) (option_and_then number_of (find is_number words))
 
 -- what the words ask for; None where they ask for nothing
 unfoldable pub options_of : List (List ℕ) → Option Options

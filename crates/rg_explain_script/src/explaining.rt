@@ -1,5 +1,5 @@
 // A script that is explained line by line.
-ghost use Rattle.std.specs.Prelude.{◌≡◌, ◌++◌, Err, IfOk, None, OnOk, false, string_bytes, true};
+ghost use Rattle.std.specs.Prelude.{◌≡◌, ◌++◌, ℕ, Err, IfOk, List, None, OnOk, false, string_bytes, true};
 ghost use Rattle.std.specs.Str.{encode_utf8_all};
 ghost use Rattle.rg_facts.specs.Sound.{sound};
 ghost use Rattle.rg_work.specs.Follow.{IsWorked};
@@ -86,7 +86,7 @@ impl<'a, R: Wait> Explaining<'a, R> {
     }
 
     /// Explains the request, which is wanted, by what is published last.
-    #[tactic(auto, using(crate::proofs::Working::explains), unfolding(crate::specs::Explained::explain_work))]
+    #[tactic(auto, using(crate::proofs::Working::requests), unfolding(crate::specs::Explained::explain_work))]
     fn tell(
         &mut self,
         alloc: Global,
@@ -98,22 +98,23 @@ impl<'a, R: Wait> Explaining<'a, R> {
         ensures bad { result ≡ Err LineFault.Bad → (explain_work self.old request.now ≡ None) × (self.new ≡ self.old) }
         ensures unwritten { result ≡ Err LineFault.Bad → string_bytes text.new ≡ string_bytes text.old }
     {
-        match self.replay.newest_facts(alloc) {
-            Ok(None) => Err(LineFault::Bad),
-            Ok(Some(facts)) => match add_explanation(alloc, self.style, facts, request, text) {
-                Ok(()) => {
-                    self.wanted = self.wanted.then();
-                    Ok(())
-                }
-                Err(_) => Err(LineFault::NoMemory),
-            },
+        let facts = match self.replay.newest_facts(alloc) {
+            Ok(Some(facts)) => facts,
+            Ok(None) => return Err(LineFault::Bad),
+            Err(_) => return Err(LineFault::NoMemory),
+        };
+        match add_explanation(alloc, self.style, facts, request, text) {
+            Ok(()) => {
+                self.wanted = self.wanted.then();
+                Ok(())
+            }
             Err(_) => Err(LineFault::NoMemory),
         }
     }
 
     /// Lets the request go, which isn't wanted. It is decided, which costs less than its explanation, since the line is bad where
     /// nothing is published.
-    #[tactic(auto, using(crate::proofs::Working::passes), unfolding(crate::specs::Explained::explain_work))]
+    #[tactic(auto, using(crate::proofs::Working::requests), unfolding(crate::specs::Explained::explain_work))]
     fn pass(&mut self, alloc: Global, request: &AccessRequest) -> Result<(), LineFault>
         requires { is_wanted self.old.wanted ≡ false }
         ensures worked { OnOk result ((text : List ℕ) → IsWorked (explain_work self.old request.now) self.new text text) }

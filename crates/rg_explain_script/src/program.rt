@@ -1,8 +1,9 @@
 // From words and the bytes of a script to the explanations of its decisions.
 ghost use Rattle.std.specs.Prelude.{◌≡◌, None, map, string_bytes};
 ghost use Rattle.rg_work.specs.Ports.{ports};
-ghost use Rattle.rg_work.specs.Runs.{IsRun, OfStatus};
+ghost use Rattle.rg_work.specs.Runs.{IsRun, OfStatus, Stands};
 ghost use Rattle.rg_explain_script.specs.Ends.{Answers};
+ghost use Rattle.rg_explain_script.specs.Explained.{explained};
 ghost use Rattle.rg_explain_script.specs.Words.{options_of};
 
 use crate::explaining::Explaining;

@@ -1,10 +1,10 @@
 // The words of the command line.
-ghost use Rattle.std.specs.Prelude.{◌≡◌, IfErr, IfOk, IfSome, is_some, map, string_bytes, true};
+ghost use Rattle.std.specs.Prelude.{◌≡◌, Bool, IfOk, OnErr, Some, codes, is_some, length, map, option_and_then, string_bytes, true};
 ghost use Rattle.std.specs.Char.{is_ascii_digit};
-ghost use Rattle.std.specs.List.{list_all};
-ghost use Rattle.clap.specs.Words.{app_of, found_of, matches_of, rows_of};
-ghost use Rattle.rg_explain_script.specs.CommandLine.{words_app};
-ghost use Rattle.rg_explain_script.specs.Words.{are_fitting, at_most_one, is_all, is_json, is_known, is_number, is_numeral, number_of, options_of, wanted_by};
+ghost use Rattle.std.specs.List.{filter, list_all};
+ghost use Rattle.clap.specs.Words.{app_of, first_value, found_of, matches_of, one_text, rows_of};
+ghost use Rattle.rg_explain_script.specs.CommandLine.{are_spelled, flag_text, words_app};
+ghost use Rattle.rg_explain_script.specs.Words.{is_all, is_json, is_known, is_number, is_numeral, number_of, options_by, options_of};
 
 use crate::options::{Form, Options, Style, Wanted};
 use clap::{Arg, ArgAction, ArgMatches};
@@ -69,30 +69,29 @@ fn are_known(words: &[String]) -> bool
     words.iter().all(|word| is_known(word.as_str()))
 }
 
-fn has_one_json(words: &[String]) -> bool
-    ensures { result ≡ at_most_one is_json (map string_bytes words.now) }
+fn times_json(words: &[String]) -> usize
+    ensures { result ≡ length (filter (λ word. is_json (string_bytes word)) words.now) }
 {
-    words.iter().filter(|word| is_json(word.as_str())).count() <= 1
+    words.iter().filter(|word| is_json(word.as_str())).count()
 }
 
-fn has_one_all(words: &[String]) -> bool
-    ensures { result ≡ at_most_one is_all (map string_bytes words.now) }
+fn times_all(words: &[String]) -> usize
+    ensures { result ≡ length (filter (λ word. is_all (string_bytes word)) words.now) }
 {
-    words.iter().filter(|word| is_all(word.as_str())).count() <= 1
+    words.iter().filter(|word| is_all(word.as_str())).count()
 }
 
-fn has_one_number(words: &[String]) -> bool
-    ensures { result ≡ at_most_one is_number (map string_bytes words.now) }
+fn times_numbered(words: &[String]) -> usize
+    ensures { result ≡ length (filter (λ word. is_number (string_bytes word)) words.now) }
 {
-    words.iter().filter(|word| is_number(word.as_str())).count() <= 1
+    words.iter().filter(|word| is_number(word.as_str())).count()
 }
 
 /// Whether each word is a flag or a number, and none of the three is there twice.
-#[tactic(auto, unfolding(crate::specs::Words::are_fitting))]
 fn are_fitting(words: &[String]) -> bool
-    ensures { result ≡ are_fitting (map string_bytes words.now) }
+    ensures { result ≡ are_spelled string_bytes words.now }
 {
-    are_known(words) && has_one_json(words) && has_one_all(words) && has_one_number(words)
+    are_known(words) && times_json(words) <= 1 && times_all(words) <= 1 && times_numbered(words) <= 1
 }
 
 /// How the words are read: two flags, and a number.
@@ -125,14 +124,10 @@ fn matches_of<'a>(alloc: Global, words: &'a [String]) -> Result<ArgMatches<'a>, 
     }
 }
 
-/// Which decisions are wanted where this one is, counted from 1.
-fn wanted_by(number: Option<u32>) -> Wanted
-    ensures { result ≡ wanted_by number }
+fn has_flag(matches: &ArgMatches, id: &str) -> bool
+    ensures { (is : Bool) → one_text (found_of matches.now) id.now ≡ Some (flag_text is) → result ≡ is }
 {
-    match number {
-        Some(number) => Wanted::After(number.saturating_sub(1)),
-        None => Wanted::Every,
-    }
+    matches.get_flag(id)
 }
 
 fn number_in(matches: &ArgMatches) -> Option<u32>
@@ -144,14 +139,17 @@ fn number_in(matches: &ArgMatches) -> Option<u32>
     }
 }
 
-fn form_in(matches: &ArgMatches) -> Form
-    ensures json { one_text (found_of matches.now) (codes "json") ≡ Some (codes "true") → result ≡ Form.Json }
-    ensures words { one_text (found_of matches.now) (codes "json") ≡ Some (codes "false") → result ≡ Form.Words }
+fn options_by(json: bool, all: bool, number: Option<u32>) -> Options
+    ensures { result ≡ options_by json all number }
 {
-    if matches.get_flag("json") {
-        Form::Json
-    } else {
-        Form::Words
+    let form = if json { Form::Json } else { Form::Words };
+    let wanted = match number {
+        Some(number) => Wanted::After(number.saturating_sub(1)),
+        None => Wanted::Every,
+    };
+    Options {
+        style: Style { form, all },
+        wanted,
     }
 }
 
@@ -164,10 +162,8 @@ pub(crate) fn options_of(alloc: Global, words: &[String]) -> Result<Option<Optio
         return Ok(None);
     }
     let matches = matches_of(alloc, words)?;
-    let style = Style {
-        form: form_in(&matches),
-        all: matches.get_flag("all"),
-    };
-    let wanted = wanted_by(number_in(&matches));
-    Ok(Some(Options { style, wanted }))
+    let json = has_flag(&matches, "json");
+    let all = has_flag(&matches, "all");
+    let number = number_in(&matches);
+    Ok(Some(options_by(json, all, number)))
 }

@@ -1,9 +1,9 @@
 -- What is told of a policy agrees with the flow.
-use Rattle.std.proofs.Common.{◌≡◌, ◌||◌, ◌&&◌, ◌+◌, ℕ, suc, Bool, true, false, not, cond, nat_lt, List, [], ◌∷◌, length, map, Option, Some, None, is_none, is_some, Contains, refl, ap, sym, ◌∙◌, arith}
+use Rattle.std.proofs.Common.{◌≡◌, ◌&&◌, ℕ, Bool, true, false, not, cond, List, [], ◌∷◌, map, Option, Some, None, is_none, is_some, refl, ap, sym, ◌∙◌}
 use Rattle.std.proofs.lemmas.Bool.{and_parts}
 use Rattle.std.proofs.lemmas.Slice.Eq.{bytes_eq-Decides}
-use Rattle.std.specs.Prelude.{option_map, position}
-use Rattle.std.specs.List.{find, list_all, list_any}
+use Rattle.std.specs.Prelude.{option_map}
+use Rattle.std.specs.List.{find, list_all}
 use Rattle.std.specs.Option.{option_map_or}
 use Rattle.std.specs.Str.{bytes_eq}
 use Rattle.rg_base.proofs.Lists.{all_holds, any_from, any_holds}
@@ -20,12 +20,11 @@ use Rattle.rg_defs.specs.declared.service_def.ServiceDef.{ServiceDef}
 use Rattle.rg_defs.specs.Paths.{level_of}
 use Rattle.rg_defs.specs.PathTests.{on_one_path}
 use Rattle.rg_cond.specs.Conditions.{condition_holds}
-use Rattle.rg_resmatch.specs.Tests.{is_hit, is_some_element, levels_of, lies, may_name, meets, some_lies, value_at}
+use Rattle.rg_resmatch.specs.Tests.{is_hit, levels_of, lies, may_name, meets, some_lies, value_at}
 use Rattle.rg_resmatch.specs.declared.reach.Reach.TheVariants.{Exact}
 use Rattle.rg_evalr.specs.Effects.{access_of, effect_of, in_play, is_scheduled, is_valid, lies_on, lies_on_tag}
 use Rattle.rg_evalr.specs.Frames.{def_of}
-use Rattle.rg_evalr.specs.Items.{all_hold, any_matches, first_item, item_matches}
-use Rattle.rg_evalr.specs.declared.frame.Effect.{Effect}
+use Rattle.rg_evalr.specs.Items.{any_matches, first_item, item_matches}
 use Rattle.rg_evalr.specs.declared.frame.Effect.TheVariants.{Nothing, Allow, Deny}
 use Rattle.rg_evalr.specs.declared.frame.Side.{Side}
 use Rattle.rg_evalr.specs.declared.frame.Side.TheVariants.{Resource, Tag as Tagged}
@@ -35,7 +34,7 @@ use Rattle.rg_standing.specs.Matching.{effect_by, match_at, matched, matches_of}
 use Rattle.rg_standing.specs.Standing.{by_conditions, def_asked, effect_told, elements_asked, first_failing, is_told_in_play, policy_lies, policy_near, standing_of}
 use Rattle.rg_standing.specs.declared.reason.Match.{Match}
 use Rattle.rg_standing.specs.declared.reason.Standing.{Standing}
-use Rattle.rg_standing.specs.declared.reason.Standing.TheVariants.{FarOff, Disabled, Unscheduled, Elsewhere, InPlay}
+use Rattle.rg_standing.specs.declared.reason.Standing.TheVariants.{FarOff, Disabled, Unscheduled, Elsewhere}
 use Rattle.rg_standing.proofs.Tests.{all_by_first, some_mapped, some_place}
 
 -- ---- a policy that lies on what is asked about is near

@@ -1,5 +1,5 @@
 -- Which items of a policy match, and by which subject.
-use Rattle.std.specs.Prelude.{ℕ, ◌&&◌, Bool, List, Option, Some, None, is_none, is_some, not, option_and_then, option_map, if◌then◌else◌}
+use Rattle.std.specs.Prelude.{ℕ, ◌&&◌, Bool, List, Option, Some, None, is_some, not, option_and_then, option_map, if◌then◌else◌}
 use Rattle.std.specs.List.{find, slice_get}
 use Rattle.std.specs.Option.{option_or}
 use Rattle.rg_base.specs.Texts.{is_among}

@@ -1,5 +1,5 @@
 -- Whether a policy is in play, and the first thing that keeps it out.
-use Rattle.std.specs.Prelude.{ℕ, Bool, false, true, not, List, Option, Some, None, map, if◌then◌else◌}
+use Rattle.std.specs.Prelude.{Bool, false, true, not, List, Option, Some, None, map, if◌then◌else◌}
 use Rattle.std.specs.List.{find}
 use Rattle.rg_base.specs.Listed.{listed}
 use Rattle.rg_policy.specs.Maps.{maps_of}

@@ -1,5 +1,0 @@
-use Rattle.rg_explain_script.proofs.Ending.{ended_so}
-use Rattle.rg_explain_script.proofs.program.start.Goals as goal
-
-pub returns : goal.returns
-returns g c = ended_so _ _ _ _ c.from.ensures c.explain-status.ensures.answers
