@@ -28,15 +28,15 @@ module _ (form : Form) (start : Progress) (bytes : List ℕ) (clock clock' : Opt
       record { moments = same.moments; given = same.given; defined = ap (option_map ended) same.defined }
 
   -- what was printed stands between the top and the summary
-  pub tested_so : (text seen printed : List ℕ) (status last : Status) (state : Progress)
+  pub tested_so : (text printed : List ℕ) (status last : Status) (state : Progress)
       → (decided : List Decided) × Worked [] (record { text = text; status = status; state = state; decided = decided })
-      → seen ≡ text → printed ≡ framed state status seen → last ≡ ended_by state status
+      → printed ≡ framed state status text → last ≡ ended_by state status
       → (state : Progress) × (decided : List Decided) × Tested [] (record { text = printed; status = last; state = state; decided = decided })
-  tested_so text seen printed status last state comes same framed_so ended_so =
+  tested_so text printed status last state comes framed_so ended_so =
       let o : Output Progress = record { text = text; status = status; state = state; decided = comes.0 } in (
         state,
         [],
-        subst (λ t. Tested [] (record { text = t; status = last; state = state; decided = [] })) (sym (framed_so ∙ ap (framed state status) same))
+        subst (λ t. Tested [] (record { text = t; status = last; state = state; decided = [] })) (sym framed_so)
             (subst (λ l. Tested [] (record { text = framed state status text; status = l; state = state; decided = [] })) (sym ended_so) (comes_so [] o comes.1)),
       )
 

@@ -7,7 +7,7 @@ ghost use Rattle.rg_work.specs.Ports.{ports};
 ghost use Rattle.rg_work.specs.Runs.{IsRun, OfStatus, Stands};
 ghost use Rattle.rg_test_script.specs.CommandLine.{form_of};
 ghost use Rattle.rg_test_script.specs.Ends.{IsEnd};
-ghost use Rattle.rg_test_script.specs.Testing.{Progress, tested};
+ghost use Rattle.rg_test_script.specs.Testing.{Progress, ended_by, framed, tested};
 ghost use Rattle.rg_test_script.specs.declared.form.Form as the;
 
 use crate::command::form_of;
@@ -19,6 +19,16 @@ use rg_work::{Status, Worked, follow, read_script, write_all};
 use std::alloc::Global;
 use std::process::ExitCode;
 use std::sync::Wait;
+
+/// What the lines printed, between the top and the summary, and the status of their tests.
+fn finish<R: Wait>(alloc: Global, testing: &Testing<R>, worked: Worked) -> Result<Worked, NoMemory>
+    ensures text { IfOk result (λ w. string_bytes w.text ≡ framed testing.now worked.status (string_bytes worked.text)) }
+    ensures status { IfOk result (λ w. w.status ≡ ended_by testing.now worked.status) }
+{
+    let text = testing.framed(alloc, worked.status, worked.text.as_str())?;
+    let status = testing.ended(worked.status);
+    Ok(Worked { text, status })
+}
 
 /// Tests the lines of a script.
 fn test_lines<C: Clock, R: Wait>(
@@ -36,14 +46,12 @@ fn test_lines<C: Clock, R: Wait>(
         × Comes _ (tested form) bytes.now (C.given clock.old) (C.given clock.new) later output) }
 {
     let mut testing = Testing::new(rt, form);
-    match follow(alloc, &mut testing, bytes, clock) {
-        Ok(worked) => match testing.framed(alloc, worked.status, worked.text.as_str()) {
-            Ok(text) => Ok(Worked {
-                text,
-                status: testing.ended(worked.status),
-            }),
-            Err(refused) => Err(refused),
-        },
+    let worked = match follow(alloc, &mut testing, bytes, clock) {
+        Ok(worked) => worked,
+        Err(refused) => return Err(refused),
+    };
+    match finish(alloc, &testing, worked) {
+        Ok(worked) => Ok(worked),
         Err(refused) => Err(refused),
     }
 }
