@@ -23,17 +23,20 @@ module _ (style : Style) (s : State) (wanted after : Wanted) (q : AccessRequest)
   pub explained_work : (o : Option Publication) (facts : Facts) (old new : List ℕ) → is_wanted wanted ≡ true → Some facts ≡ option_map (λ (p : Publication). p.facts) o
       → new ≡ old ++ explained_text style facts q → IsWorked (option_map (explaining (progress style s wanted) q) o) (progress style s after) old new
   explained_work None facts old new is_next is printed = absurd (cc is)
-  explained_work (Some p) facts old new is_next is printed =
-      (ap (progress style s) moves, printed ∙ ap (λ (f : Facts). old ++ explained_text style f q) (same_Some facts p.facts is)
-      ∙ ap (λ b. old ++ (if b then explained_text style p.facts q else [])) (sym is_next))
+  explained_work (Some p) facts old new is_next is printed = (
+    ap (progress style s) moves,
+    printed ∙ ap (λ (f : Facts). old ++ explained_text style f q) (same_Some facts p.facts is)
+        ∙ ap (λ b. old ++ (if b then explained_text style p.facts q else [])) (sym is_next),
+  )
 
   -- any other one is let go
   pub passed_work : (t : State) (o : Option Publication) (d : Decision) (text : List ℕ) → t ≡ s → is_wanted wanted ≡ false → Some d ≡ option_map (λ (p : Publication). decision_of p q) o
       → IsWorked (option_map (explaining (progress style s wanted) q) o) (progress style t after) text text
   passed_work t None d text same isnt_next is = absurd (cc is)
-  passed_work t (Some p) d text same isnt_next is =
-      (ap (λ (v : State). progress style v after) same ∙ ap (progress style s) moves,
-      sym (append-nil text) ∙ ap (λ b. text ++ (if b then explained_text style p.facts q else [])) (sym isnt_next))
+  passed_work t (Some p) d text same isnt_next is = (
+    ap (λ (v : State). progress style v after) same ∙ ap (progress style s) moves,
+    sym (append-nil text) ∙ ap (λ b. text ++ (if b then explained_text style p.facts q else [])) (sym isnt_next),
+  )
 
 -- where nothing is published neither is
 pub unexplained : {A : Type 0} (s : Progress) (q : AccessRequest) (o : Option Publication) (told : Publication → A) → None ≡ option_map told o → option_map (explaining s q) o ≡ None

@@ -91,7 +91,10 @@ fn times_numbered(words: &[String]) -> usize
 fn are_fitting(words: &[String]) -> bool
     ensures { result ≡ are_spelled string_bytes words.now }
 {
-    are_known(words) && times_json(words) <= 1 && times_all(words) <= 1 && times_numbered(words) <= 1
+    are_known(words)
+        && times_json(words) <= 1
+        && times_all(words) <= 1
+        && times_numbered(words) <= 1
 }
 
 /// How the words are read: two flags, and a number.
