@@ -87,7 +87,6 @@ RUNS = [
     ("rangerd_check", [], stored("rangerd_check")),
     ("rangerd_explain", [], example("cells")),
     ("rangerd_explain", ["--json", "--all"], example("zones")),
-    ("rangerd_test", ["--junit"], example("tests")),
 ]
 
 
