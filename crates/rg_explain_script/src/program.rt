@@ -23,7 +23,7 @@ fn explain_by<S: Source, K: Sink, C: Clock, R: Wait>(
     sink: &mut K,
     clock: &mut C,
 ) -> Status
-    ensures run { IsRun (Stands _ (explained options))
+    ensures { IsRun (Stands _ (explained options))
         (ports (S.left source.old) (S.ended source.old) (S.faults source.old) (C.given clock.old) (K.held sink.old) (K.faults sink.old))
         (ports (S.left source.new) (S.ended source.new) (S.faults source.new) (C.given clock.new) (K.held sink.new) (K.faults sink.new)) result }
 {
