@@ -79,6 +79,7 @@ judge "rangerd-explain isn't built" "$? $(wc -c < "$room/printed")" "125 0"
 build_as "echo '$program'"
 
 # A service on a port that the system chooses is named once it listens, and ended by what ends bin/rangerd.
+: > "$room/said"
 grep '^config ' examples/hive.config | "$room/bin/rangerd" serve 127.0.0.1:0 1000000 > "$room/printed" 2> "$room/said" &
 service=$!
 for _ in {1..100}; do
