@@ -326,6 +326,8 @@ class Sweep:
         return b"\n".join(self.lines) + b"\n"
 
     def tell(self):
+        """A line for each command, of the pairs of its rules that were broken together."""
+        told = []
         for command in BASES:
             rules = [rule for rule in admin_rules.RULES[command] if rule not in OUT_OF_REACH]
             pairs, seen = set(itertools.combinations(rules, 2)), self.seen[command]
@@ -333,7 +335,8 @@ class Sweep:
             assert not alone, "%s: never the first that is broken: %s" % (command, ", ".join(alone))
             assert pairs - seen == set(APART.get(command, ())), "%s: broken together never, or against the table: %s" % (
                 command, (pairs - seen) ^ set(APART.get(command, ())))
-            print("%s: %d of %d pairs" % (command, len(pairs & seen), len(pairs)))
+            told.append("%s: %d of %d pairs" % (command, len(pairs & seen), len(pairs)))
+        return "\n".join(told)
 
 
 def main():
@@ -344,8 +347,9 @@ def main():
     words = asked.parse_args()
     sweep = Sweep()
     script = sweep.run()
-    sweep.tell()
+    told = sweep.tell()
     if words.dry:
+        print(told)
         return
     ran = subprocess.run([words.program, words.kind], input=script, stdout=subprocess.PIPE)
     wanted = "".join(answer + "\n" for answer in sweep.wanted if answer is not None)
@@ -355,7 +359,7 @@ def main():
             if want != have:
                 sys.exit("%s\nwanted %s\ngot    %s" % ((line or b"").decode(), want, have))
         sys.exit("status %d" % ran.returncode)
-    print("%d lines of `%s`: each as wanted" % (len(sweep.lines), words.kind))
+    print("%d lines of `%s` that break rules together: each as wanted\n%s" % (len(sweep.lines), words.kind, told))
 
 
 if __name__ == "__main__":

@@ -33,5 +33,6 @@ compare facts checks/compare.py "$seed" 200 --program "$program"
 compare administration checks/compare_admin.py "$program" 60 --seed "$seed"
 compare grants checks/compare_admin.py "$program" 60 --seed "$seed" --grants
 compare keep checks/compare_admin.py "$program" 60 --seed "$seed" --keep
+compare "rules together" checks/pairs.py "$program"
 compare_built explanations "$explainer" checks/compare_explained.py "$seed" 60
 exit "$failed"

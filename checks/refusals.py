@@ -11,6 +11,7 @@ FOLDER has the built programs (FOLDER/NAME/out/NAME). What has to stand, by the 
 A run never hangs, and never ends by a signal. It is no part of the gate, since it needs a C compiler."""
 import argparse
 import os
+import struct
 import subprocess
 import sys
 import tempfile
@@ -20,25 +21,33 @@ HOOKS = r"""
 #define _GNU_SOURCE
 #include <dlfcn.h>
 #include <errno.h>
-#include <stdio.h>
+#include <fcntl.h>
 #include <stdlib.h>
 #include <string.h>
+#include <sys/mman.h>
 #include <unistd.h>
 static long number(const char *name) { const char *n = getenv(name); return n ? atol(n) : 0; }
-static int is_turn(long *asked, const char *name) { return ++*asked == number(name); }
-static long memory_asked, reads_asked, writes_asked;
+// how many requests there were of memory, of reads and of writes; in the file COUNTS where one is named
+static long *counts(void) {
+    static long own[3], *at;
+    if (!at) {
+        const char *path = getenv("COUNTS");
+        int fd = path ? open(path, O_RDWR) : -1;
+        void *shared = fd < 0 ? MAP_FAILED : mmap(0, sizeof own, PROT_READ | PROT_WRITE, MAP_SHARED, fd, 0);
+        at = shared == MAP_FAILED ? own : shared;
+    }
+    return at;
+}
+static int is_turn(int kind, const char *name) { return ++counts()[kind] == number(name); }
 void *malloc(size_t n) {
     static void *(*real)(size_t);
     if (!real) real = dlsym(RTLD_NEXT, "malloc");
-    return is_turn(&memory_asked, "MEMORY") ? 0 : real(n);
+    return is_turn(0, "MEMORY") ? 0 : real(n);
 }
 void *realloc(void *p, size_t n) {
     static void *(*real)(void *, size_t);
     if (!real) real = dlsym(RTLD_NEXT, "realloc");
-    return is_turn(&memory_asked, "MEMORY") ? 0 : real(p, n);
-}
-__attribute__((destructor)) static void tell(void) {
-    if (number("TELL")) fprintf(stderr, "%ld %ld %ld\n", memory_asked, reads_asked, writes_asked);
+    return is_turn(0, "MEMORY") ? 0 : real(p, n);
 }
 static int failing(const char *how, long asked) {
     if (!strcmp(how, "interrupt") && asked % 2) { errno = EINTR; return 1; }
@@ -49,8 +58,8 @@ ssize_t read(int fd, void *to, size_t n) {
     if (!real) real = dlsym(RTLD_NEXT, "read");
     const char *how = getenv("HOW") ? getenv("HOW") : "";
     if (fd != 0) return real(fd, to, n);
-    if (is_turn(&reads_asked, "READ")) { errno = EIO; return -1; }
-    if (failing(how, reads_asked)) return -1;
+    if (is_turn(1, "READ")) { errno = EIO; return -1; }
+    if (failing(how, counts()[1])) return -1;
     return real(fd, to, !strcmp(how, "short") && n ? 1 : n);
 }
 ssize_t write(int fd, const void *from, size_t n) {
@@ -58,8 +67,8 @@ ssize_t write(int fd, const void *from, size_t n) {
     if (!real) real = dlsym(RTLD_NEXT, "write");
     const char *how = getenv("HOW") ? getenv("HOW") : "";
     if (fd != 1) return real(fd, from, n);
-    if (is_turn(&writes_asked, "WRITE")) { errno = EIO; return -1; }
-    if (failing(how, writes_asked)) return -1;
+    if (is_turn(2, "WRITE")) { errno = EIO; return -1; }
+    if (failing(how, counts()[2])) return -1;
     return real(fd, from, !strcmp(how, "short") && n ? 1 : n);
 }
 """
@@ -93,13 +102,17 @@ RUNS = [
 class Command:
     def __init__(self, program, words, script, preload):
         self.line, self.script, self.preload = [program, *words], script, preload
-        self.status, self.text, told = self.run(TELL=1)
-        self.asked = dict(zip(("MEMORY", "READ", "WRITE"), map(int, told.splitlines()[-1].split())))
+        with tempfile.NamedTemporaryFile() as counts:
+            counts.write(bytes(24))
+            counts.flush()
+            self.status, self.text = self.run(COUNTS=counts.name)
+            counts.seek(0)
+            self.asked = dict(zip(("MEMORY", "READ", "WRITE"), struct.unpack("@3l", counts.read(24))))
 
     def run(self, **settings):
         given = {name: str(value) for name, value in settings.items()}
-        ran = subprocess.run(self.line, input=self.script, capture_output=True, timeout=60, env={"LD_PRELOAD": self.preload, **given})
-        return ran.returncode, ran.stdout, ran.stderr
+        ran = subprocess.run(self.line, input=self.script, stdout=subprocess.PIPE, stderr=subprocess.DEVNULL, timeout=60, env={"LD_PRELOAD": self.preload, **given})
+        return ran.returncode, ran.stdout
 
     def is_whole(self, status, text):
         return (status, text) == (self.status, self.text)
@@ -108,7 +121,7 @@ class Command:
         """Refuses each request of a kind. How many were refused, and how many of these runs had another end."""
         other, turns = 0, range(1, self.asked[setting] + 1, every)
         for number in turns:
-            status, text, _ = self.run(**{setting: number})
+            status, text = self.run(**{setting: number})
             if not self.is_whole(status, text):
                 other += 1
                 if not passes(status, text):
@@ -136,7 +149,7 @@ def main():
             reads = command.sweep("READ", lambda status, text: (status, text) == (3, b""))
             writes = command.sweep("WRITE", lambda status, text: status == 4 and command.text.startswith(text))
             for how in ("short", "interrupt"):
-                status, text, _ = command.run(HOW=how)
+                status, text = command.run(HOW=how)
                 assert command.is_whole(status, text), (" ".join(command.line), how, status, text)
             print("%s: ended otherwise with memory refused %s times, a read %s, a write %s" % (" ".join([name, *parts]), memory, reads, writes), flush=True)
 
