@@ -1,14 +1,16 @@
 #!/usr/bin/env bash
-# Works each script of examples/: grants.script by `grants`, report.script by `report`, keep.script by `keep` and the others by `replay`;
-# and compares what is printed with the file beside it, byte for byte. A script beside which NAME.explained stands is explained too. Each
-# script is the one that tools/script.py makes of the source beside it; where there is no Python this isn't looked at.
-# usage: checks/examples.sh [PROGRAM [EXPLAINER]]      (the built rangerd and rangerd-explain where not given)
-# What is wanted was worked out from the rules by checks/admin_model.py, checks/grants_model.py, checks/report_model.py and
-# checks/explaining.py, and not taken from the program.
+# Works each script of examples/: grants.script by `grants`, report.script by `report`, keep.script by `keep`, tests.script by rangerd-test,
+# and the others by `replay`; and compares what is printed with the file beside it, byte for byte. A script beside which NAME.explained
+# stands is explained too, and tests.xml is what rangerd-test prints as JUnit. Each script is the one that tools/script.py makes of the
+# source beside it; where there is no Python this isn't looked at.
+# usage: checks/examples.sh [PROGRAM [EXPLAINER [TESTER]]]      (the built rangerd, rangerd-explain and rangerd-test where not given)
+# What is wanted was worked out from the rules by checks/admin_model.py, checks/grants_model.py, checks/report_model.py, checks/explaining.py
+# and checks/testing.py, and not taken from the program.
 set -u
 cd "$(dirname "$0")/.." || exit 1
 program=${1:-crates/rangerd/out/rangerd}
 explainer=${2:-crates/rangerd_explain/out/rangerd_explain}
+tester=${3:-crates/rangerd_test/out/rangerd_test}
 passed=0 failed=0
 told() {
   echo "$1"
@@ -36,6 +38,10 @@ for script in examples/*.script; do
     */grants.script) compare "$script" "$name.out" "$program" grants ;;
     */report.script) compare "$script" "$name.out" "$program" report ;;
     */keep.script) compare "$script" "$name.out" "$program" keep ;;
+    */tests.script)
+      compare "$script" "$name.out" "$tester"
+      compare "$script" "$name.xml" "$tester" --junit
+      ;;
     *) compare "$script" "$name.out" "$program" replay ;;
   esac
   if [ -e "$name.explained" ]; then compare "$script" "$name.explained" "$explainer"; fi

@@ -1,15 +1,15 @@
 #!/usr/bin/env bash
 # Looks at what bin/rangerd says besides what the program prints: help without a build, the address of `serve`, what is said after status 2,
 # and the statuses, which are the program's own or 125. What it prints on standard output is compared with what the program prints. The same
-# of the words of bin/rangerd-explain.
-# usage: checks/manners.sh [PROGRAM [EXPLAINER]]      (the built ones where not given)
+# of the words of bin/rangerd-explain and bin/rangerd-test.
+# usage: checks/manners.sh [PROGRAM [EXPLAINER [TESTER]]]      (the built ones where not given)
 set -u
 cd "$(dirname "$0")/.." || exit 1
 program=$(readlink -f "${1:-crates/rangerd/out/rangerd}")
-explainer=$(readlink -m "${2:-crates/rangerd_explain/out/rangerd_explain}")
+explainer=$(readlink -m "${2:-crates/rangerd_explain/out/rangerd_explain}") tester=$(readlink -m "${3:-crates/rangerd_test/out/rangerd_test}")
 room=$(mktemp -d)
 trap 'rm -rf "$room"' EXIT
-mkdir "$room/bin" && cp bin/rangerd bin/rangerd-explain "$room/bin" || exit 1
+mkdir "$room/bin" && cp bin/rangerd bin/rangerd-explain bin/rangerd-test "$room/bin" || exit 1
 passed=0 failed=0
 
 # What bin/built is here: it prints where the program lies, or isn't there and says so.
@@ -48,7 +48,7 @@ printf '# nothing\n' | "$room/bin/rangerd" replay > "$room/printed" 2> "$room/sa
 judge "nothing to say" "$? $(cat "$room/printed" "$room/said")" "0 "
 
 # Wrong words and scripts that can't be read end with 1, the first with the usage line and all with nothing printed.
-script=examples/zones.script
+script=examples/tests.script
 run_wrong() {
   local name=$1 said=$2
   shift 2
@@ -59,7 +59,11 @@ for words in --jsn --help -1 '1 2 3' "$script $script" '--json --all 1 2'"$scrip
   # (unquoted: each is a word)
   run_wrong rangerd-explain "^usage: rangerd-explain " $words
 done
+for words in --json --help -1 "$script $script" "$script --junit"; do
+  run_wrong rangerd-test "^usage: rangerd-test " $words
+done
 run_wrong rangerd-explain "No such file" ./nowhere
+run_wrong rangerd-test "No such file" --junit ./nowhere
 
 # Words and script reach the program.
 reach() {
@@ -73,9 +77,13 @@ reach() {
 }
 build_as "echo '$explainer'"
 for words in '' --json '--all 3' '2 --all --json'; do reach rangerd-explain "$explainer" $words; done
+build_as "echo '$tester'"
+for words in '' --junit; do reach rangerd-test "$tester" $words; done
 build_as "exit 125"
-"$room/bin/rangerd-explain" < /dev/null > "$room/printed" 2> /dev/null
-judge "rangerd-explain isn't built" "$? $(wc -c < "$room/printed")" "125 0"
+for name in rangerd-explain rangerd-test; do
+  "$room/bin/$name" < /dev/null > "$room/printed" 2> /dev/null
+  judge "$name isn't built" "$? $(wc -c < "$room/printed")" "125 0"
+done
 build_as "echo '$program'"
 
 # A service on a port that the system chooses is named once it listens, and ended by what ends bin/rangerd.

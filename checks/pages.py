@@ -2,8 +2,8 @@
 """Types every block of commands that the pages show, in a checkout of its own for each page, and compares what is printed, byte for byte,
 and the exit status.
 
-usage: checks/pages.py [RANGERD [CHECKER [EXPLAINER]]]      (the built programs where not given)
-       checks/pages.py --list                               (which blocks are left out, and why)
+usage: checks/pages.py [RANGERD [CHECKER [EXPLAINER [TESTER]]]]      (the built programs where not given)
+       checks/pages.py --list                                        (which blocks are left out, and why)
 
 A block of the language sh is typed as it stands. Where one line that begins with `prints` or `answers` stands between it and the block
 behind it, that block is what it is to print on standard output, with lines of standard error where the line says so; else only its status is
@@ -29,7 +29,7 @@ import time
 
 TOP = pathlib.Path(__file__).resolve().parent.parent
 PROGRAMS = {"bin/rangerd": "crates/rangerd/out/rangerd", "bin/rangerd-check": "crates/rangerd_check/out/rangerd_check",
-            "bin/rangerd-explain": "crates/rangerd_explain/out/rangerd_explain"}
+            "bin/rangerd-explain": "crates/rangerd_explain/out/rangerd_explain", "bin/rangerd-test": "crates/rangerd_test/out/rangerd_test"}
 ROW = re.compile(r"^\| `(\w+ \{.*?\})` \| (.*?) \| ", re.MULTILINE)
 CONFIG = re.compile(r"^config \{.*", re.MULTILINE)
 BLOCK = re.compile(r"^```(\w*)\n(.*?)^```\n", re.MULTILINE | re.DOTALL)
@@ -48,6 +48,7 @@ LEFT_OUT = [
 NO_COMMANDS = {
     "nginx": "a configuration of another program, which the gate doesn't have",
     "ini": "a unit of systemd, which a gate without it can't start",
+    "yaml": "a step of a build server, which the gate doesn't have",
     "sql": "what the keeper does to a database; the programs that stand on it are run",
 }
 # Files that a page speaks of as the reader's own.

@@ -96,6 +96,7 @@ RUNS = [
     ("rangerd_check", [], stored("rangerd_check")),
     ("rangerd_explain", [], example("cells")),
     ("rangerd_explain", ["--json", "--all"], example("zones")),
+    ("rangerd_test", ["--junit"], example("tests")),
 ]
 
 

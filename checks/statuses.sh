@@ -1,13 +1,13 @@
 #!/usr/bin/env bash
 # Runs the built rangerd over the table of crates/test_scripts, which runs the same scripts over ports in memory, and compares the status
 # and what is printed, byte for byte. So its real main, streams, clock and keeper are seen with statuses other than 0 too. A row in which
-# a read or a write fails, or an enricher adds a pair, is left out. Then rangerd-explain with words and scripts of a few lines each: of these
-# the status is compared.
-# usage: checks/statuses.sh [PROGRAM [EXPLAINER]]      (the built ones where not given)
+# a read or a write fails, or an enricher adds a pair, is left out. Then rangerd-explain and rangerd-test with words and scripts of a line
+# or two each: of these the status is compared, and of a test how many passed and failed.
+# usage: checks/statuses.sh [PROGRAM [EXPLAINER [TESTER]]]      (the built ones where not given)
 set -u
 cd "$(dirname "$0")/.." || exit 1
 program=${1:-crates/rangerd/out/rangerd}
-explainer=${2:-crates/rangerd_explain/out/rangerd_explain}
+explainer=${2:-crates/rangerd_explain/out/rangerd_explain} tester=${3:-crates/rangerd_test/out/rangerd_test}
 table=crates/test_scripts/stdin data=crates/test_scripts/data
 script=$(mktemp) output=$(mktemp) printed=$(mktemp)
 trap 'rm -f "$script" "$output" "$printed"' EXIT
@@ -65,7 +65,7 @@ end_as() {
 
 facts=$'facts {"service":"s","serviceDef":{"name":"d","resources":[{"name":"r"}],"accessTypes":[{"name":"a"}]}}\n'
 asked=$facts$'decide {"user":"u","resource":{"elements":{"r":"x"}},"accessType":"a","accessTime":0}\n'
-for words in --jsn --help help x 0 01 -1 +1 4294967296 '1 2' '1 x' '--json x' '--json --json' '--all 1 --all'; do
+for words in --jsn --junit --help help x 0 01 -1 +1 4294967296 '1 2' '1 x' '--json x' '--json --json' '--all 1 --all'; do
   # (unquoted: each is a word)
   end_as "rangerd-explain $words" 1 "" "$asked" "$explainer" $words
 done
@@ -75,5 +75,17 @@ end_as "explained with all words" 0 "" "$asked" "$explainer" --json --all 1
 end_as "explained with all words in another order" 0 "" "$asked" "$explainer" 4294967295 --all --json
 end_as "no such decision" 0 "" "$asked" "$explainer" 2
 end_as "a bad line" 2 "bad line 3" "$asked"$'refresh\n' "$explainer" --all
+for words in --json --all --help help x 1 '--junit x' '--junit --junit'; do
+  end_as "rangerd-test $words" 1 "" "$asked" "$tester" $words
+done
+end_as "no test" 2 "0 passed, 0 failed" "$asked" "$tester"
+end_as "no line" 2 "0 passed, 0 failed" "" "$tester"
+end_as "no test in JUnit" 2 "</testsuite>" "$asked" "$tester" --junit
+end_as "a test that passes" 0 "1 passed, 0 failed" "$asked"$'# expect DENIED -1\n' "$tester"
+end_as "a test that fails" 2 "1 passed, 1 failed" "$asked"$'# expect DENIED -1\n# expect ALLOWED\n' "$tester"
+end_as "a test that fails in JUnit" 2 "</testsuite>" "$asked"$'# expect ALLOWED\n' "$tester" --junit
+end_as "an expectation of no form" 2 "1 passed, 0 failed" "$asked"$'# expect DENIED\n# expect denied\n' "$tester"
+end_as "an expectation behind nothing" 2 "0 passed, 0 failed" "$facts"$'# expect DENIED\n' "$tester"
+end_as "a line that is too long" 6 "too long" "$(head -c 1048577 /dev/zero | tr '\0' '#')" "$tester" --junit
 echo "statuses: $passed passed, $failed failed"
 [ "$failed" -eq 0 ]
