@@ -1,6 +1,6 @@
 // An administration of the configuration, and commands of its administrator.
 ghost use Rattle.std.specs.Prelude.{IfSome};
-ghost use Rattle.rg_machine.specs.Starts.{IsStart};
+ghost use Rattle.rg_admin_laws.specs.Starts.{IsStart};
 
 use crate::texts::{CONFIG, Draft, command};
 use rg_admin::Admin;

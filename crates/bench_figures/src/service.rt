@@ -26,8 +26,8 @@ pub(crate) struct OpenService<R: Wait + Drop> {
 
 impl<R: Wait + Drop> Model for OpenService<R> {
     ghost use Rattle.std.specs.Prelude.{◌≡◌};
-    ghost use Rattle.rg_machine.specs.Logs.{Administration};
-    ghost use Rattle.rg_machine.specs.Starts.{IsStart};
+    ghost use Rattle.rg_admin_laws.specs.Logs.{Administration};
+    ghost use Rattle.rg_admin_laws.specs.Starts.{IsStart};
     ghost use Rattle.rg_session.specs.Right.{AreRightFor};
 
     ghost Value = { Administration };

@@ -8,7 +8,7 @@ use rg_cmd::{PolicyChange, PolicyDelta, RoleDelta, TagDelta};
 use rg_delta::apply_plain;
 use rg_engine::Engine;
 use rg_facts::Facts;
-use rg_sound::facts_fault;
+use rg_facts_check::facts_fault;
 use rg_wire::read_facts;
 use std::alloc::Global;
 

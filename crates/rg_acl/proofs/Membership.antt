@@ -16,7 +16,7 @@ use Rattle.rg_delta.specs.Applied.{applied}
 use Rattle.rg_engine.specs.Bounds.{WorkWithin, bound_on, made, pairs_of_changes}
 use Rattle.rg_facts.specs.Flow.{eval}
 use Rattle.rg_policy.specs.declared.request.AccessRequest.{AccessRequest}
-use Rattle.rg_effect.specs.PolicyRules.{subjects_fit}
+use Rattle.rg_items.specs.PolicyRules.{subjects_fit}
 use Rattle.rg_roles.specs.Chains.{leads, leads_within}
 use Rattle.rg_roles.specs.Faults.{fault_of, first_row, is_absent, is_on_cycle, names_absent, repeats}
 use Rattle.rg_roles.specs.Members.{name_at, names_of, names_role}

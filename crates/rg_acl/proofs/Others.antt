@@ -18,8 +18,8 @@ use Rattle.rg_cond.specs.declared.rules.Rule.TheVariants as rule
 use Rattle.rg_resmatch.specs.Tests.{tag_elements}
 use Rattle.rg_resmatch.specs.declared.reach.Reach.TheVariants.{Exact}
 use Rattle.rg_roles.specs.Holding.{holds}
-use Rattle.rg_effect.specs.Accesses.{any_grants}
-use Rattle.rg_effect.specs.Subjects.{names_asker, names_group, owner_word, user_word}
+use Rattle.rg_items.specs.Accesses.{any_grants}
+use Rattle.rg_items.specs.Subjects.{names_asker, names_group, owner_word, user_word}
 use Rattle.rg_evalr.specs.Effects.{access_of, effect_of, in_play, is_scheduled, is_valid, item_of, lies_on}
 use Rattle.rg_evalr.specs.Frames.{def_of, requested_access}
 use Rattle.rg_evalr.specs.Items.{Context, all_hold, any_matches, first_item, item_matches}

@@ -7,7 +7,7 @@ use Rattle.std.proofs.lemmas.List.{length-replicate}
 use Rattle.std.proofs.lemmas.Slice.Eq.{bytes_eq-Decides}
 use Rattle.rg_base.specs.Texts.{is_among, is_empty}
 use Rattle.rg_base.proofs.Lists.{Contains-cases, Contains-first, Contains-later, Contains-none, among_holds}
-use Rattle.rg_effect.specs.Subjects.{owner_word, user_word}
+use Rattle.rg_items.specs.Subjects.{owner_word, user_word}
 use Rattle.rg_facts.specs.declared.facts.Facts.{Facts}
 use Rattle.rg_acl.specs.Laws.{Begins, is_unnamed, owns}
 use Rattle.rg_acl.specs.Named.{is_word, named}

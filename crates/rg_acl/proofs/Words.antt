@@ -1,4 +1,4 @@
 -- The characters of the words that code writes.
-use Rattle.rg_effect.proofs.Words.{owner_chars, user_chars}
+use Rattle.rg_items.proofs.Words.{owner_chars, user_chars}
 
 pub ruleset words = (user_chars, owner_chars)

@@ -6,7 +6,7 @@ use Rattle.rg_policy.specs.Kinds.{item_lists}
 use Rattle.rg_policy.specs.declared.policy.Item.{Item}
 use Rattle.rg_policy.specs.declared.policy.Policy.{Policy}
 use Rattle.rg_roles.specs.declared.row.RoleRow.{RoleRow}
-use Rattle.rg_effect.specs.Subjects.{owner_word, user_word}
+use Rattle.rg_items.specs.Subjects.{owner_word, user_word}
 use Rattle.rg_facts.specs.declared.facts.Facts.{Facts}
 use Rattle.rg_acl.specs.declared.named.Listing.{Listing}
 use Rattle.rg_acl.specs.declared.named.Listing.TheVariants.{Users, Groups}

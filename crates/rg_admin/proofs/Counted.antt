@@ -10,10 +10,10 @@ use Rattle.rg_base.specs.Texts.{all_distinct}
 use Rattle.rg_base.specs.declared.numbers.PolicyId.{PolicyId}
 use Rattle.rg_base.specs.declared.numbers.Version.{Version}
 use Rattle.rg_policy.specs.declared.policy.Policy.{Policy}
-use Rattle.rg_twins.specs.Counts.{IsCounted, count_of, has_print}
-use Rattle.rg_twins.specs.Prints.{name_print_of, prints_of}
-use Rattle.rg_twins.specs.declared.prints.Prints.{Prints}
-use Rattle.rg_twins.proofs.Counting.{sum_next}
+use Rattle.rg_same_resources.specs.Counts.{IsCounted, count_of, has_print}
+use Rattle.rg_same_resources.specs.Prints.{name_print_of, prints_of}
+use Rattle.rg_same_resources.specs.declared.prints.Prints.{Prints}
+use Rattle.rg_same_resources.proofs.Counting.{sum_next}
 use Rattle.rg_cmd.specs.Lists.{put, without}
 use Rattle.rg_cmd.specs.Lookups.{has_id, policy_at}
 use Rattle.rg_cmd.specs.declared.ask.AdminCommand.{AdminCommand}
@@ -23,10 +23,10 @@ use Rattle.rg_cmd.specs.declared.ask.Ask.{Ask}
 use Rattle.rg_cmd.specs.declared.state.State.{State}
 use Rattle.rg_validate.specs.Valid.{IsKept}
 use Rattle.rg_validate.proofs.Places.{one_id}
-use Rattle.rg_machine.specs.Changes.{after_command, created_form, updated_form}
-use Rattle.rg_machine.specs.Logs.{Administration}
-use Rattle.rg_machine.specs.Steps.{step_by}
-use Rattle.rg_machine.proofs.Lists.{find_none, replaced, some_there}
+use Rattle.rg_admin_laws.specs.Changes.{after_command, created_form, updated_form}
+use Rattle.rg_admin_laws.specs.Logs.{Administration}
+use Rattle.rg_admin_laws.specs.Steps.{step_by}
+use Rattle.rg_admin_laws.proofs.Lists.{find_none, replaced, some_there}
 use Rattle.rg_admin.specs.Counting.{IsCountedIn, IsCountedOut, shift_of, times}
 use Rattle.rg_admin.specs.Stepped.{IsAccepted}
 use Rattle.rg_admin.proofs.Firsts.{none_after, none_replaced, none_taken}

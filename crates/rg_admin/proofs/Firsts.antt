@@ -14,7 +14,7 @@ use Rattle.rg_base.specs.Texts.{all_distinct}
 use Rattle.rg_admin.specs.InPlace.{put_at, without_at}
 use Rattle.rg_cmd.specs.Lists.{put, without}
 use Rattle.rg_validate.proofs.Places.{place_is, place_of}
-use Rattle.rg_machine.proofs.Lists.{case, none_passes, not_true, or_false}
+use Rattle.rg_admin_laws.proofs.Lists.{case, none_passes, not_true, or_false}
 
 -- one place further on in a list that has one more before it
 put_later : {X : Type 0} (y x : X) (ys : List X) (o : Option ℕ) → y ∷ put_at o x ys ≡ put_at (option_map suc o) x (y ∷ ys)

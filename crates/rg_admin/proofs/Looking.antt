@@ -12,7 +12,7 @@ use Rattle.rg_cmd.specs.declared.state.ServiceRow.{ServiceRow}
 use Rattle.rg_cmd.specs.declared.state.State.{State}
 use Rattle.rg_validate.specs.Definitions.{tag_service_fits}
 use Rattle.rg_validate.specs.Valid.{IsValid, service_valid}
-use Rattle.rg_machine.proofs.Lists.{case}
+use Rattle.rg_admin_laws.proofs.Lists.{case}
 use Rattle.rg_admin.specs.Planning.{tag_def_named}
 
 -- a service that has the definition `tag` has another exactly where that is named `tag`

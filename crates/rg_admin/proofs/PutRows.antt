@@ -36,13 +36,13 @@ use Rattle.rg_validate.specs.Rules.{command_rules, service_exists}
 use Rattle.rg_validate.specs.Users.{time_zones_read}
 use Rattle.rg_validate.specs.Valid.{IsKept, IsValid, is_given, policy_is_single, policy_valid}
 use Rattle.rg_validate.specs.Zones.{are_apart, are_apart_for}
-use Rattle.rg_machine.specs.Changes.{after_command}
-use Rattle.rg_machine.specs.Starts.{IsStart, new_logs}
-use Rattle.rg_machine.proofs.KeptDefs.{put_def_kept}
-use Rattle.rg_machine.proofs.KeptRoles.{text_turn}
-use Rattle.rg_machine.proofs.KeptServices.{create_service_kept}
-use Rattle.rg_machine.proofs.Lists.{case, distinct_put, not_true}
-use Rattle.rg_machine.proofs.Passing.{passed_at}
+use Rattle.rg_admin_laws.specs.Changes.{after_command}
+use Rattle.rg_admin_laws.specs.Starts.{IsStart, new_logs}
+use Rattle.rg_admin_laws.proofs.KeptDefs.{put_def_kept}
+use Rattle.rg_admin_laws.proofs.KeptRoles.{text_turn}
+use Rattle.rg_admin_laws.proofs.KeptServices.{create_service_kept}
+use Rattle.rg_admin_laws.proofs.Lists.{case, distinct_put, not_true}
+use Rattle.rg_admin_laws.proofs.Passing.{passed_at}
 use Rattle.rg_admin.specs.Puts.{IsPut, IsStarting, is_put, rows_put}
 use Rattle.rg_admin.specs.Reached.{IsPacked}
 use Rattle.rg_admin.specs.Starting.{IsCause, bare_state, last_rules, put_all, put_fault, puts, start_rules}

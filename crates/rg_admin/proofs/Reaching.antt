@@ -16,14 +16,14 @@ use Rattle.rg_cmd.specs.declared.ask.Ask.{Ask}
 use Rattle.rg_cmd.specs.declared.rule.Rule.{Rule}
 use Rattle.rg_cmd.specs.declared.state.State.{State}
 use Rattle.rg_validate.specs.Valid.{IsKept}
-use Rattle.rg_machine.specs.Changes.{after_command}
-use Rattle.rg_machine.specs.Logs.{Administration}
-use Rattle.rg_machine.specs.Starts.{IsStart}
-use Rattle.rg_machine.specs.Steps.{counted, fault, step, step_by}
-use Rattle.rg_machine.specs.Views.{view}
-use Rattle.rg_machine.proofs.Histories.{always_orderly}
-use Rattle.rg_machine.proofs.Lawful.{count_after, service_viewed, start_orderly}
-use Rattle.rg_machine.proofs.Orderly.{IsOrderly}
+use Rattle.rg_admin_laws.specs.Changes.{after_command}
+use Rattle.rg_admin_laws.specs.Logs.{Administration}
+use Rattle.rg_admin_laws.specs.Starts.{IsStart}
+use Rattle.rg_admin_laws.specs.Steps.{counted, fault, step, step_by}
+use Rattle.rg_admin_laws.specs.Views.{view}
+use Rattle.rg_admin_laws.proofs.Histories.{always_orderly}
+use Rattle.rg_admin_laws.proofs.Lawful.{count_after, service_viewed, start_orderly}
+use Rattle.rg_admin_laws.proofs.Orderly.{IsOrderly}
 use Rattle.rg_admin.specs.Reached.{IsPacked, IsReached, Origin}
 use Rattle.rg_admin.specs.Stepped.{IsStep}
 

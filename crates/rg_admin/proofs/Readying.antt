@@ -5,7 +5,7 @@ use Rattle.rg_base.proofs.Lists.{all_holds}
 use Rattle.rg_policy.specs.declared.policy.Policy.{Policy}
 use Rattle.rg_defs.specs.declared.service_def.ServiceDef.{ServiceDef}
 use Rattle.rg_defs.specs.Rules.{def_fault}
-use Rattle.rg_effect.specs.PolicyRules.{type_fits}
+use Rattle.rg_items.specs.PolicyRules.{type_fits}
 use Rattle.rg_resmatch.specs.Rules.{policy_levels_fit, policy_values_fit}
 use Rattle.rg_roles.specs.Faults.{fault_of}
 use Rattle.rg_cmd.specs.declared.ask.AdminCommand.{AdminCommand}
@@ -18,9 +18,9 @@ use Rattle.rg_validate.specs.Rules.{command_rules, first_fault, limit_rules}
 use Rattle.rg_validate.specs.Valid.{IsValid, definition_valid, policy_valid}
 use Rattle.rg_validate.proofs.ValidParts.{none_of}
 use Rattle.rg_delegate.specs.Ready.{Fits, FormFits, IsReady}
-use Rattle.rg_machine.proofs.KeptPolicies.{created_passes, updated_passes}
-use Rattle.rg_machine.proofs.Parts.{policy_parts}
-use Rattle.rg_machine.proofs.Passing.{none_of_both}
+use Rattle.rg_admin_laws.proofs.KeptPolicies.{created_passes, updated_passes}
+use Rattle.rg_admin_laws.proofs.Parts.{policy_parts}
+use Rattle.rg_admin_laws.proofs.Passing.{none_of_both}
 
 -- a valid policy passes V5 and V6
 valid_fits : (s : State) (p : Policy) → policy_valid s p ≡ true → Fits s p

@@ -9,9 +9,9 @@ use Rattle.rg_cmd.specs.Lookups.{def_at, is_of_tag, service_at}
 use Rattle.rg_cmd.specs.declared.changes.Log.{Log}
 use Rattle.rg_cmd.specs.declared.state.ServiceRow.{ServiceRow}
 use Rattle.rg_cmd.specs.declared.state.State.{State}
-use Rattle.rg_machine.specs.Logs.{is_log_of, log_at}
-use Rattle.rg_machine.specs.Views.{facts_of, facts_with, view}
-use Rattle.rg_machine.proofs.Lists.{case}
+use Rattle.rg_admin_laws.specs.Logs.{is_log_of, log_at}
+use Rattle.rg_admin_laws.specs.Views.{facts_of, facts_with, view}
+use Rattle.rg_admin_laws.proofs.Lists.{case}
 use Rattle.rg_admin.specs.Held.{Planned, logs_of}
 
 pub mapped_twice : {X Y Z : Type 0} (f : X → Y) (g : Y → Z) (o : Option X) → option_map (λ x. g (f x)) o ≡ option_map g (option_map f o)

@@ -8,8 +8,8 @@ use Rattle.rg_cmd.specs.declared.ask.AdminCommand.{AdminCommand}
 use Rattle.rg_cmd.specs.declared.ask.AdminCommand.TheVariants.{CreateService, DeleteService}
 use Rattle.rg_cmd.specs.declared.changes.Log.{Log}
 use Rattle.rg_cmd.specs.declared.state.State.{State}
-use Rattle.rg_machine.specs.Logs.{is_log_of, logs_after, touched_log}
-use Rattle.rg_machine.proofs.Lists.{case}
+use Rattle.rg_admin_laws.specs.Logs.{is_log_of, logs_after, touched_log}
+use Rattle.rg_admin_laws.proofs.Lists.{case}
 use Rattle.rg_admin.specs.Held.{Planned, logs_of, plan_for, settled}
 
 -- a plan changes no log

@@ -7,9 +7,9 @@ use Rattle.rg_cmd.specs.declared.ask.Ask.{Ask}
 use Rattle.rg_cmd.specs.declared.changes.Log.{Log}
 use Rattle.rg_cmd.specs.declared.rule.Rule.{Rule}
 use Rattle.rg_cmd.specs.declared.state.State.{State}
-use Rattle.rg_machine.specs.Changes.{after_command}
-use Rattle.rg_machine.specs.Logs.{Administration, logs_after}
-use Rattle.rg_machine.specs.Steps.{accepted, counted, fault, refused, reply_to, step, step_by}
+use Rattle.rg_admin_laws.specs.Changes.{after_command}
+use Rattle.rg_admin_laws.specs.Logs.{Administration, logs_after}
+use Rattle.rg_admin_laws.specs.Steps.{accepted, counted, fault, refused, reply_to, step, step_by}
 use Rattle.rg_admin.specs.Due.{done}
 use Rattle.rg_admin.specs.Held.{Planned, logs_of}
 use Rattle.rg_admin.specs.declared.planning.Due.{Due}

@@ -1,9 +1,9 @@
 -- How the counts of prints follow the policies.
 use Rattle.std.specs.Prelude.{◌≡◌, ℕ, ◌+◌, ◌-◌, List, Option, Some, None, option_map}
 use Rattle.rg_policy.specs.declared.policy.Policy.{Policy}
-use Rattle.rg_twins.specs.Counts.{count_of, times_in}
-use Rattle.rg_twins.specs.Prints.{prints_of}
-use Rattle.rg_twins.specs.declared.prints.Prints.{Prints}
+use Rattle.rg_same_resources.specs.Counts.{count_of, times_in}
+use Rattle.rg_same_resources.specs.Prints.{prints_of}
+use Rattle.rg_same_resources.specs.declared.prints.Prints.{Prints}
 use Rattle.rg_cmd.specs.declared.ask.AdminCommand.{AdminCommand}
 use Rattle.rg_cmd.specs.declared.ask.AdminCommand.TheVariants.{CreatePolicy, UpdatePolicy}
 use Rattle.rg_cmd.specs.declared.state.State.{State}

@@ -1,6 +1,6 @@
 -- What the change under way does to the list of logs.
 use Rattle.std.specs.Prelude.{ℕ, ◌<◌, not, List, [], ◌∷◌, ◌++◌, map, filter}
-use Rattle.rg_machine.specs.Logs.{is_log_of}
+use Rattle.rg_admin_laws.specs.Logs.{is_log_of}
 use Rattle.rg_admin.specs.Held.{Planned, settled}
 use Rattle.rg_admin.specs.declared.planning.Due.{Due}
 use Rattle.rg_admin.specs.declared.planning.Due.TheVariants.{Each, Gains, Loses}

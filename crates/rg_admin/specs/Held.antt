@@ -10,8 +10,8 @@ use Rattle.rg_delta.specs.Logs.{Book}
 use Rattle.rg_delta.specs.Touches.{touched}
 use Rattle.rg_delta.specs.declared.touch.Touch.{Touch}
 use Rattle.rg_delta.specs.declared.touch.Touch.TheVariants.{Leaves}
-use Rattle.rg_machine.specs.Logs.{Administration, policy_book, tag_book, version, written}
-use Rattle.rg_machine.specs.Touches.{policy_touch, tag_touch}
+use Rattle.rg_admin_laws.specs.Logs.{Administration, policy_book, tag_book, version, written}
+use Rattle.rg_admin_laws.specs.Touches.{policy_touch, tag_touch}
 
 -- a log, and what is to be done to its policies and to its tag rows
 pub record Planned : Type 0 where

@@ -9,7 +9,7 @@ use Rattle.rg_cmd.specs.declared.state.ServiceRow.{ServiceRow}
 use Rattle.rg_cmd.specs.declared.state.State.{State}
 use Rattle.rg_cmd.specs.declared.state.UserRow.{UserRow}
 use Rattle.rg_validate.specs.Valid.{IsValid}
-use Rattle.rg_machine.specs.Logs.{version}
+use Rattle.rg_admin_laws.specs.Logs.{version}
 use Rattle.rg_cmd.specs.declared.config.Config.{Config}
 use Rattle.rg_admin.specs.declared.putting.Putting.{Putting}
 use Rattle.rg_admin.specs.Starting.{bare_state, put_all, put_fault, puts, started_state}

@@ -15,9 +15,9 @@ use Rattle.rg_validate.specs.Definitions.{definition_rules, plugin_fits}
 use Rattle.rg_validate.specs.Failing.{Tested, first_failing}
 use Rattle.rg_validate.specs.Rules.{command_rules, service_exists}
 use Rattle.rg_validate.specs.Users.{time_zones_read}
-use Rattle.rg_machine.specs.Changes.{after_command}
-use Rattle.rg_machine.specs.Logs.{Administration, version}
-use Rattle.rg_machine.specs.Starts.{new_logs}
+use Rattle.rg_admin_laws.specs.Changes.{after_command}
+use Rattle.rg_admin_laws.specs.Logs.{Administration, version}
+use Rattle.rg_admin_laws.specs.Starts.{new_logs}
 use Rattle.rg_admin.specs.declared.start.StartFault.{StartFault}
 use Rattle.rg_admin.specs.declared.start.StartFault.TheVariants.{Rule as Breaks, NoMemory}
 

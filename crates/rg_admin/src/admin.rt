@@ -4,11 +4,11 @@ ghost use Rattle.std.specs.List.{list_any};
 ghost use Rattle.std.specs.Str.{chars};
 ghost use Rattle.rg_facts.specs.Sound.{sound};
 ghost use Rattle.rg_cmd.specs.Lookups.{is_service};
-ghost use Rattle.rg_twins.specs.Counts.{IsCounted};
-ghost use Rattle.rg_machine.specs.Changes.{after_command};
-ghost use Rattle.rg_machine.specs.Starts.{IsStart};
-ghost use Rattle.rg_machine.specs.Steps.{counted, fault, step};
-ghost use Rattle.rg_machine.specs.Views.{view};
+ghost use Rattle.rg_same_resources.specs.Counts.{IsCounted};
+ghost use Rattle.rg_admin_laws.specs.Changes.{after_command};
+ghost use Rattle.rg_admin_laws.specs.Starts.{IsStart};
+ghost use Rattle.rg_admin_laws.specs.Steps.{counted, fault, step};
+ghost use Rattle.rg_admin_laws.specs.Views.{view};
 ghost use Rattle.rg_validate.specs.Valid.{IsKept};
 ghost use Rattle.rg_admin.specs.Due.{HasRoom, done};
 ghost use Rattle.rg_admin.specs.Held.{administration_of};
@@ -22,13 +22,13 @@ use crate::logs::ServiceLog;
 use crate::planning::{Due, plan, settle};
 use crate::reply::reply_of;
 use crate::view::view_of;
+use rg_admin_laws::{states_are_kept, views_are_sound};
 use rg_base::NoMemory;
 use rg_cmd::{AdminCommand, AdminReply, Ask, Rule, State};
 use rg_delegate::authority_fault;
 use rg_facts::Facts;
-use rg_machine::{states_are_kept, views_are_sound};
+use rg_same_resources::PrintCounts;
 use rg_turn::Machine;
-use rg_twins::PrintCounts;
 use rg_validate::first_fault;
 use std::alloc::Global;
 use std::marker::Model;
@@ -57,8 +57,8 @@ struct Held {
 }
 
 impl Model for Admin {
-    ghost use Rattle.rg_machine.specs.Logs.{Administration};
-    ghost use Rattle.rg_twins.specs.Counts.{IsCounted};
+    ghost use Rattle.rg_admin_laws.specs.Logs.{Administration};
+    ghost use Rattle.rg_same_resources.specs.Counts.{IsCounted};
     ghost use Rattle.rg_admin.specs.Stepped.{administration_in};
     ghost use Rattle.rg_admin.specs.Reached.{IsReached};
 
@@ -285,7 +285,7 @@ impl Admin {
 }
 
 impl Machine for Admin {
-    ghost use Rattle.rg_machine.specs.Steps.{step};
+    ghost use Rattle.rg_admin_laws.specs.Steps.{step};
 
     type Ask = Ask;
 

@@ -8,7 +8,7 @@ ghost use Rattle.rg_cmd.specs.declared.state.UserRow.{UserRow};
 ghost use Rattle.rg_defs.specs.declared.service_def.ServiceDef.{ServiceDef};
 ghost use Rattle.rg_roles.specs.declared.row.RoleRow.{RoleRow};
 ghost use Rattle.rg_zone_rules.specs.declared.row.ZoneRow.{ZoneRow};
-ghost use Rattle.rg_machine.specs.Changes.{after_command, with_roles_changed};
+ghost use Rattle.rg_admin_laws.specs.Changes.{after_command, with_roles_changed};
 ghost use Rattle.rg_validate.specs.Valid.{IsKept};
 ghost use Rattle.rg_admin.specs.Reached.{IsPacked};
 ghost use Rattle.rg_admin.specs.Tight.{IsTight, IsTightList};

@@ -1,7 +1,7 @@
 // How the counts of prints follow the policies.
 ghost use Rattle.std.specs.Prelude.{◌≡◌, OnErr, OnOk, option_map};
-ghost use Rattle.rg_twins.specs.Counts.{IsSame};
-ghost use Rattle.rg_twins.specs.Prints.{prints_of};
+ghost use Rattle.rg_same_resources.specs.Counts.{IsSame};
+ghost use Rattle.rg_same_resources.specs.Prints.{prints_of};
 ghost use Rattle.rg_validate.specs.Valid.{IsValid};
 ghost use Rattle.rg_admin.specs.Counting.{IsCountedIn, IsCountedOut, policy_brought, shift_of};
 ghost use Rattle.rg_admin.specs.Planning.{policy_named};
@@ -9,7 +9,7 @@ ghost use Rattle.rg_admin.specs.Planning.{policy_named};
 use crate::lookups::policy_named;
 use rg_base::NoMemory;
 use rg_cmd::{AdminCommand, State};
-use rg_twins::{PrintCounts, Prints, prints_of};
+use rg_same_resources::{PrintCounts, Prints, prints_of};
 
 /// The prints that a command brings, and those that it takes away.
 #[derive(Clone, Copy)]

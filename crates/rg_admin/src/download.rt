@@ -4,8 +4,8 @@ ghost use Rattle.std.specs.List.{filter_map, list_any};
 ghost use Rattle.std.specs.Str.{chars};
 ghost use Rattle.std.specs.VecDeque.Iter.{deque_iter_rest};
 ghost use Rattle.rg_base.specs.Listed.{listed};
-ghost use Rattle.rg_machine.specs.Downloads.{download, is_of_zones, policy_change, policy_delta, policy_part, role_part, tag_delta, tag_part};
-ghost use Rattle.rg_machine.specs.Logs.{policy_book, tag_book};
+ghost use Rattle.rg_admin_laws.specs.Downloads.{download, is_of_zones, policy_change, policy_delta, policy_part, role_part, tag_delta, tag_part};
+ghost use Rattle.rg_admin_laws.specs.Logs.{policy_book, tag_book};
 ghost use Rattle.rg_admin.specs.Held.{administration_of};
 
 use crate::logs::ServiceLog;

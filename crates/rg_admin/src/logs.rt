@@ -2,7 +2,7 @@
 ghost use Rattle.std.specs.Prelude.{◌≡◌, IfOk, OnOk};
 ghost use Rattle.rg_delta.specs.declared.touch.Touch.TheVariants.{Leaves};
 ghost use Rattle.rg_admin.specs.Held.{Planned, planned, settled, unplanned};
-ghost use Rattle.rg_machine.specs.Logs.{new_log, policy_book, tag_book};
+ghost use Rattle.rg_admin_laws.specs.Logs.{new_log, policy_book, tag_book};
 
 use rg_base::{NoMemory, Text, TryCopy, Version};
 use rg_cmd::{LogEntry, TagChange};

@@ -4,7 +4,7 @@ ghost use Rattle.std.specs.Ordering.{int_eq};
 ghost use Rattle.rg_base.specs.Texts.{all_distinct};
 ghost use Rattle.rg_cmd.specs.Lookups.{has_id, has_row_id};
 ghost use Rattle.rg_cmd.specs.declared.ask.AdminCommand.TheVariants.{CreatePolicy, DeletePolicy, DeleteTags, PutTags, UpdatePolicy};
-ghost use Rattle.rg_machine.specs.Changes.{after_command, stored_row, version_after};
+ghost use Rattle.rg_admin_laws.specs.Changes.{after_command, stored_row, version_after};
 ghost use Rattle.rg_admin.specs.Tight.{IsTightList};
 ghost use Rattle.rg_policy.specs.declared.policy.Policy.{Policy};
 ghost use Rattle.rg_tags.specs.declared.row.TagRow.{TagRow};

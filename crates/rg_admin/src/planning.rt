@@ -1,6 +1,6 @@
 // How the logs change with a command: copies and room are made first, and what is due then takes no memory.
 ghost use Rattle.std.specs.Prelude.{◌≡◌, ◌<◌, ◌++◌, ◌∷◌, [], IfOk, OnOk, filter, map, not, option_map, vec_capacity, vec_len};
-ghost use Rattle.rg_machine.specs.Logs.{is_log_of, logs_after, new_log, touched_log};
+ghost use Rattle.rg_admin_laws.specs.Logs.{is_log_of, logs_after, new_log, touched_log};
 ghost use Rattle.rg_validate.specs.Valid.{IsValid};
 ghost use Rattle.rg_admin.specs.Due.{HasRoom, done};
 ghost use Rattle.rg_admin.specs.Held.{Planned, logs_of, plan_for, settled, unplanned};

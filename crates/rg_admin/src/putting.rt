@@ -8,7 +8,7 @@ ghost use Rattle.rg_cmd.specs.declared.config.Config.{Config as Configuration};
 ghost use Rattle.rg_validate.specs.Definitions.{service_name_is_new, tag_service_fits};
 ghost use Rattle.rg_validate.specs.Failing.{first_failing};
 ghost use Rattle.rg_validate.specs.Rules.{command_rules};
-ghost use Rattle.rg_machine.specs.Changes.{after_command};
+ghost use Rattle.rg_admin_laws.specs.Changes.{after_command};
 ghost use Rattle.rg_admin.specs.Puts.{IsPutting};
 ghost use Rattle.rg_admin.specs.Starting.{IsCause, bare_state, start_rules};
 
@@ -71,7 +71,7 @@ pub(crate) trait Configured {
     ghost use Rattle.std.specs.Prelude.{◌≡◌, IfErr, None, OnOk};
     ghost use Rattle.rg_cmd.specs.declared.ask.AdminCommand.{AdminCommand as Commands};
     ghost use Rattle.rg_validate.specs.Failing.{first_failing};
-    ghost use Rattle.rg_machine.specs.Changes.{after_command};
+    ghost use Rattle.rg_admin_laws.specs.Changes.{after_command};
     ghost use Rattle.rg_admin.specs.Puts.{IsPutting};
     ghost use Rattle.rg_admin.specs.Starting.{IsCause, start_rules};
 

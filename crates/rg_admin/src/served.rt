@@ -3,9 +3,9 @@ ghost use Rattle.std.specs.Prelude.{◌≡◌, IfOk, IfSome, Some, filter, optio
 ghost use Rattle.std.specs.Str.{chars};
 ghost use Rattle.rg_base.specs.Listed.{listed};
 ghost use Rattle.rg_cmd.specs.Lookups.{def_at, is_of, is_row_of, service_at, tag_service_of};
-ghost use Rattle.rg_machine.specs.Downloads.{policy_whole, role_whole, tag_whole};
-ghost use Rattle.rg_machine.specs.Logs.{log_at};
-ghost use Rattle.rg_machine.specs.Views.{tag_def_of, tag_policies_of, view};
+ghost use Rattle.rg_admin_laws.specs.Downloads.{policy_whole, role_whole, tag_whole};
+ghost use Rattle.rg_admin_laws.specs.Logs.{log_at};
+ghost use Rattle.rg_admin_laws.specs.Views.{tag_def_of, tag_policies_of, view};
 ghost use Rattle.rg_admin.specs.Held.{administration_of, logs_of};
 
 use crate::logs::ServiceLog;
@@ -32,7 +32,7 @@ pub(crate) struct Served<'a> {
 impl<'a> Model for Served<'a> {
     ghost use Rattle.std.specs.Prelude.{◌≡◌};
     ghost use Rattle.std.specs.Str.{chars};
-    ghost use Rattle.rg_machine.specs.Views.{facts_of};
+    ghost use Rattle.rg_admin_laws.specs.Views.{facts_of};
     ghost use Rattle.rg_admin.specs.Served.{Served as Seen};
 
     ghost Value = { Seen };

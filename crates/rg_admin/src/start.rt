@@ -4,7 +4,7 @@ ghost use Rattle.std.specs.Str.{bytes_eq};
 ghost use Rattle.rg_defs.specs.Rules.{tag_name};
 ghost use Rattle.rg_cmd.specs.declared.state.ServiceRow.{ServiceRow as Row};
 ghost use Rattle.rg_validate.specs.Failing.{first_failing};
-ghost use Rattle.rg_machine.specs.Starts.{IsStart, new_logs};
+ghost use Rattle.rg_admin_laws.specs.Starts.{IsStart, new_logs};
 ghost use Rattle.rg_admin.specs.Held.{logs_of};
 ghost use Rattle.rg_admin.specs.Puts.{IsPut, IsPutWhole, IsPutting, rows_put};
 ghost use Rattle.rg_admin.specs.Reached.{IsPacked};
@@ -17,7 +17,7 @@ use crate::putting::{Configured, Putting, bare_state, nothing_put};
 use rg_base::{NoMemory, Seq, same_text};
 use rg_cmd::{Config, Rule, ServiceRow, State, UserRow};
 use rg_defs::{ServiceDef, tag_name};
-use rg_twins::PrintCounts;
+use rg_same_resources::PrintCounts;
 use rg_validate::{plugin_fits, service_exists, time_zones_read};
 use std::alloc::Global;
 

@@ -3,8 +3,8 @@ ghost use Rattle.std.specs.Prelude.{◌≡◌, IfOk, option_and_then, option_map
 ghost use Rattle.rg_cmd.specs.Lookups.{service_at, tag_service_in};
 ghost use Rattle.rg_cmd.specs.declared.changes.LogEntry.TheVariants.{Policy as OfPolicy};
 ghost use Rattle.rg_delta.specs.declared.touch.Touch.TheVariants.{Notes};
-ghost use Rattle.rg_machine.specs.Changes.{stored_row, version_after};
-ghost use Rattle.rg_machine.specs.Touches.{policy_touch, put_type, restarts_if, row_touch_of, row_touch_of_old, tag_touch, touch_of, touch_of_old};
+ghost use Rattle.rg_admin_laws.specs.Changes.{stored_row, version_after};
+ghost use Rattle.rg_admin_laws.specs.Touches.{policy_touch, put_type, restarts_if, row_touch_of, row_touch_of_old, tag_touch, touch_of, touch_of_old};
 ghost use Rattle.rg_validate.specs.Valid.{IsValid};
 ghost use Rattle.rg_admin.specs.Planning.{policy_named, tag_row_named};
 

@@ -1,7 +1,7 @@
 // What a service's plugin sees.
 ghost use Rattle.std.specs.Prelude.{◌≡◌, IfOk};
 ghost use Rattle.std.specs.Str.{chars};
-ghost use Rattle.rg_machine.specs.Views.{view};
+ghost use Rattle.rg_admin_laws.specs.Views.{view};
 ghost use Rattle.rg_admin.specs.Held.{administration_of};
 
 use crate::logs::ServiceLog;

@@ -15,28 +15,28 @@ use Rattle.rg_cmd.specs.declared.ask.AdminReply.{AdminReply}
 use Rattle.rg_cmd.specs.declared.ask.Ask.{Ask}
 use Rattle.rg_cmd.specs.declared.config.Config.{Config}
 use Rattle.rg_cmd.specs.declared.rule.Rule.{Rule}
-use Rattle.rg_machine.specs.Logs.{Administration}
-use Rattle.rg_machine.specs.Starts.{IsStart}
-use Rattle.rg_machine.specs.Steps.{step}
-use Rattle.rg_machine.specs.Views.{view}
+use Rattle.rg_admin_laws.specs.Logs.{Administration}
+use Rattle.rg_admin_laws.specs.Starts.{IsStart}
+use Rattle.rg_admin_laws.specs.Steps.{step}
+use Rattle.rg_admin_laws.specs.Views.{view}
 use Rattle.rg_admin.specs.Starting.{start_fault, started}
 use Rattle.rg_publish.specs.Passes.{decision_of}
 use Rattle.rg_publish.specs.Publications.{publication}
 use Rattle.rg_publish.specs.declared.history.Publication.{Publication}
 use Rattle.rg_policy.specs.declared.request.AccessRequest.{AccessRequest}
-use Rattle.rg_replay.specs.Running.{Running, newest, opened_unless, refresh_publishes, running, with_next}
+use Rattle.rg_run_replay.specs.Running.{Running, newest, opened_unless, refresh_publishes, running, with_next}
 use Rattle.rg_script.specs.declared.cause.Cause.{Cause}
 use Rattle.rg_script.specs.declared.cause.Cause.TheVariants.{OutOfPlace, Refused, Unsound}
 use Rattle.rg_script.specs.declared.line.Line.{Line}
 use Rattle.rg_script.specs.declared.line.Line.TheVariants as line
 use Rattle.rg_script.specs.Causes.{cause_from, cause_of}
 use Rattle.rg_script.specs.Line.{line_of, line_read}
-use Rattle.rg_sound.specs.Causes.{first_cause}
-use Rattle.rg_sound.specs.declared.unsound.Unsound.{Unsound as Unsoundness}
-use Rattle.rg_replay.specs.declared.replay.Stage.TheVariants as state
-use Rattle.rg_work.specs.Follow.{Work}
-use Rattle.rg_replay.specs.Replay.{State, admin_work, config_work, decide_work, facts_work, line_work, published_facts, refresh_work, refreshed_from, replay_step}
-use Rattle.rg_work.specs.Printed.{deciding, quiet}
+use Rattle.rg_facts_check.specs.Causes.{first_cause}
+use Rattle.rg_facts_check.specs.declared.unsound.Unsound.{Unsound as Unsoundness}
+use Rattle.rg_run_replay.specs.declared.replay.Stage.TheVariants as state
+use Rattle.rg_run_script.specs.Follow.{Work}
+use Rattle.rg_run_replay.specs.Replay.{State, admin_work, config_work, decide_work, facts_work, line_work, published_facts, refresh_work, refreshed_from, replay_step}
+use Rattle.rg_run_script.specs.Printed.{deciding, quiet}
 use Rattle.rg_check.specs.Causes.{cause_text}
 use Rattle.rg_check.specs.Checking.{finding, found, kind_at, place_of}
 use Rattle.rg_check.specs.Kinds.{kind_of, place_after}

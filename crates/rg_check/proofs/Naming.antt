@@ -2,8 +2,8 @@
 use Rattle.std.proofs.Common.{◌≡◌, ◌+◌, ◌∙◌, ◌++◌, ◌∷◌, [], ℕ, List, Option, Some, None, option_map, append_assoc, refl, ap, sym, subst}
 use Rattle.std.specs.Option.{option_map_or}
 use Rattle.rg_base.specs.declared.numbers.Moment.{Moment}
-use Rattle.rg_work.specs.Follow.{Decided, Output, Work, bad_line_text, before, ends_bad, worked}
-use Rattle.rg_replay.specs.Replay.{State, replay_step}
+use Rattle.rg_run_script.specs.Follow.{Decided, Output, Work, bad_line_text, before, ends_bad, worked}
+use Rattle.rg_run_replay.specs.Replay.{State, replay_step}
 use Rattle.rg_check.specs.Checking.{Finding, finding, found, reason}
 use Rattle.rg_check.specs.Naming.{EndsAtFirst}
 use Rattle.rg_check.proofs.Walks.{none_some, some_same}

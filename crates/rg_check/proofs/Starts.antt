@@ -10,8 +10,8 @@ use Rattle.rg_cmd.specs.declared.ask.AdminCommand.TheVariants.{CreateService, Pu
 use Rattle.rg_cmd.specs.declared.config.Config.{Config}
 use Rattle.rg_cmd.specs.declared.state.State.{State}
 use Rattle.rg_validate.specs.Failing.{first_failing}
-use Rattle.rg_machine.specs.Changes.{after_command}
-use Rattle.rg_machine.specs.Starts.{IsStart}
+use Rattle.rg_admin_laws.specs.Changes.{after_command}
+use Rattle.rg_admin_laws.specs.Starts.{IsStart}
 use Rattle.rg_admin.specs.Puts.{IsStarting, is_put}
 use Rattle.rg_admin.specs.Starting.{bare_state, last_rules, put_all, put_fault, puts, start_fault, start_rules, started, started_state, tag_services_first}
 use Rattle.rg_admin.proofs.PutRows.{bare_starts, is_start, put_starts, same_rules}

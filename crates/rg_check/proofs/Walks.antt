@@ -8,14 +8,14 @@ use Rattle.rg_base.specs.declared.numbers.Moment.{Moment}
 use Rattle.rg_script.specs.declared.cause.Cause.{Cause}
 use Rattle.rg_script.specs.Causes.{cause_of}
 use Rattle.rg_script.specs.Lines.{begins_with_feed, lines_of, onto}
-use Rattle.rg_replay.specs.declared.replay.Stage.TheVariants.{Empty}
-use Rattle.rg_work.specs.declared.status.Status.{Status}
-use Rattle.rg_work.specs.declared.status.Status.TheVariants.{Done, Usage, BadLine, ReadFault, WriteFault, NetFault, TooLong, KeepFault, NoMemory, BadRecord}
-use Rattle.rg_work.specs.Follow.{Output, Script, before, worked}
-use Rattle.rg_work.specs.Limits.{is_too_long, limit}
-use Rattle.rg_work.specs.Ports.{Ports}
-use Rattle.rg_work.specs.Runs.{EndsIn, Follows, IsRun, OfStatus, Stands}
-use Rattle.rg_work.specs.Streams.{Wrote, WrotePrefix}
+use Rattle.rg_run_replay.specs.declared.replay.Stage.TheVariants.{Empty}
+use Rattle.rg_run_script.specs.declared.status.Status.{Status}
+use Rattle.rg_run_script.specs.declared.status.Status.TheVariants.{Done, Usage, BadLine, ReadFault, WriteFault, NetFault, TooLong, KeepFault, NoMemory, BadRecord}
+use Rattle.rg_run_script.specs.Follow.{Output, Script, before, worked}
+use Rattle.rg_run_script.specs.Limits.{is_too_long, limit}
+use Rattle.rg_run_script.specs.Ports.{Ports}
+use Rattle.rg_run_script.specs.Runs.{EndsIn, Follows, IsRun, OfStatus, Stands}
+use Rattle.rg_run_script.specs.Streams.{Wrote, WrotePrefix}
 use Rattle.rg_check.specs.declared.checker.Checker.{Checker}
 use Rattle.rg_check.specs.declared.kind.LineKind.{LineKind}
 use Rattle.rg_check.specs.Causes.{cause_text}

@@ -15,8 +15,8 @@ use Rattle.rg_script.specs.declared.cause.Cause.{Cause}
 use Rattle.rg_script.specs.declared.cause.Cause.TheVariants as cause
 use Rattle.rg_script.specs.declared.cause.Place.{Place}
 use Rattle.rg_script.specs.declared.cause.Place.TheVariants as place
-use Rattle.rg_sound.specs.declared.unsound.Unsound.{Unsound}
-use Rattle.rg_sound.specs.declared.unsound.Unsound.TheVariants as unsound
+use Rattle.rg_facts_check.specs.declared.unsound.Unsound.{Unsound}
+use Rattle.rg_facts_check.specs.declared.unsound.Unsound.TheVariants as unsound
 use Rattle.rg_validate.specs.Definitions.{definition_rule}
 use Rattle.rg_check.specs.declared.kind.LineKind.{LineKind}
 use Rattle.rg_check.specs.declared.kind.LineKind.TheVariants as kind

@@ -6,11 +6,11 @@ use Rattle.rg_script.specs.declared.cause.Place.{Place}
 use Rattle.rg_script.specs.declared.cause.Place.TheVariants as place
 use Rattle.rg_script.specs.Causes.{cause_of}
 use Rattle.rg_script.specs.Line.{line_of}
-use Rattle.rg_replay.specs.declared.replay.Stage.TheVariants as state
-use Rattle.rg_work.specs.declared.status.Status.{Status}
-use Rattle.rg_work.specs.declared.status.Status.TheVariants.{Done, BadLine}
-use Rattle.rg_work.specs.Follow.{Output, Script, Work}
-use Rattle.rg_replay.specs.Replay.{State, replay_step}
+use Rattle.rg_run_replay.specs.declared.replay.Stage.TheVariants as state
+use Rattle.rg_run_script.specs.declared.status.Status.{Status}
+use Rattle.rg_run_script.specs.declared.status.Status.TheVariants.{Done, BadLine}
+use Rattle.rg_run_script.specs.Follow.{Output, Script, Work}
+use Rattle.rg_run_replay.specs.Replay.{State, replay_step}
 use Rattle.rg_check.specs.declared.kind.LineKind.{LineKind}
 use Rattle.rg_check.specs.Causes.{cause_text}
 use Rattle.rg_check.specs.Kinds.{kind_of}

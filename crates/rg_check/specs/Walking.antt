@@ -6,9 +6,9 @@ use Rattle.rg_script.specs.declared.cause.Cause.{Cause}
 use Rattle.rg_script.specs.declared.cause.Place.{Place}
 use Rattle.rg_script.specs.declared.cause.Place.TheVariants.{Start}
 use Rattle.rg_script.specs.Causes.{cause_of}
-use Rattle.rg_work.specs.declared.status.Status.{Status}
-use Rattle.rg_work.specs.declared.status.Status.TheVariants.{Done, BadLine}
-use Rattle.rg_work.specs.Follow.{Work}
+use Rattle.rg_run_script.specs.declared.status.Status.{Status}
+use Rattle.rg_run_script.specs.declared.status.Status.TheVariants.{Done, BadLine}
+use Rattle.rg_run_script.specs.Follow.{Work}
 use Rattle.rg_check.specs.declared.checker.Checker.{Checker}
 use Rattle.rg_check.specs.declared.kind.LineKind.{LineKind}
 use Rattle.rg_check.specs.Causes.{cause_text}

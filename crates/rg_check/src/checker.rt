@@ -1,6 +1,6 @@
 // A script that is checked line by line.
 ghost use Rattle.std.specs.Prelude.{◌≡◌, ◌++◌, IfOk, OnOk, string_bytes};
-ghost use Rattle.rg_work.specs.Follow.{IsWorked};
+ghost use Rattle.rg_run_script.specs.Follow.{IsWorked};
 ghost use Rattle.rg_check.specs.Causes.{cause_text};
 ghost use Rattle.rg_check.specs.Checking.{finding_line, kind_at};
 ghost use Rattle.rg_check.specs.Walking.{check_step};
@@ -8,8 +8,8 @@ ghost use Rattle.rg_check.specs.Walking.{check_step};
 use crate::kind::place_after;
 use crate::words::cause_words;
 use rg_base::{Moment, NoMemory};
+use rg_run_script::Worker;
 use rg_script::{Cause, LineFault, Place, explain_line};
-use rg_work::Worker;
 use std::alloc::Global;
 
 /// How far a script is checked.

@@ -1,9 +1,9 @@
 // What `replay` makes of a script whose bad lines are named.
 ghost use Rattle.std.specs.Prelude.{◌≡◌, ◌++◌, ℕ, List, Some};
 ghost use Rattle.rg_base.specs.declared.numbers.Moment.{Moment};
-ghost use Rattle.rg_replay.specs.declared.replay.Stage.TheVariants.{Empty};
-ghost use Rattle.rg_work.specs.Follow.{Output};
-ghost use Rattle.rg_replay.specs.Replay.{State, replayed};
+ghost use Rattle.rg_run_replay.specs.declared.replay.Stage.TheVariants.{Empty};
+ghost use Rattle.rg_run_script.specs.Follow.{Output};
+ghost use Rattle.rg_run_replay.specs.Replay.{State, replayed};
 ghost use Rattle.rg_check.specs.Checking.{found};
 ghost use Rattle.rg_check.specs.Naming.{EndsAtFirst};
 

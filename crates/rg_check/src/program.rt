@@ -1,18 +1,18 @@
 // From the bytes of a script to the text that names its bad lines.
 ghost use Rattle.std.specs.Prelude.{◌≡◌};
 ghost use Rattle.std.specs.Process.{exit_status};
-ghost use Rattle.rg_work.specs.Ports.{ports};
-ghost use Rattle.rg_work.specs.Runs.{IsRun, OfStatus, Stands};
+ghost use Rattle.rg_run_script.specs.Ports.{ports};
+ghost use Rattle.rg_run_script.specs.Runs.{IsRun, OfStatus, Stands};
 ghost use Rattle.rg_check.specs.Checking.{checked};
 ghost use Rattle.rg_check.specs.Ends.{IsEnd};
 ghost use Rattle.rg_check.specs.Walking.{ended_by};
 
 use crate::checker::Checker;
-use rg_machine::plugin_is_always_viewed;
+use rg_admin_laws::plugin_is_always_viewed;
+use rg_facts_check::sound_without_cause;
 use rg_ports::{Clock, Sink, Source, StdSink, StdSource, WallClock};
+use rg_run_script::{Status, work_script};
 use rg_script::Place;
-use rg_sound::sound_without_cause;
-use rg_work::{Status, work_script};
 use rg_zones::zones_apart_by_pairs;
 use std::alloc::Global;
 use std::process::ExitCode;

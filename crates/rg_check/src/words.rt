@@ -12,9 +12,9 @@ use crate::meanings::meaning;
 use crate::spelling::spelled;
 use rg_base::{Moment, NoMemory, PolicyId, Text, is_empty};
 use rg_cmd::Rule;
+use rg_facts_check::Unsound;
 use rg_roles::RoleFault;
 use rg_script::{Cause, Place};
-use rg_sound::Unsound;
 use rg_wire::WireKind;
 use std::alloc::Global;
 

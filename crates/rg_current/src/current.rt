@@ -5,7 +5,7 @@ ghost use Rattle.rg_current.specs.Current.{decision_now};
 use rg_admin::Admin;
 use rg_base::{NoMemory, Serial};
 use rg_facts::Decision;
-use rg_plain::Plain;
+use rg_plain_engine::Plain;
 use rg_policy::AccessRequest;
 use std::alloc::Global;
 

@@ -13,7 +13,7 @@ use Rattle.rg_cmd.specs.declared.state.ServiceRow.{ServiceRow}
 use Rattle.rg_cmd.specs.declared.state.State.{State}
 use Rattle.rg_defs.specs.Rules.{def_fault}
 use Rattle.rg_defs.specs.declared.service_def.ServiceDef.{ServiceDef}
-use Rattle.rg_effect.specs.Accesses.{any_grants}
+use Rattle.rg_items.specs.Accesses.{any_grants}
 use Rattle.rg_policy.specs.declared.policy.Item.{Item}
 use Rattle.rg_policy.specs.declared.policy.Policy.{Policy}
 use Rattle.rg_policy.specs.Kinds.{access_policy}

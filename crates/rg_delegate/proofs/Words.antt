@@ -4,7 +4,7 @@ use Rattle.std.specs.Prelude.{codes}
 use Rattle.std.specs.Str.{chars}
 use Rattle.rg_resmatch.specs.Tests.{star}
 use Rattle.rg_roles.specs.Members.{everybody}
-use Rattle.rg_effect.specs.Subjects.{user_word, owner_word}
+use Rattle.rg_items.specs.Subjects.{user_word, owner_word}
 
 pub star_chars : chars (codes "*") ≡ star
 unfolding chars

@@ -7,8 +7,8 @@ use Rattle.std.specs.Str.{bytes_eq}
 use Rattle.rg_base.specs.Texts.{is_among, is_empty}
 use Rattle.rg_cmd.specs.declared.state.State.{State}
 use Rattle.rg_defs.specs.declared.service_def.ServiceDef.{ServiceDef}
-use Rattle.rg_effect.specs.Accesses.{any_grants}
-use Rattle.rg_effect.specs.Subjects.{Subjects, names, owner_word, user_word}
+use Rattle.rg_items.specs.Accesses.{any_grants}
+use Rattle.rg_items.specs.Subjects.{Subjects, names, owner_word, user_word}
 use Rattle.rg_policy.specs.declared.policy.Item.{Item}
 use Rattle.rg_policy.specs.declared.policy.Policy.{Policy}
 use Rattle.rg_policy.specs.Kinds.{access_policy}

@@ -4,14 +4,14 @@ ghost use Rattle.std.specs.List.{list_all, list_any};
 ghost use Rattle.std.specs.Str.{chars};
 ghost use Rattle.rg_defs.specs.Rules.{def_fault};
 ghost use Rattle.rg_defs.specs.declared.service_def.AccessType.{AccessType};
-ghost use Rattle.rg_effect.specs.Accesses.{any_grants};
+ghost use Rattle.rg_items.specs.Accesses.{any_grants};
 ghost use Rattle.rg_policy.specs.declared.policy.AccessEntry.{AccessEntry};
 ghost use Rattle.rg_policy.specs.declared.policy.Item.{Item};
 ghost use Rattle.rg_delegate.specs.Accesses.{accesses, all_accesses, is_for_all, is_none_named, item_accesses, named_accesses};
 ghost use Rattle.rg_delegate.specs.Found.{is_wanted};
 
 use rg_defs::{AccessType, ServiceDef};
-use rg_effect::any_grants;
+use rg_items::any_grants;
 use rg_policy::{AccessEntry, Item, Policy, item_lists};
 
 // ---- whether there is one

@@ -18,7 +18,7 @@ use crate::lookups::{def_for, zone_at};
 use rg_base::{NoMemory, is_among, is_empty};
 use rg_cmd::State;
 use rg_defs::ServiceDef;
-use rg_effect::Subjects;
+use rg_items::Subjects;
 use rg_policy::Policy;
 use rg_zone_rules::Subjects as ZoneSubjects;
 use std::alloc::Global;

@@ -20,7 +20,7 @@ use crate::covering::maps_cover;
 use crate::reading::{ReadMap, read_maps};
 use rg_base::{NoMemory, same_text};
 use rg_defs::ServiceDef;
-use rg_effect::Subjects;
+use rg_items::Subjects;
 use rg_policy::{ACCESS_POLICY, Item, Policy};
 use std::alloc::Global;
 use std::marker::Model;

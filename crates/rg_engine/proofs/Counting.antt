@@ -21,7 +21,7 @@ use Rattle.rg_facts.specs.Candidates.{frame_of}
 use Rattle.rg_facts.specs.declared.facts.Facts.{Facts}
 use Rattle.rg_index.specs.Filing.{pairs}
 use Rattle.rg_index.specs.declared.form.Form.{Form}
-use Rattle.rg_compiled.specs.Bounds.{WorkWithin, is_on, made, made_on, pairs_of_change, pairs_on, pairs_under, policy_form, policy_forms, row_form, row_forms, row_pairs}
+use Rattle.rg_policy_sets.specs.Bounds.{WorkWithin, is_on, made, made_on, pairs_of_change, pairs_on, pairs_under, policy_form, policy_forms, row_form, row_forms, row_pairs}
 use Rattle.rg_engine.specs.Bounds.{TriesWithin, pairs_in, pairs_of_changes, pairs_of_policy_changes, pairs_of_row_changes, policies_in}
 use Rattle.rg_engine.specs.Parts.{Compiled, compiled_of, tag_pairs}
 

@@ -29,7 +29,7 @@ use Rattle.rg_facts.specs.Sound.{all_policies, same_id}
 use Rattle.rg_facts.specs.declared.best.Pass.TheVariants.{All}
 use Rattle.rg_facts.specs.declared.facts.Facts.{Facts}
 use Rattle.rg_facts.proofs.Passes.{after_both}
-use Rattle.rg_compiled.specs.Seen.{Policies, RowSource, source}
+use Rattle.rg_policy_sets.specs.Seen.{Policies, RowSource, source}
 use Rattle.rg_engine.specs.Asked.{Finds, all_for, all_tagged, reaching_tags}
 use Rattle.rg_engine.proofs.Apart.{same_is_one}
 

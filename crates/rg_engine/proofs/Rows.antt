@@ -13,7 +13,7 @@ use Rattle.rg_tags.specs.declared.row.TagRow.{TagRow}
 use Rattle.rg_facts.specs.Candidates.{row_lies, tags_of}
 use Rattle.rg_facts.specs.Engines.{row_matching}
 use Rattle.rg_facts.specs.declared.facts.Facts.{Facts}
-use Rattle.rg_compiled.specs.Seen.{RowSource, row_source}
+use Rattle.rg_policy_sets.specs.Seen.{RowSource, row_source}
 use Rattle.rg_engine.specs.Asked.{reaching_tags}
 use Rattle.rg_engine.proofs.Apart.{sum_alike, sum_of_all, sum_of_some}
 

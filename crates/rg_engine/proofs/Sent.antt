@@ -19,7 +19,7 @@ use Rattle.rg_evalr.proofs.frame.Frame.TheSendSync as frame
 use Rattle.rg_facts.proofs.facts.Facts.TheSendSync as facts
 use Rattle.rg_index.proofs.Sent.{index_send, index_sync}
 use Rattle.rg_roles.proofs.membership.Roles.TheSendSync as roles
-use Rattle.rg_compiled.proofs.Sent.{policies_send, policies_sync, rows_send, rows_sync}
+use Rattle.rg_policy_sets.proofs.Sent.{policies_send, policies_sync, rows_send, rows_sync}
 use Rattle.rg_engine.proofs.lists.Spares.TheSendSync as spares
 use Rattle.rg_engine.proofs.setup.Versions.TheSendSync as versions
 

@@ -16,8 +16,8 @@ use Rattle.rg_facts.specs.Best.{Best, none_yet}
 use Rattle.rg_facts.specs.Candidates.{Candidate, Setting, candidate, frame_of, resource_candidates, row_lies, tag_candidates, tags_of, takes_part}
 use Rattle.rg_facts.specs.declared.facts.Facts.{Facts}
 use Rattle.rg_index.specs.Candidates.{bound}
-use Rattle.rg_compiled.specs.Bounds.{policy_forms, row_forms}
-use Rattle.rg_compiled.specs.Seen.{Policies, RowSource, Rows, row_source}
+use Rattle.rg_policy_sets.specs.Bounds.{policy_forms, row_forms}
+use Rattle.rg_policy_sets.specs.Seen.{Policies, RowSource, Rows, row_source}
 use Rattle.rg_engine.specs.Asked.{Finds, all_for, all_tagged, reaching_tags, tag_tries}
 use Rattle.rg_engine.specs.Bounds.{TriesWithin, bound_on, tag_bound, tag_element}
 use Rattle.rg_engine.specs.Parts.{IsTagSet, row_set, tag_set}

@@ -11,8 +11,8 @@ use Rattle.rg_facts.specs.Candidates.{Candidate, Setting, candidate, takes_part}
 use Rattle.rg_facts.specs.Laws.{HaveSame}
 use Rattle.rg_facts.specs.declared.best.Pass.TheVariants.{All}
 use Rattle.rg_index.specs.Candidates.{bound}
-use Rattle.rg_compiled.specs.Bounds.{policy_forms}
-use Rattle.rg_compiled.specs.Seen.{Policies, RowSource}
+use Rattle.rg_policy_sets.specs.Bounds.{policy_forms}
+use Rattle.rg_policy_sets.specs.Seen.{Policies, RowSource}
 use Rattle.rg_engine.specs.Bounds.{tag_element}
 
 -- each policy of a side, asked for the tag

@@ -18,8 +18,8 @@ use Rattle.rg_delta.specs.Applied.{policies_after, rows_after, tag_policies_afte
 use Rattle.rg_facts.specs.Candidates.{frame_of}
 use Rattle.rg_facts.specs.Sound.{passes, row_ids, same_id}
 use Rattle.rg_facts.specs.declared.facts.Facts.{Facts}
-use Rattle.rg_compiled.specs.Bounds.{pairs_on}
-use Rattle.rg_compiled.specs.Seen.{Policies, Rows}
+use Rattle.rg_policy_sets.specs.Bounds.{pairs_on}
+use Rattle.rg_policy_sets.specs.Seen.{Policies, Rows}
 use Rattle.rg_engine.specs.declared.lists.Lists.{Lists}
 use Rattle.rg_engine.specs.declared.lists.Spares.{Spares}
 use Rattle.rg_engine.specs.declared.setup.Versions.{Versions}

@@ -9,14 +9,14 @@ ghost use Rattle.rg_facts.specs.Best.{after};
 ghost use Rattle.rg_facts.specs.Engines.{asked_for};
 ghost use Rattle.rg_facts.specs.declared.best.Pass.TheVariants as Pass;
 ghost use Rattle.rg_index.specs.Candidates.{bound};
-ghost use Rattle.rg_compiled.specs.Bounds.{policy_forms};
+ghost use Rattle.rg_policy_sets.specs.Bounds.{policy_forms};
 ghost use Rattle.rg_engine.specs.Asked.{Finds, all_for, all_tagged, reaching_tags, tag_tries};
 ghost use Rattle.rg_engine.specs.Bounds.{TriesWithin};
 
 use rg_base::{Ledger, Steps};
-use rg_compiled::{CompiledRow, PolicySet, RowVisits, Visits};
 use rg_facts::{Best, Candidate, Pass, Setting};
 use rg_policy::{Resource, Tag};
+use rg_policy_sets::{CompiledRow, PolicySet, RowVisits, Visits};
 
 /// What is found after these policies were asked for the tag.
 fn ask_visited<'a, L: Ledger>(

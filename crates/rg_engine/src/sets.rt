@@ -12,7 +12,7 @@ ghost use Rattle.rg_facts.specs.Candidates.{candidates, frame_of, tag_candidates
 ghost use Rattle.rg_facts.specs.Sound.{passes, same_id};
 ghost use Rattle.rg_facts.specs.declared.facts.Facts.{Facts};
 ghost use Rattle.rg_index.specs.Candidates.{bound};
-ghost use Rattle.rg_compiled.specs.Bounds.{WorkWithin, made, made_on, pairs_on, pairs_under, policy_forms, row_forms, row_pairs};
+ghost use Rattle.rg_policy_sets.specs.Bounds.{WorkWithin, made, made_on, pairs_on, pairs_under, policy_forms, row_forms, row_pairs};
 ghost use Rattle.rg_engine.specs.Asked.{Finds, tag_tries};
 ghost use Rattle.rg_engine.specs.Bounds.{TriesWithin, bound_on, pairs_in, policies_in, tag_bound};
 ghost use Rattle.rg_engine.specs.Parts.{IsTagSet, MayCompile, compiled_after, compiled_of, lists_of, row_set, tag_pairs, tag_policies_of, tag_set};
@@ -21,10 +21,10 @@ use crate::asking::{ask_policies, ask_rows};
 use crate::lists::{Lists, Spares, with_spare};
 use rg_base::{Ledger, NoMemory, Seq, Steps};
 use rg_cmd::{PolicyChange, TagChange};
-use rg_compiled::{PolicySet, RowSet};
 use rg_evalr::{Frame, Side};
 use rg_facts::{Best, Facts, Setting};
 use rg_policy::{Policy, Resource};
+use rg_policy_sets::{PolicySet, RowSet};
 use std::alloc::Global;
 use std::marker::Model;
 

@@ -9,7 +9,7 @@ use Rattle.rg_base.specs.Texts.{is_among}
 use Rattle.rg_policy.specs.declared.policy.AccessEntry.{AccessEntry}
 use Rattle.rg_defs.specs.Grants.{expand, grants}
 use Rattle.rg_defs.specs.declared.service_def.ServiceDef.{ServiceDef}
-use Rattle.rg_effect.specs.Accesses.{any_grants, entry_grants}
+use Rattle.rg_items.specs.Accesses.{any_grants, entry_grants}
 use Rattle.rg_evalr.specs.Frames.{def_of, requested_access}
 use Rattle.rg_evalr.specs.Granted.{all_granted, granted, granted_by, of_component, past_component}
 use Rattle.rg_evalr.specs.declared.frame.Frame.{Frame}

@@ -9,7 +9,7 @@ use Rattle.rg_policy.specs.declared.policy.ScheduleText.{ScheduleText}
 use Rattle.rg_cond.specs.Conditions.{rule_holds}
 use Rattle.rg_cond.specs.Kinds.{rule_of}
 use Rattle.rg_cond.specs.Spans.{contains, span_of}
-use Rattle.rg_effect.specs.Subjects.{names_asker}
+use Rattle.rg_items.specs.Subjects.{names_asker}
 use Rattle.rg_evalr.proofs.GrantedTexts.{granted_is}
 use Rattle.rg_evalr.specs.Compiled.{compiled_item, compiled_matches, rules_hold}
 use Rattle.rg_evalr.specs.Effects.{is_scheduled, is_valid}

@@ -7,7 +7,7 @@ use Rattle.rg_policy.specs.declared.policy.Item.{Item}
 use Rattle.rg_policy.specs.declared.policy.Policy.{Policy}
 use Rattle.rg_cond.specs.PolicyRules.{all_compile, conditions_compile, schedules_read}
 use Rattle.rg_resmatch.specs.Rules.{policy_levels_fit, policy_values_fit}
-use Rattle.rg_effect.specs.PolicyRules.{entries_fit, lists_fit, outcomes_fit, priority_fits, type_fits}
+use Rattle.rg_items.specs.PolicyRules.{entries_fit, lists_fit, outcomes_fit, priority_fits, type_fits}
 use Rattle.rg_evalr.specs.Compiling.{policy_fault, policy_rules}
 use Rattle.rg_evalr.specs.Frames.{def_of}
 use Rattle.rg_evalr.specs.declared.frame.Frame.{Frame}

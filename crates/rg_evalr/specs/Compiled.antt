@@ -13,7 +13,7 @@ use Rattle.rg_cond.specs.Kinds.{rule_of}
 use Rattle.rg_cond.specs.Spans.{span_of}
 use Rattle.rg_cond.specs.declared.rules.Rule.{Rule}
 use Rattle.rg_resmatch.specs.declared.reach.Reach.TheVariants.{Exact}
-use Rattle.rg_effect.specs.Subjects.{is_owner, names, owner_word, user_word}
+use Rattle.rg_items.specs.Subjects.{is_owner, names, owner_word, user_word}
 use Rattle.rg_evalr.specs.declared.evaluator.Parts.{Parts}
 use Rattle.rg_evalr.specs.declared.frame.Frame.{Frame}
 use Rattle.rg_evalr.specs.declared.frame.Side.{Side}

@@ -7,8 +7,8 @@ use Rattle.rg_policy.specs.declared.request.AccessRequest.{AccessRequest}
 use Rattle.rg_policy.specs.declared.tags.Tag.{Tag}
 use Rattle.rg_cond.specs.Conditions.{condition_holds}
 use Rattle.rg_roles.specs.declared.row.RoleRow.{RoleRow}
-use Rattle.rg_effect.specs.Accesses.{any_grants}
-use Rattle.rg_effect.specs.Subjects.{names_asker}
+use Rattle.rg_items.specs.Accesses.{any_grants}
+use Rattle.rg_items.specs.Subjects.{names_asker}
 use Rattle.rg_evalr.specs.declared.frame.Frame.{Frame}
 use Rattle.rg_evalr.specs.declared.frame.Side.{Side}
 use Rattle.rg_evalr.specs.Frames.{def_of, requested_access}

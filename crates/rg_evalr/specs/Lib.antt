@@ -8,4 +8,4 @@ pub mod Sources
 pub mod Tries
 -- of the crates below, for those above
 pub use Rattle.rg_cond.specs.Zones
-pub use Rattle.rg_effect.specs.PolicyRules
+pub use Rattle.rg_items.specs.PolicyRules

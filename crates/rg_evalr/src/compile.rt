@@ -15,7 +15,7 @@ use crate::item::CompiledItem;
 use rg_base::{NoMemory, Seq, TryCopy};
 use rg_cond::{Condition, Schedule, Span, TimeZones, compile_condition};
 use rg_defs::ServiceDef;
-use rg_effect::{has_owner_word, has_user_word};
+use rg_items::{has_owner_word, has_user_word};
 use rg_policy::{Item, PolicyCondition, ScheduleText};
 use std::alloc::Global;
 

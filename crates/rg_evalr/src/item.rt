@@ -6,7 +6,7 @@ ghost use Rattle.rg_evalr.specs.Compiled.{compiled_matches, names_context, rules
 
 use rg_base::{Seq, Text, is_among};
 use rg_cond::Condition;
-use rg_effect::{Subjects, is_owner, names};
+use rg_items::{Subjects, is_owner, names};
 use rg_policy::{AccessRequest, Tag};
 use rg_roles::Roles;
 use std::marker::Model;

@@ -11,5 +11,5 @@ mod rules;
 pub use evaluator::Evaluator;
 pub use frame::{Effect, Frame, Side, def_of};
 pub use rg_cond::TimeZones;
-pub use rg_effect::is_custom;
+pub use rg_items::is_custom;
 pub use rules::policy_fault;

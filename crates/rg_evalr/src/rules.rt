@@ -6,7 +6,7 @@ ghost use Rattle.rg_evalr.specs.Frames.{def_of};
 use crate::frame::{Frame, Side, def_of};
 use rg_cond::{conditions_compile, schedules_read};
 use rg_defs::Paths;
-use rg_effect::{entries_fit, lists_fit, outcomes_fit, priority_fits, type_fits};
+use rg_items::{entries_fit, lists_fit, outcomes_fit, priority_fits, type_fits};
 use rg_policy::Policy;
 use rg_resmatch::{policy_levels_fit, policy_values_fit};
 

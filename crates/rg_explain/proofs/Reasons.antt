@@ -17,7 +17,7 @@ use Rattle.rg_roles.specs.declared.row.RoleRow.{RoleRow}
 use Rattle.rg_roles.proofs.Built.{repeat_is}
 use Rattle.rg_roles.proofs.Decided.{leads-Decides}
 use Rattle.rg_roles.proofs.Rows.{name_is, unique}
-use Rattle.rg_effect.specs.Subjects.{Subjects, names, names_group, names_role, names_user}
+use Rattle.rg_items.specs.Subjects.{Subjects, names, names_group, names_role, names_user}
 
 abbrev pub members : RoleRow → Subjects
 members row = record { users = row.users.items; groups = row.groups.items; roles = row.roles.items }

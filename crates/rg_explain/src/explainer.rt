@@ -20,7 +20,7 @@ use rg_base::{NoMemory, Seq, Serial, Text};
 use rg_defs::Paths;
 use rg_evalr::{Frame, Side};
 use rg_facts::{Facts, frame_of};
-use rg_plain::Plain;
+use rg_plain_engine::Plain;
 use rg_policy::{AccessRequest, Element, Tag};
 use rg_roles::Roles;
 use rg_standing::Question;

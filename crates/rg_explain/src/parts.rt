@@ -15,9 +15,9 @@ ghost use Rattle.rg_explain.specs.Explaining.{held_by, roles_holding, rows_lying
 use crate::explanation::{HeldBy, TaggedBy};
 use rg_base::{NoMemory, Seq, Text, TryCopy};
 use rg_defs::{Paths, ServiceDef, tag_name};
-use rg_effect::Subjects;
 use rg_evalr::Frame;
 use rg_facts::Facts;
+use rg_items::Subjects;
 use rg_policy::{AccessRequest, Element, Tag};
 use rg_resmatch::Reach;
 use rg_roles::{RoleRow, Roles};

@@ -8,14 +8,14 @@ use Rattle.rg_publish.specs.declared.history.Publication.{Publication}
 use Rattle.rg_script.specs.Line.{line_of}
 use Rattle.rg_script.specs.declared.line.Line.{Line}
 use Rattle.rg_script.specs.declared.line.Line.TheVariants as line
-use Rattle.rg_work.specs.declared.status.Status.{Status}
-use Rattle.rg_work.specs.declared.status.Status.TheVariants.{BadLine, Done, NoMemory, Usage}
-use Rattle.rg_work.specs.Follow.{Decided, Output, Work, bad_line_text, before, ends_bad, worked}
-use Rattle.rg_work.specs.Ports.{Ports, ports}
-use Rattle.rg_work.specs.Printed.{deciding}
-use Rattle.rg_work.specs.Runs.{IsRun, OfStatus, Stands}
-use Rattle.rg_work.specs.Statuses.{number_of}
-use Rattle.rg_replay.specs.Replay.{State, decide_work, line_work as replay_work, newest_of, prepare_work, replay_step, service_of}
+use Rattle.rg_run_script.specs.declared.status.Status.{Status}
+use Rattle.rg_run_script.specs.declared.status.Status.TheVariants.{BadLine, Done, NoMemory, Usage}
+use Rattle.rg_run_script.specs.Follow.{Decided, Output, Work, bad_line_text, before, ends_bad, worked}
+use Rattle.rg_run_script.specs.Ports.{Ports, ports}
+use Rattle.rg_run_script.specs.Printed.{deciding}
+use Rattle.rg_run_script.specs.Runs.{IsRun, OfStatus, Stands}
+use Rattle.rg_run_script.specs.Statuses.{number_of}
+use Rattle.rg_run_replay.specs.Replay.{State, decide_work, line_work as replay_work, newest_of, prepare_work, replay_step, service_of}
 use Rattle.rg_explain_script.specs.Alike.{EndAlike, EndsNaming}
 use Rattle.rg_explain_script.specs.Ends.{Answers, IsEndOf}
 use Rattle.rg_explain_script.specs.Explained.{Progress, begins, explain_step, explain_work, explained, explaining, line_work, unprinted}

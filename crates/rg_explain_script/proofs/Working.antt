@@ -9,9 +9,9 @@ use Rattle.rg_publish.specs.Passes.{decision_of}
 use Rattle.rg_publish.specs.declared.history.Publication.{Publication}
 use Rattle.rg_script.specs.declared.line.Line.{Line}
 use Rattle.rg_script.specs.declared.line.Line.TheVariants as line
-use Rattle.rg_work.specs.Follow.{IsWorked, Work}
-use Rattle.rg_replay.specs.Replay.{State, newest_of, prepare_work, request_in}
-use Rattle.rg_replay.proofs.Working.{asks, bad_asks_none}
+use Rattle.rg_run_script.specs.Follow.{IsWorked, Work}
+use Rattle.rg_run_replay.specs.Replay.{State, newest_of, prepare_work, request_in}
+use Rattle.rg_run_replay.proofs.Working.{asks, bad_asks_none}
 use Rattle.rg_explain_script.specs.declared.options.Style.{Style}
 use Rattle.rg_explain_script.specs.declared.options.Wanted.{Wanted}
 use Rattle.rg_explain_script.specs.Explained.{Progress, explain_work, explained_text, explaining, is_wanted, line_work, progress, then_wanted, unprinted}

@@ -1,8 +1,8 @@
 -- How a script ends that is replayed, and that is explained.
 use Rattle.std.specs.Prelude.{◌≡◌, ℕ, ◌++◌, List, Option, Some, None}
-use Rattle.rg_replay.specs.Replay.{State}
-use Rattle.rg_work.specs.declared.status.Status.TheVariants.{BadLine}
-use Rattle.rg_work.specs.Follow.{Output, bad_line_text}
+use Rattle.rg_run_replay.specs.Replay.{State}
+use Rattle.rg_run_script.specs.declared.status.Status.TheVariants.{BadLine}
+use Rattle.rg_run_script.specs.Follow.{Output, bad_line_text}
 use Rattle.rg_explain_script.specs.Explained.{Progress}
 
 -- the text ends by naming this line

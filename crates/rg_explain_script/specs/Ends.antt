@@ -1,9 +1,9 @@
 -- What stands after a run, and how it ends.
 use Rattle.std.specs.Prelude.{◌≡◌, ℕ, Option, Some, None}
-use Rattle.rg_work.specs.declared.status.Status.{Status}
-use Rattle.rg_work.specs.declared.status.Status.TheVariants.{Usage}
-use Rattle.rg_work.specs.Ports.{Ports}
-use Rattle.rg_work.specs.Runs.{IsRun, OfStatus, Stands}
+use Rattle.rg_run_script.specs.declared.status.Status.{Status}
+use Rattle.rg_run_script.specs.declared.status.Status.TheVariants.{Usage}
+use Rattle.rg_run_script.specs.Ports.{Ports}
+use Rattle.rg_run_script.specs.Runs.{IsRun, OfStatus, Stands}
 use Rattle.rg_explain_script.specs.Explained.{Progress, explained}
 use Rattle.rg_explain_script.specs.declared.options.Options.{Options}
 

@@ -11,10 +11,10 @@ use Rattle.rg_publish.specs.declared.history.Publication.{Publication}
 use Rattle.rg_script.specs.Line.{line_of}
 use Rattle.rg_script.specs.declared.line.Line.{Line}
 use Rattle.rg_script.specs.declared.line.Line.TheVariants as line
-use Rattle.rg_work.specs.Follow.{Script, Work, worked}
-use Rattle.rg_work.specs.Printed.{quiet}
-use Rattle.rg_replay.specs.Replay.{State, newest_of, prepare_work}
-use Rattle.rg_replay.specs.declared.replay.Stage.TheVariants as state
+use Rattle.rg_run_script.specs.Follow.{Script, Work, worked}
+use Rattle.rg_run_script.specs.Printed.{quiet}
+use Rattle.rg_run_replay.specs.Replay.{State, newest_of, prepare_work}
+use Rattle.rg_run_replay.specs.declared.replay.Stage.TheVariants as state
 use Rattle.rg_explain_script.specs.declared.options.Form.{Form}
 use Rattle.rg_explain_script.specs.declared.options.Form.TheVariants as form
 use Rattle.rg_explain_script.specs.declared.options.Options.{Options}

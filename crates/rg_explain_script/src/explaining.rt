@@ -2,7 +2,7 @@
 ghost use Rattle.std.specs.Prelude.{◌≡◌, ◌++◌, ℕ, Err, IfOk, List, None, OnOk, false, string_bytes, true};
 ghost use Rattle.std.specs.Str.{encode_utf8_all};
 ghost use Rattle.rg_facts.specs.Sound.{sound};
-ghost use Rattle.rg_work.specs.Follow.{IsWorked};
+ghost use Rattle.rg_run_script.specs.Follow.{IsWorked};
 ghost use Rattle.rg_explain_script.specs.Explained.{begins, explain_work, explained_text, is_wanted, text_in};
 
 use crate::options::{Form, Options, Style, Wanted};
@@ -11,9 +11,9 @@ use rg_explain::{Explainer, Explanation};
 use rg_explain_wire::{print_explanation, print_words};
 use rg_facts::Facts;
 use rg_policy::AccessRequest;
-use rg_replay::Replay;
+use rg_run_replay::Replay;
+use rg_run_script::Worker;
 use rg_script::{LineFault, read_line};
-use rg_work::Worker;
 use std::alloc::Global;
 use std::marker::Model;
 use std::sync::Wait;

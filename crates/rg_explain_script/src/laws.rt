@@ -1,7 +1,7 @@
 // How a script ends that is explained, and that is replayed.
 ghost use Rattle.std.specs.Prelude.{ℕ, List};
 ghost use Rattle.rg_base.specs.declared.numbers.Moment.{Moment};
-ghost use Rattle.rg_replay.specs.Replay.{replayed};
+ghost use Rattle.rg_run_replay.specs.Replay.{replayed};
 ghost use Rattle.rg_explain_script.specs.declared.options.Options.{Options};
 ghost use Rattle.rg_explain_script.specs.Alike.{EndAlike};
 ghost use Rattle.rg_explain_script.specs.Explained.{explained};

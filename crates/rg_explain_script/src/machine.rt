@@ -7,7 +7,7 @@ ghost use Rattle.rg_explain_script.specs.Words.{options_of};
 
 use crate::program::explain;
 use rg_ports::{StdSink, StdSource, WallClock};
-use rg_work::Status;
+use rg_run_script::Status;
 use std::process::ExitCode;
 use std::sync::Wait;
 

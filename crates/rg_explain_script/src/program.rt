@@ -1,7 +1,7 @@
 // From words and the bytes of a script to the explanations of its decisions.
 ghost use Rattle.std.specs.Prelude.{◌≡◌, None, map, string_bytes};
-ghost use Rattle.rg_work.specs.Ports.{ports};
-ghost use Rattle.rg_work.specs.Runs.{IsRun, OfStatus, Stands};
+ghost use Rattle.rg_run_script.specs.Ports.{ports};
+ghost use Rattle.rg_run_script.specs.Runs.{IsRun, OfStatus, Stands};
 ghost use Rattle.rg_explain_script.specs.Ends.{Answers};
 ghost use Rattle.rg_explain_script.specs.Explained.{explained};
 ghost use Rattle.rg_explain_script.specs.Words.{options_of};
@@ -10,7 +10,7 @@ use crate::explaining::Explaining;
 use crate::options::Options;
 use crate::words::options_of;
 use rg_ports::{Clock, Sink, Source};
-use rg_work::{Status, work_script};
+use rg_run_script::{Status, work_script};
 use std::alloc::Global;
 use std::sync::Wait;
 

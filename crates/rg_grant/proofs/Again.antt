@@ -15,7 +15,7 @@ use Rattle.rg_evalr.specs.declared.frame.Side.{Side}
 use Rattle.rg_evalr.specs.declared.frame.Side.TheVariants.{Resource, Tag as Tagged}
 use Rattle.rg_resmatch.specs.Tests.{some_lies, tag_elements}
 use Rattle.rg_resmatch.specs.declared.reach.Reach.TheVariants.{Exact}
-use Rattle.rg_machine.proofs.Lists.{case}
+use Rattle.rg_admin_laws.proofs.Lists.{case}
 use Rattle.rg_grant.specs.Forms.{granted_form, granting_item}
 use Rattle.rg_grant.specs.Taking.{items_left}
 use Rattle.rg_grant.specs.declared.row.GrantRow.{GrantRow}

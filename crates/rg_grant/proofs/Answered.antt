@@ -2,8 +2,8 @@
 use Rattle.std.proofs.Common.{◌≡◌, ℕ, false, List, Result, Ok, Err, IfOk, ap, sym, subst, ◌∙◌}
 use Rattle.rg_cmd.specs.declared.ask.AdminReply.{AdminReply}
 use Rattle.rg_validate.specs.Valid.{IsKept}
-use Rattle.rg_machine.specs.Laws.{is_refused}
-use Rattle.rg_machine.specs.Logs.{Administration}
+use Rattle.rg_admin_laws.specs.Laws.{is_refused}
+use Rattle.rg_admin_laws.specs.Logs.{Administration}
 use Rattle.rg_grant.specs.InForce.{IsInForce, IsRevoked}
 use Rattle.rg_grant.specs.Steps.{granted}
 use Rattle.rg_grant.specs.declared.ask.GrantAsk.{GrantAsk}

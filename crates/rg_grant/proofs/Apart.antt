@@ -3,7 +3,7 @@ use Rattle.std.proofs.Common.{◌≡◌, ◌++◌, Bool, true, not, cond, List, 
 use Rattle.std.proofs.lemmas.List.{append-nil}
 use Rattle.std.proofs.lemmas.List.Elements.{filter-append}
 use Rattle.rg_cmd.specs.Lists.{put, without}
-use Rattle.rg_machine.proofs.Lists.{filter_put_out}
+use Rattle.rg_admin_laws.proofs.Lists.{filter_put_out}
 
 -- the one that is put is the same as those in whose place it is put
 pub put_alone : {X : Type 0} (same : X → Bool) (x : X) (xs : List X) → same x ≡ true → without same (put same x xs) ≡ without same xs

@@ -13,8 +13,8 @@ use Rattle.rg_policy.specs.declared.policy.Policy.{Policy}
 use Rattle.rg_policy.specs.declared.request.AccessRequest.{AccessRequest}
 use Rattle.rg_defs.specs.Grants.{implied_by}
 use Rattle.rg_defs.specs.declared.service_def.ServiceDef.{ServiceDef}
-use Rattle.rg_effect.specs.Accesses.{any_grants, entry_grants}
-use Rattle.rg_effect.specs.Subjects.{names_asker}
+use Rattle.rg_items.specs.Accesses.{any_grants, entry_grants}
+use Rattle.rg_items.specs.Subjects.{names_asker}
 use Rattle.rg_evalr.specs.Effects.{access_of, effect_of, in_play}
 use Rattle.rg_evalr.specs.Frames.{def_of, requested_access}
 use Rattle.rg_evalr.specs.Items.{Context, any_matches, item_matches}

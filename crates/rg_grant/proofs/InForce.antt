@@ -25,13 +25,13 @@ use Rattle.rg_cmd.specs.declared.ask.AdminReply.{AdminReply}
 use Rattle.rg_cmd.specs.declared.ask.Ask.{Ask}
 use Rattle.rg_cmd.specs.declared.rule.Rule.{Rule}
 use Rattle.rg_cmd.specs.declared.state.State.{State}
-use Rattle.rg_twins.specs.Twins.{each_among, each_resource_in, same_flag, same_levels, same_maps, same_resource, same_texts}
-use Rattle.rg_machine.specs.Changes.{created_form, updated_form}
-use Rattle.rg_machine.specs.Laws.{is_refused}
-use Rattle.rg_machine.specs.Logs.{Administration}
-use Rattle.rg_machine.specs.Steps.{fault, step_by}
-use Rattle.rg_machine.specs.Views.{view}
-use Rattle.rg_machine.proofs.Lists.{case, replaced}
+use Rattle.rg_same_resources.specs.Twins.{each_among, each_resource_in, same_flag, same_levels, same_maps, same_resource, same_texts}
+use Rattle.rg_admin_laws.specs.Changes.{created_form, updated_form}
+use Rattle.rg_admin_laws.specs.Laws.{is_refused}
+use Rattle.rg_admin_laws.specs.Logs.{Administration}
+use Rattle.rg_admin_laws.specs.Steps.{fault, step_by}
+use Rattle.rg_admin_laws.specs.Views.{view}
+use Rattle.rg_admin_laws.proofs.Lists.{case, replaced}
 use Rattle.rg_grant.specs.Allowing.{IsGranting}
 use Rattle.rg_grant.specs.InForce.{IsInForce}
 use Rattle.rg_grant.specs.Forms.{granted_form, granting_item, new_policy}

@@ -6,11 +6,11 @@ use Rattle.rg_base.proofs.Lists.{find_contained}
 use Rattle.rg_policy.specs.Maps.{maps_of}
 use Rattle.rg_policy.specs.declared.policy.Policy.{Policy}
 use Rattle.rg_cmd.specs.declared.state.State.{State}
-use Rattle.rg_twins.specs.Counts.{IsCounted, count_of}
-use Rattle.rg_twins.specs.Prints.{print_of}
-use Rattle.rg_twins.specs.Twins.{same_maps}
-use Rattle.rg_twins.proofs.Counting.{none_same}
-use Rattle.rg_twins.proofs.OnePrint.{one_print}
+use Rattle.rg_same_resources.specs.Counts.{IsCounted, count_of}
+use Rattle.rg_same_resources.specs.Prints.{print_of}
+use Rattle.rg_same_resources.specs.Twins.{same_maps}
+use Rattle.rg_same_resources.proofs.Counting.{none_same}
+use Rattle.rg_same_resources.proofs.OnePrint.{one_print}
 use Rattle.rg_grant.specs.Planning.{is_for, is_of_kind, map_of, policy_for}
 use Rattle.rg_grant.specs.declared.row.GrantRow.{GrantRow}
 

@@ -11,7 +11,7 @@ use Rattle.rg_policy.specs.declared.policy.PolicyResource.{PolicyResource}
 use Rattle.rg_policy.specs.declared.policy.ResourceMap.{ResourceMap}
 use Rattle.rg_policy.specs.declared.policy.ScheduleText.{ScheduleText}
 use Rattle.rg_cmd.specs.declared.state.State.{State}
-use Rattle.rg_twins.specs.Twins.{each_map_in, each_resource_in, has_map, is_twin, same_levels, same_maps, same_schedules}
+use Rattle.rg_same_resources.specs.Twins.{each_map_in, each_resource_in, has_map, is_twin, same_levels, same_maps, same_schedules}
 use Rattle.rg_grant.specs.Forms.{new_policy}
 use Rattle.rg_grant.specs.Planning.{is_for, map_of}
 use Rattle.rg_grant.specs.declared.row.GrantRow.{GrantRow}

@@ -7,7 +7,7 @@ use Rattle.rg_base.specs.Texts.{is_among}
 use Rattle.rg_base.proofs.Lists.{Contains-cases, Contains-filter, Contains-filtered, Contains-first, Contains-flat_map, Contains-flat_mapped, Contains-later, Contains-none, among_from, among_holds}
 use Rattle.rg_policy.specs.declared.policy.AccessEntry.{AccessEntry}
 use Rattle.rg_policy.specs.declared.policy.Item.{Item}
-use Rattle.rg_effect.specs.PolicyRules.{has_subject}
+use Rattle.rg_items.specs.PolicyRules.{has_subject}
 use Rattle.rg_grant.specs.Permissions.{Gives, Group, IsGiven, Permission, Role, Subject, User, item_names, names_both, row_names}
 use Rattle.rg_grant.specs.Taking.{items_left, named_part, others_part, parted, parts_left, says_something, with_subjects}
 use Rattle.rg_grant.specs.declared.row.GrantRow.{GrantRow}

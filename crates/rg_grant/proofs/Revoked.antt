@@ -16,12 +16,12 @@ use Rattle.rg_validate.specs.Failing.{Tested, first_failing}
 use Rattle.rg_validate.specs.Policies.{policy_rules}
 use Rattle.rg_validate.specs.Rules.{rules_under, service_exists}
 use Rattle.rg_validate.specs.Valid.{IsKept, is_given}
-use Rattle.rg_machine.specs.Changes.{updated_form}
-use Rattle.rg_machine.specs.Laws.{is_refused}
-use Rattle.rg_machine.specs.Logs.{Administration}
-use Rattle.rg_machine.specs.Steps.{fault, step_by}
-use Rattle.rg_machine.proofs.Ids.{lt_differs}
-use Rattle.rg_machine.proofs.Lists.{none_from}
+use Rattle.rg_admin_laws.specs.Changes.{updated_form}
+use Rattle.rg_admin_laws.specs.Laws.{is_refused}
+use Rattle.rg_admin_laws.specs.Logs.{Administration}
+use Rattle.rg_admin_laws.specs.Steps.{fault, step_by}
+use Rattle.rg_admin_laws.proofs.Ids.{lt_differs}
+use Rattle.rg_admin_laws.proofs.Lists.{none_from}
 use Rattle.rg_cmd.specs.Lookups.{def_of}
 use Rattle.rg_grant.specs.Forms.{new_policy, revoked_form}
 use Rattle.rg_grant.specs.InForce.{IsRevoked, no_policy_rule}

@@ -29,11 +29,11 @@ use Rattle.rg_facts.specs.Flow.{eval}
 use Rattle.rg_facts.specs.declared.best.Pass.TheVariants.{All}
 use Rattle.rg_facts.specs.declared.decision.Verdict.{Verdict}
 use Rattle.rg_facts.specs.declared.facts.Facts.{Facts}
-use Rattle.rg_machine.specs.Changes.{after_command, version_after}
-use Rattle.rg_machine.specs.Logs.{Administration, is_log_of, log_at, touched_log}
-use Rattle.rg_machine.specs.Steps.{counted, fault, step_by}
-use Rattle.rg_machine.specs.Views.{facts_of, facts_with, view}
-use Rattle.rg_machine.proofs.Lists.{case, find_mapped, find_some, one_of_id}
+use Rattle.rg_admin_laws.specs.Changes.{after_command, version_after}
+use Rattle.rg_admin_laws.specs.Logs.{Administration, is_log_of, log_at, touched_log}
+use Rattle.rg_admin_laws.specs.Steps.{counted, fault, step_by}
+use Rattle.rg_admin_laws.specs.Views.{facts_of, facts_with, view}
+use Rattle.rg_admin_laws.proofs.Lists.{case, find_mapped, find_some, one_of_id}
 use Rattle.rg_validate.specs.Valid.{IsKept}
 use Rattle.rg_cmd.specs.Lookups.{policy_at}
 use Rattle.rg_grant.specs.Forms.{granted_form}

@@ -14,8 +14,8 @@ use Rattle.rg_cmd.specs.Lookups.{def_of, is_of, service_at}
 use Rattle.rg_cmd.specs.declared.changes.Log.{Log}
 use Rattle.rg_cmd.specs.declared.state.ServiceRow.{ServiceRow}
 use Rattle.rg_cmd.specs.declared.state.State.{State}
-use Rattle.rg_machine.specs.Logs.{Administration, log_at}
-use Rattle.rg_machine.specs.Views.{facts_of, facts_with, view}
+use Rattle.rg_admin_laws.specs.Logs.{Administration, log_at}
+use Rattle.rg_admin_laws.specs.Views.{facts_of, facts_with, view}
 
 asked_in : (facts : Facts) (q : AccessRequest) (p : Policy) → Contains facts.policies.items p → Contains (candidates facts q) (candidate (frame_of facts) Resource None p)
 asked_in facts q p there =

@@ -17,9 +17,9 @@ use Rattle.rg_policy.specs.declared.policy.ScheduleText.{ScheduleText}
 use Rattle.rg_cmd.specs.Lookups.{has_id}
 use Rattle.rg_cmd.specs.declared.state.State.{State}
 use Rattle.rg_validate.specs.Policies.{has_no_twin, is_other}
-use Rattle.rg_twins.specs.Twins.{each_among, each_map_in, each_resource_in, has_map, is_twin, same_flag, same_levels, same_maps, same_resource, same_schedules, same_texts}
+use Rattle.rg_same_resources.specs.Twins.{each_among, each_map_in, each_resource_in, has_map, is_twin, same_flag, same_levels, same_maps, same_resource, same_schedules, same_texts}
 use Rattle.rg_validate.specs.Valid.{IsKept, policy_is_single}
-use Rattle.rg_machine.proofs.Lists.{case, find_some, none_passes, not_true, one_of_id}
+use Rattle.rg_admin_laws.proofs.Lists.{case, find_some, none_passes, not_true, one_of_id}
 use Rattle.rg_grant.specs.Planning.{is_for, is_of_kind, map_of}
 use Rattle.rg_grant.specs.declared.row.GrantRow.{GrantRow}
 use Rattle.rg_grant.proofs.InForce.{id_self}

@@ -5,7 +5,7 @@ use Rattle.rg_base.specs.Listed.{listed}
 use Rattle.rg_base.specs.Texts.{is_among}
 use Rattle.rg_policy.specs.declared.policy.AccessEntry.{AccessEntry}
 use Rattle.rg_policy.specs.declared.policy.Item.{Item}
-use Rattle.rg_machine.proofs.Lists.{case}
+use Rattle.rg_admin_laws.proofs.Lists.{case}
 use Rattle.rg_grant.specs.Taking.{entries_left, items_left, named_part, others_part, parted, parts_left, says_something}
 use Rattle.rg_grant.specs.declared.row.GrantRow.{GrantRow}
 

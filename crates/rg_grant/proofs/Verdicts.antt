@@ -27,7 +27,7 @@ use Rattle.rg_facts.specs.declared.decision.Access.TheVariants.{Allowed, Denied,
 use Rattle.rg_facts.specs.declared.decision.Verdict.{Verdict}
 use Rattle.rg_facts.proofs.Idle.{by_asking}
 use Rattle.rg_facts.proofs.Types.{access_alone_filter, access_alone_mask}
-use Rattle.rg_machine.proofs.Lists.{case}
+use Rattle.rg_admin_laws.proofs.Lists.{case}
 use Rattle.rg_grant.specs.Forms.{granted_form}
 use Rattle.rg_grant.specs.declared.row.GrantRow.{GrantRow}
 use Rattle.rg_grant.proofs.Again.{lies_by_maps}

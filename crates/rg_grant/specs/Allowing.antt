@@ -7,7 +7,7 @@ use Rattle.rg_policy.specs.Kinds.{access_policy, normal}
 use Rattle.rg_policy.specs.declared.policy.Item.{Item}
 use Rattle.rg_policy.specs.declared.policy.Policy.{Policy}
 use Rattle.rg_policy.specs.declared.request.AccessRequest.{AccessRequest}
-use Rattle.rg_effect.specs.Subjects.{names_asker}
+use Rattle.rg_items.specs.Subjects.{names_asker}
 use Rattle.rg_evalr.specs.Effects.{access_of}
 use Rattle.rg_evalr.specs.Frames.{requested_access}
 use Rattle.rg_evalr.specs.Items.{any_matches}

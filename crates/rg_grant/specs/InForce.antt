@@ -18,9 +18,9 @@ use Rattle.rg_cmd.specs.declared.ask.AdminReply.{AdminReply}
 use Rattle.rg_cmd.specs.declared.rule.Rule.{Rule}
 use Rattle.rg_cmd.specs.declared.rule.Rule.TheVariants.{E2, L1}
 use Rattle.rg_cmd.specs.declared.state.State.{State}
-use Rattle.rg_machine.specs.Logs.{Administration}
-use Rattle.rg_machine.specs.Steps.{kept}
-use Rattle.rg_machine.specs.Views.{view}
+use Rattle.rg_admin_laws.specs.Logs.{Administration}
+use Rattle.rg_admin_laws.specs.Steps.{kept}
+use Rattle.rg_admin_laws.specs.Views.{view}
 use Rattle.rg_grant.specs.Allowing.{IsAllowed, IsSpokenOf}
 use Rattle.rg_grant.specs.Forms.{granted_form}
 use Rattle.rg_grant.specs.Permissions.{IsGiven, Permission, names_both}

@@ -8,4 +8,4 @@ pub mod Steps
 pub mod Taking
 -- of the crates below, for those above
 pub use Rattle.rg_admin.specs.Starting
-pub use Rattle.rg_machine.specs.Logs
+pub use Rattle.rg_admin_laws.specs.Logs

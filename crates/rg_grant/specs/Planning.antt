@@ -11,7 +11,7 @@ use Rattle.rg_cmd.specs.declared.ask.AdminCommand.{AdminCommand}
 use Rattle.rg_cmd.specs.declared.ask.AdminCommand.TheVariants.{CreatePolicy, UpdatePolicy}
 use Rattle.rg_cmd.specs.declared.ask.Ask.{Ask}
 use Rattle.rg_cmd.specs.declared.state.State.{State}
-use Rattle.rg_twins.specs.Twins.{same_maps}
+use Rattle.rg_same_resources.specs.Twins.{same_maps}
 use Rattle.rg_grant.specs.Forms.{granted_form, new_policy, revoked_form}
 use Rattle.rg_grant.specs.declared.ask.GrantAsk.{GrantAsk}
 use Rattle.rg_grant.specs.declared.ask.GrantAsk.TheVariants.{Plain, Grant, Revoke}

@@ -5,7 +5,7 @@ use Rattle.rg_base.specs.Listed.{listed}
 use Rattle.rg_base.specs.Texts.{is_among}
 use Rattle.rg_policy.specs.declared.policy.AccessEntry.{AccessEntry}
 use Rattle.rg_policy.specs.declared.policy.Item.{Item}
-use Rattle.rg_effect.specs.PolicyRules.{has_subject}
+use Rattle.rg_items.specs.PolicyRules.{has_subject}
 use Rattle.rg_grant.specs.declared.row.GrantRow.{GrantRow}
 
 -- those of the texts that are among the names, or else those that aren't

@@ -1,7 +1,7 @@
 // An administration with grants and revokes.
 ghost use Rattle.std.specs.Prelude.{◌≡◌, ℕ, false, List, IfOk, OnErr};
 ghost use Rattle.rg_validate.specs.Valid.{IsKept};
-ghost use Rattle.rg_machine.specs.Laws.{is_refused};
+ghost use Rattle.rg_admin_laws.specs.Laws.{is_refused};
 ghost use Rattle.rg_grant.specs.InForce.{IsInForce, IsRevoked};
 ghost use Rattle.rg_grant.specs.Steps.{granted};
 ghost use Rattle.rg_grant.specs.declared.ask.GrantAsk.TheVariants.{Grant, Revoke};

@@ -3,15 +3,15 @@ ghost use Rattle.std.specs.Prelude.{◌≡◌, IfOk, option_map};
 ghost use Rattle.std.specs.List.{list_all};
 ghost use Rattle.rg_policy.specs.Maps.{maps_of};
 ghost use Rattle.rg_policy.specs.declared.policy.ResourceMap.{ResourceMap};
-ghost use Rattle.rg_twins.specs.Counts.{IsCounted};
-ghost use Rattle.rg_twins.specs.Twins.{same_levels, same_maps};
+ghost use Rattle.rg_same_resources.specs.Counts.{IsCounted};
+ghost use Rattle.rg_same_resources.specs.Twins.{same_levels, same_maps};
 ghost use Rattle.rg_grant.specs.Planning.{is_for, is_of_kind, map_of, policy_for};
 
 use crate::row::GrantRow;
 use rg_base::{NoMemory, same_text};
 use rg_cmd::State;
 use rg_policy::{ACCESS_POLICY, NORMAL, Policy, ResourceMap};
-use rg_twins::{PrintCounts, print_of_map, same_levels};
+use rg_same_resources::{PrintCounts, print_of_map, same_levels};
 use std::alloc::Global;
 
 /// Whether each of the maps has the row's levels, flags and values.

@@ -1,6 +1,6 @@
 // Which command does what is asked.
 ghost use Rattle.std.specs.Prelude.{◌≡◌, IfOk};
-ghost use Rattle.rg_twins.specs.Counts.{IsCounted};
+ghost use Rattle.rg_same_resources.specs.Counts.{IsCounted};
 ghost use Rattle.rg_grant.specs.Planning.{grant_of, planned, policy_for, revoke_of};
 
 use crate::ask::GrantAsk;
@@ -9,7 +9,7 @@ use crate::matching::policy_for;
 use crate::row::GrantRow;
 use rg_base::NoMemory;
 use rg_cmd::{AdminCommand, Ask, State};
-use rg_twins::PrintCounts;
+use rg_same_resources::PrintCounts;
 use std::alloc::Global;
 
 /// The command of a grant.

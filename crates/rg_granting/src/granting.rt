@@ -9,7 +9,7 @@ use rg_current::decide_now;
 use rg_facts::Decision;
 use rg_grant::{Admin, GrantAsk, GrantDesk, StartFault};
 use rg_policy::AccessRequest;
-use rg_work::Decider;
+use rg_run_script::Decider;
 use std::alloc::Global;
 use std::marker::Model;
 

@@ -4,9 +4,9 @@ use Rattle.rg_base.specs.Listed.{Listed}
 use Rattle.rg_cmd.specs.declared.ask.AdminReply.{AdminReply}
 use Rattle.rg_cmd.specs.declared.ask.Ask.{Ask}
 use Rattle.rg_json.specs.declared.fault.Fault.{Fault}
-use Rattle.rg_machine.specs.Laws.{is_refused}
-use Rattle.rg_machine.specs.Logs.{Administration}
-use Rattle.rg_keeper.specs.Keeping.{Gets, IsAt, MayGet, Passes, WithOrWithout}
+use Rattle.rg_admin_laws.specs.Laws.{is_refused}
+use Rattle.rg_admin_laws.specs.Logs.{Administration}
+use Rattle.rg_record_store.specs.Keeping.{Gets, IsAt, MayGet, Passes, WithOrWithout}
 use Rattle.rg_ask_wire.specs.Asks.{ask_text}
 use Rattle.rg_ask_wire.specs.Keeping.{is_keeping}
 use Rattle.rg_ask_wire.specs.Reading.{ask_reading}

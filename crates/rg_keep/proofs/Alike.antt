@@ -18,10 +18,10 @@ use Rattle.rg_validate.specs.Roles.{goes_in_no_circle}
 use Rattle.rg_validate.specs.Rules.{command_rules, first_fault, limit_rules, only_reads}
 use Rattle.rg_validate.specs.Zones.{are_apart, are_apart_for}
 use Rattle.rg_delegate.specs.Rules.{authority_fault, authority_rules}
-use Rattle.rg_machine.specs.Changes.{after_command}
-use Rattle.rg_machine.specs.Laws.{is_refused}
-use Rattle.rg_machine.specs.Logs.{Administration, logs_after}
-use Rattle.rg_machine.specs.Steps.{accepted, counted, fault, refused, reply_to, step_by}
+use Rattle.rg_admin_laws.specs.Changes.{after_command}
+use Rattle.rg_admin_laws.specs.Laws.{is_refused}
+use Rattle.rg_admin_laws.specs.Logs.{Administration, logs_after}
+use Rattle.rg_admin_laws.specs.Steps.{accepted, counted, fault, refused, reply_to, step_by}
 use Rattle.rg_ask_wire.specs.Keeping.{is_keeping}
 use Rattle.rg_keep.specs.Keeping.{Agree, with_count}
 use Rattle.rg_keep.specs.Replay.{is_kept, stepped}

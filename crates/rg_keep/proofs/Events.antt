@@ -5,8 +5,8 @@ use Rattle.std.proofs.lemmas.Bool.{and_parts}
 use Rattle.std.proofs.lemmas.Bool.Decides.{nat_tests}
 use Rattle.rg_cmd.specs.declared.ask.Ask.{Ask}
 use Rattle.rg_cmd.specs.declared.config.Config.{Config}
-use Rattle.rg_machine.specs.Logs.{Administration}
-use Rattle.rg_machine.specs.Starts.{IsStart}
+use Rattle.rg_admin_laws.specs.Logs.{Administration}
+use Rattle.rg_admin_laws.specs.Starts.{IsStart}
 use Rattle.rg_admin.specs.Starting.{start_fault, started}
 use Rattle.rg_ask_wire.specs.Asks.{ask_text}
 use Rattle.rg_ask_wire.specs.Reading.{ask_reading}

@@ -1,6 +1,6 @@
 -- Time that goes on through one call after another.
 use Rattle.std.proofs.Common.{inl, inr, ⊎_elim, ℕ, List, arith}
-use Rattle.rg_keeper.specs.Keeping.{Passes}
+use Rattle.rg_record_store.specs.Keeping.{Passes}
 
 pub stands : (now : ℕ) (since : ℕ → List (List ℕ) → Type 0) (between : List (List ℕ) → Type 0) → Passes now now since since between
 stands now since between = record { later = omega arith; nothing_else = λ t left le h. inl h; keeps = λ t left le h. h }

@@ -9,9 +9,9 @@ use Rattle.rg_cmd.specs.declared.changes.Log.{Log}
 use Rattle.rg_cmd.specs.declared.rule.Rule.{Rule}
 use Rattle.rg_cmd.specs.declared.state.ServiceRow.{ServiceRow}
 use Rattle.rg_cmd.specs.declared.state.State.{State}
-use Rattle.rg_machine.specs.Logs.{Administration, is_log_of, logs_after, new_log, policy_book, tag_book, touched_log, written}
-use Rattle.rg_machine.specs.Starts.{IsStart, new_logs}
-use Rattle.rg_machine.specs.Steps.{accepted, counted, fault, step_by}
+use Rattle.rg_admin_laws.specs.Logs.{Administration, is_log_of, logs_after, new_log, policy_book, tag_book, touched_log, written}
+use Rattle.rg_admin_laws.specs.Starts.{IsStart, new_logs}
+use Rattle.rg_admin_laws.specs.Steps.{accepted, counted, fault, step_by}
 use Rattle.rg_ask_wire.specs.Keeping.{is_keeping}
 use Rattle.rg_keep.specs.Keeping.{with_count}
 use Rattle.rg_keep.specs.Replay.{stepped}

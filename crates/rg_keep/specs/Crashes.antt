@@ -2,7 +2,7 @@
 use Rattle.std.specs.Prelude.{◌≡◌, ◌⊎◌, ◌<◌, ℕ, Bool, true, List, [], ◌∷◌, ◌++◌, Option, Some, None, Ok}
 use Rattle.rg_cmd.specs.declared.ask.Ask.{Ask}
 use Rattle.rg_cmd.specs.declared.config.Config.{Config}
-use Rattle.rg_machine.specs.Logs.{Administration}
+use Rattle.rg_admin_laws.specs.Logs.{Administration}
 use Rattle.rg_ask_wire.specs.Asks.{ask_text}
 use Rattle.rg_ask_wire.specs.Reading.{ask_reading}
 use Rattle.rg_keep.specs.Keeping.{IsKeptBy}

@@ -1,7 +1,7 @@
 -- For proofs alone: a replay on its way.
 use Rattle.std.specs.Prelude.{◌≡◌, ◌≤◌, ◌<◌, ◌==◌, ◌||◌, ℕ, Bool, true, false, List, length, drop, slice_get, Option, Some, None}
 use Rattle.rg_cmd.specs.declared.config.Config.{Config}
-use Rattle.rg_machine.specs.Logs.{Administration}
+use Rattle.rg_admin_laws.specs.Logs.{Administration}
 use Rattle.rg_admin.specs.Starting.{start_fault}
 use Rattle.rg_keep.specs.Replay.{after_entries, after_entry, first_bad_from, is_bad, most_kept}
 use Rattle.rg_keep.specs.declared.reopen.ReopenCause.{ReopenCause}

@@ -1,7 +1,7 @@
 // An administration whose commands are kept.
 ghost use Rattle.std.specs.Prelude.{◌≡◌, ◌≤◌, ◌<◌, ℕ, List, Some, None, Ok, Err, true, false, IfOk, IfErr, IsErrOf, OnErr, OnOk};
 ghost use Rattle.rg_cmd.specs.declared.config.Config.{Config};
-ghost use Rattle.rg_keeper.specs.Keeping.{Gets, MayGet, Nothing, Passes, WithOrWithout};
+ghost use Rattle.rg_record_store.specs.Keeping.{Gets, MayGet, Nothing, Passes, WithOrWithout};
 ghost use Rattle.rg_ask_wire.specs.Asks.{ask_text};
 ghost use Rattle.rg_ask_wire.specs.Keeping.{is_keeping};
 ghost use Rattle.rg_ask_wire.specs.KeyOrder.{IsInKeyOrder};
@@ -15,7 +15,7 @@ use crate::reopen::{MOST_KEPT, ReopenFault, answer, is_refused, replay};
 use rg_admin::Admin;
 use rg_ask_wire::{is_keeping, print_ask};
 use rg_cmd::{AdminReply, Ask, Config};
-use rg_keeper::{Keeper, KeeperFault};
+use rg_record_store::{Keeper, KeeperFault};
 use std::alloc::Global;
 use std::marker::Model;
 

@@ -1,9 +1,9 @@
 // The administration that a keeper's list makes.
 ghost use Rattle.std.specs.Prelude.{◌≡◌, ◌≤◌, ◌<◌, not, true, None, IfOk, IfErr, OnErr};
-ghost use Rattle.rg_machine.specs.Laws.{is_refused};
-ghost use Rattle.rg_machine.specs.Starts.{IsStart};
+ghost use Rattle.rg_admin_laws.specs.Laws.{is_refused};
+ghost use Rattle.rg_admin_laws.specs.Starts.{IsStart};
 ghost use Rattle.rg_admin.specs.Starting.{start_fault, started};
-ghost use Rattle.rg_keeper.specs.Keeping.{Nothing, Passes};
+ghost use Rattle.rg_record_store.specs.Keeping.{Nothing, Passes};
 ghost use Rattle.rg_keep.specs.Keeping.{Counts, IsCause, IsKept, IsReplayed};
 ghost use Rattle.rg_keep.specs.Replay.{after_entry, is_bad, is_kept, most_kept, stepped};
 ghost use Rattle.rg_keep.specs.Replaying.{IsNoStart, IsReplaying, IsStopped, IsStoppedIn, Takes};
@@ -13,7 +13,7 @@ use rg_ask_wire::{is_keeping, read_ask};
 use rg_base::NoMemory;
 use rg_cmd::{AdminReply, Ask, Config, Rule};
 use rg_json::WireFault;
-use rg_keeper::{Keeper, KeeperFault};
+use rg_record_store::{Keeper, KeeperFault};
 use std::alloc::Global;
 
 /// The most commands that are kept.

@@ -12,9 +12,9 @@ use rg_cmd::{Ask, Config};
 use rg_current::decide_now;
 use rg_facts::Decision;
 use rg_keep::{KeptAdmin, KeptReply, ReopenCause, ReopenFault, Stopped};
-use rg_keeper::{Keeper, KeeperFault};
 use rg_policy::AccessRequest;
-use rg_work::Decider;
+use rg_record_store::{Keeper, KeeperFault};
+use rg_run_script::Decider;
 use std::alloc::Global;
 use std::marker::Model;
 

@@ -15,7 +15,7 @@ use Rattle.rg_ports.specs.Moments.{Told}
 use Rattle.rg_cmd.specs.declared.ask.AdminCommand.{AdminCommand}
 use Rattle.rg_cmd.specs.declared.ask.AdminReply.{AdminReply}
 use Rattle.rg_cmd.specs.declared.ask.Ask.{Ask}
-use Rattle.rg_machine.specs.Logs.{Administration}
+use Rattle.rg_admin_laws.specs.Logs.{Administration}
 use Rattle.rg_turn.specs.declared.rule.Entry.{Entry}
 use Rattle.rg_turn.specs.Values.{SeatValue}
 use Rattle.rg_turn.specs.View.{entry}

@@ -2,7 +2,7 @@
 ghost use Rattle.std.specs.Prelude.{◌≡◌, IfOk, OnErr, MatchResult};
 ghost use mathlib.Core.List.{IsPrefix};
 ghost use Rattle.std.specs.Str.{chars};
-ghost use Rattle.rg_machine.specs.Steps.{step};
+ghost use Rattle.rg_admin_laws.specs.Steps.{step};
 ghost use Rattle.rg_turn.specs.History.{IsLegal};
 ghost use Rattle.rg_link.specs.Sessions.{Broken, Counts, Served, wire};
 ghost use Rattle.rg_link.specs.Workers.{worker_of};

@@ -4,12 +4,12 @@ use Rattle.std.proofs.Math.ListN.{set}
 use Rattle.rg_base.specs.declared.numbers.Moment.{Moment}
 use Rattle.rg_hook.specs.Enriching.{EnricherState}
 use Rattle.rg_hook.specs.Told.{SinkState}
-use Rattle.rg_work.specs.declared.status.Status.{Status}
-use Rattle.rg_work.specs.Follow.{Work, worked}
-use Rattle.rg_work.specs.Hooked.{Hooked, Hooks, hooked, hooks_of, with_enrichers}
-use Rattle.rg_work.specs.Ports.{Ports}
-use Rattle.rg_work.specs.Runs.{IsRun, StandsHooked}
-use Rattle.rg_custody.specs.Custody.{Keeps, Shelf}
+use Rattle.rg_run_script.specs.declared.status.Status.{Status}
+use Rattle.rg_run_script.specs.Follow.{Work, worked}
+use Rattle.rg_run_script.specs.Hooked.{Hooked, Hooks, hooked, hooks_of, with_enrichers}
+use Rattle.rg_run_script.specs.Ports.{Ports}
+use Rattle.rg_run_script.specs.Runs.{IsRun, StandsHooked}
+use Rattle.rg_run_keep.specs.Custody.{Keeps, Shelf}
 use Rattle.rg_run.specs.Runs.{first_hooks}
 
 module _ {H : Type 0} (sinks : H → List (SinkState × ℕ)) (enrichers : H → List EnricherState) where

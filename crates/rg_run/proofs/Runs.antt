@@ -1,22 +1,22 @@
 -- From a run of each command to the whole.
 use Rattle.std.proofs.Common.{◌≡◌, ◌⊎◌, arith, ℕ, List, [], Bool, true, false, Option, Some, None, inl, inr, refl, sym, subst}
-use Rattle.rg_work.specs.declared.status.Status.{Status}
-use Rattle.rg_work.specs.declared.status.Status.TheVariants.{Done, Usage, BadLine, ReadFault, WriteFault, NetFault, TooLong, KeepFault, NoMemory, BadRecord}
-use Rattle.rg_work.specs.Limits.{is_too_long}
-use Rattle.rg_work.specs.Ports.{Ports, ports}
-use Rattle.rg_work.specs.Runs.{IsRun, Overran, StandsHooked}
-use Rattle.rg_work.specs.Statuses.{number_of}
-use Rattle.rg_work.proofs.HookedRuns.{run_alone}
-use Rattle.rg_work.proofs.Hooks.{audited_none}
-use Rattle.rg_work.proofs.Runs.{completes, in_limits}
-use Rattle.rg_work.specs.Follow.{worked}
-use Rattle.rg_work.specs.Hooked.{Hooked, Hooks, hooked, hooks_of, with_enrichers}
-use Rattle.rg_replay.specs.Grants.{State, grants, grants_step}
-use Rattle.rg_replay.specs.Replay.{replayed_with}
-use Rattle.rg_replay.specs.Report.{reported}
-use Rattle.rg_service.specs.Serve.{Door, door}
-use Rattle.rg_service.specs.Serves.{ServesLinks}
-use Rattle.rg_custody.specs.Custody.{ByRecords, Keeps, Shelf, shelf}
+use Rattle.rg_run_script.specs.declared.status.Status.{Status}
+use Rattle.rg_run_script.specs.declared.status.Status.TheVariants.{Done, Usage, BadLine, ReadFault, WriteFault, NetFault, TooLong, KeepFault, NoMemory, BadRecord}
+use Rattle.rg_run_script.specs.Limits.{is_too_long}
+use Rattle.rg_run_script.specs.Ports.{Ports, ports}
+use Rattle.rg_run_script.specs.Runs.{IsRun, Overran, StandsHooked}
+use Rattle.rg_run_script.specs.Statuses.{number_of}
+use Rattle.rg_run_script.proofs.HookedRuns.{run_alone}
+use Rattle.rg_run_script.proofs.Hooks.{audited_none}
+use Rattle.rg_run_script.proofs.Runs.{completes, in_limits}
+use Rattle.rg_run_script.specs.Follow.{worked}
+use Rattle.rg_run_script.specs.Hooked.{Hooked, Hooks, hooked, hooks_of, with_enrichers}
+use Rattle.rg_run_replay.specs.Grants.{State, grants, grants_step}
+use Rattle.rg_run_replay.specs.Replay.{replayed_with}
+use Rattle.rg_run_replay.specs.Report.{reported}
+use Rattle.rg_run_serve.specs.Serve.{Door, door}
+use Rattle.rg_run_serve.specs.Serves.{ServesLinks}
+use Rattle.rg_run_keep.specs.Custody.{ByRecords, Keeps, Shelf, shelf}
 use Rattle.rg_run.specs.declared.command.Command.{Command}
 use Rattle.rg_run.specs.declared.command.Command.TheVariants.{Replay, Serve, Drill, Grants, Report, Keep}
 use Rattle.rg_run.specs.Commands.{takes_keeper}

@@ -1,22 +1,22 @@
--- What stands after a command, by the status. To be read after Runs of rg_work.
+-- What stands after a command, by the status. To be read after Runs of rg_run_script.
 use Rattle.std.specs.Prelude.{◌≡◌, ℕ, List, [], ◌∷◌, codes, Option, Some, None}
-use Rattle.rg_workload.specs.Drill.{IsCarriedOut}
-use Rattle.rg_workload.specs.Report.{report_text}
-use Rattle.rg_workload.specs.declared.totals.Totals.{Totals}
-use Rattle.rg_work.specs.declared.status.Status.{Status}
-use Rattle.rg_work.specs.declared.status.Status.TheVariants.{Done, Usage, WriteFault, NoMemory}
+use Rattle.rg_run_drill.specs.Drill.{IsCarriedOut}
+use Rattle.rg_run_drill.specs.Report.{report_text}
+use Rattle.rg_run_drill.specs.declared.totals.Totals.{Totals}
+use Rattle.rg_run_script.specs.declared.status.Status.{Status}
+use Rattle.rg_run_script.specs.declared.status.Status.TheVariants.{Done, Usage, WriteFault, NoMemory}
 use Rattle.rg_hook.specs.Enriching.{EnricherState}
 use Rattle.rg_hook.specs.Told.{SinkState}
-use Rattle.rg_work.specs.Hooked.{Hooks, hooks_of}
-use Rattle.rg_work.specs.Ports.{Ports}
-use Rattle.rg_work.specs.Runs.{IsRun, OfStatus, Stands, StandsHooked}
-use Rattle.rg_work.specs.Streams.{Wrote, WrotePrefix}
-use Rattle.rg_replay.specs.Grants.{grants}
-use Rattle.rg_replay.specs.Replay.{replayed_with}
-use Rattle.rg_replay.specs.Report.{reported}
-use Rattle.rg_service.specs.Serve.{Door}
-use Rattle.rg_service.specs.Serves.{ServesLinks}
-use Rattle.rg_custody.specs.Custody.{Keeps, Shelf, shelf}
+use Rattle.rg_run_script.specs.Hooked.{Hooks, hooks_of}
+use Rattle.rg_run_script.specs.Ports.{Ports}
+use Rattle.rg_run_script.specs.Runs.{IsRun, OfStatus, Stands, StandsHooked}
+use Rattle.rg_run_script.specs.Streams.{Wrote, WrotePrefix}
+use Rattle.rg_run_replay.specs.Grants.{grants}
+use Rattle.rg_run_replay.specs.Replay.{replayed_with}
+use Rattle.rg_run_replay.specs.Report.{reported}
+use Rattle.rg_run_serve.specs.Serve.{Door}
+use Rattle.rg_run_serve.specs.Serves.{ServesLinks}
+use Rattle.rg_run_keep.specs.Custody.{Keeps, Shelf, shelf}
 use Rattle.rg_run.specs.declared.command.Command.{Command}
 use Rattle.rg_run.specs.declared.command.Command.TheVariants.{Replay, Serve, Drill, Grants, Report, Keep}
 

@@ -12,12 +12,12 @@ use Rattle.rg_cmd.specs.declared.ask.AdminReply.{AdminReply}
 use Rattle.rg_cmd.specs.declared.ask.AdminReply.TheVariants.{Downloaded}
 use Rattle.rg_cmd.specs.declared.ask.Ask.{Ask}
 use Rattle.rg_cmd.specs.declared.download.Download.{Download}
-use Rattle.rg_machine.specs.Leading.{led}
-use Rattle.rg_machine.specs.Logs.{Administration}
-use Rattle.rg_machine.specs.Machine.{download_ask, is_unchanged, same_versions, versions}
-use Rattle.rg_machine.specs.Starts.{IsStart}
-use Rattle.rg_machine.specs.Steps.{step}
-use Rattle.rg_machine.specs.Views.{view}
+use Rattle.rg_admin_laws.specs.Leading.{led}
+use Rattle.rg_admin_laws.specs.Logs.{Administration}
+use Rattle.rg_admin_laws.specs.Machine.{download_ask, is_unchanged, same_versions, versions}
+use Rattle.rg_admin_laws.specs.Starts.{IsStart}
+use Rattle.rg_admin_laws.specs.Steps.{step}
+use Rattle.rg_admin_laws.specs.Views.{view}
 use Rattle.rg_publish.specs.Passes.{Ends, Seeing, new_pass}
 use Rattle.rg_publish.specs.Publications.{Published as Shown, publication}
 use Rattle.rg_publish.specs.declared.history.Publication.{Publication}

@@ -6,11 +6,11 @@ use Rattle.rg_cmd.specs.declared.ask.AdminReply.TheVariants.{Downloaded}
 use Rattle.rg_cmd.specs.declared.ask.Ask.{Ask}
 use Rattle.rg_cmd.specs.declared.config.Config.{Config}
 use Rattle.rg_cmd.specs.declared.rule.Rule.{Rule}
-use Rattle.rg_machine.specs.Leading.{led}
-use Rattle.rg_machine.specs.Logs.{Administration}
-use Rattle.rg_machine.specs.Machine.{download_ask, is_unchanged, versions}
-use Rattle.rg_machine.specs.Steps.{step}
-use Rattle.rg_machine.specs.Views.{view}
+use Rattle.rg_admin_laws.specs.Leading.{led}
+use Rattle.rg_admin_laws.specs.Logs.{Administration}
+use Rattle.rg_admin_laws.specs.Machine.{download_ask, is_unchanged, versions}
+use Rattle.rg_admin_laws.specs.Steps.{step}
+use Rattle.rg_admin_laws.specs.Views.{view}
 use Rattle.rg_session.specs.Starting.{started}
 use Rattle.rg_publish.specs.Publications.{publication}
 use Rattle.rg_publish.specs.declared.history.Publication.{Publication}

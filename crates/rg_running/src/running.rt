@@ -4,8 +4,8 @@ ghost use Rattle.std.specs.Str.{chars};
 ghost use Rattle.rg_session.specs.Starting.{start_fault};
 ghost use Rattle.rg_publish.specs.Bounds.{TriesWithin, bound_on};
 ghost use Rattle.rg_facts.specs.Sound.{sound};
-ghost use Rattle.rg_machine.specs.Starts.{IsStart};
-ghost use Rattle.rg_machine.specs.Steps.{step};
+ghost use Rattle.rg_admin_laws.specs.Starts.{IsStart};
+ghost use Rattle.rg_admin_laws.specs.Steps.{step};
 ghost use Rattle.rg_publish.specs.Passes.{Ends, decision_of};
 ghost use Rattle.rg_running.specs.Running.{IsRefreshed, asked, newest, opened, opened_unless, serial_in};
 

@@ -9,7 +9,7 @@ use Rattle.rg_script.specs.declared.cause.Place.TheVariants as place
 use Rattle.rg_script.specs.declared.line.Line.{Line}
 use Rattle.rg_script.specs.declared.line.Line.TheVariants as line
 use Rattle.rg_script.specs.Line.{line_read}
-use Rattle.rg_sound.specs.Causes.{first_cause}
+use Rattle.rg_facts_check.specs.Causes.{first_cause}
 
 -- a script begins with facts, which are sound, or with a configuration that breaks no rule; requests come after either, commands and
 -- refreshes after a configuration

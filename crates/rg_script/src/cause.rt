@@ -10,7 +10,7 @@ use rg_admin::{Admin, StartFault};
 use rg_base::{Moment, NoMemory, Text};
 use rg_cmd::{Config, Rule};
 use rg_facts::Facts;
-use rg_sound::{Unsound, unsound_cause};
+use rg_facts_check::{Unsound, unsound_cause};
 use rg_wire::WireKind;
 use std::alloc::Global;
 

@@ -5,10 +5,10 @@ use Rattle.std.proofs.lemmas.Option.{slice_get_cases, slice_get_within}
 use Rattle.rg_turn.specs.declared.rule.Entry.{Entry}
 use Rattle.rg_cmd.specs.declared.ask.AdminReply.{AdminReply}
 use Rattle.rg_cmd.specs.declared.ask.Ask.{Ask}
-use Rattle.rg_machine.specs.Logs.{Administration}
-use Rattle.rg_machine.specs.Machine.{administration}
-use Rattle.rg_machine.specs.World.{Parts}
-use Rattle.rg_machine.specs.World as world
+use Rattle.rg_admin_laws.specs.Logs.{Administration}
+use Rattle.rg_admin_laws.specs.Machine.{administration}
+use Rattle.rg_admin_laws.specs.World.{Parts}
+use Rattle.rg_admin_laws.specs.World as world
 use Rattle.rg_publish.specs.declared.history.Publication.{Publication}
 use Rattle.rg_session.specs.Right.{AreRightFor, in_world}
 

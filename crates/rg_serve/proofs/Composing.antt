@@ -10,7 +10,7 @@ use Rattle.rg_cmd.specs.declared.ask.Ask.{Ask}
 use Rattle.rg_turn.specs.Values.{TurnName, new_seat}
 use Rattle.rg_turn.specs.declared.rule.Entry.{Entry}
 use Rattle.rg_turn.proofs.Histories.{begins_trans}
-use Rattle.rg_machine.specs.Logs.{Administration}
+use Rattle.rg_admin_laws.specs.Logs.{Administration}
 use Rattle.rg_publish.specs.Passes.{Seeing, new_pass, risen}
 use Rattle.rg_publish.specs.Publications.{Published}
 use Rattle.rg_publish.specs.declared.history.Publication.{Publication}

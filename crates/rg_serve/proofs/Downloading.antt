@@ -13,10 +13,10 @@ use Rattle.rg_facts.specs.declared.facts.Facts.{Facts}
 use Rattle.rg_cmd.specs.declared.ask.AdminReply.{AdminReply}
 use Rattle.rg_cmd.specs.declared.ask.AdminReply.TheVariants.{Downloaded}
 use Rattle.rg_cmd.specs.declared.ask.Ask.{Ask}
-use Rattle.rg_machine.specs.Logs.{Administration}
-use Rattle.rg_machine.specs.Machine.{Versions, download_ask, same_versions, versions}
-use Rattle.rg_machine.specs.Steps.{step}
-use Rattle.rg_machine.specs.Views.{view}
+use Rattle.rg_admin_laws.specs.Logs.{Administration}
+use Rattle.rg_admin_laws.specs.Machine.{Versions, download_ask, same_versions, versions}
+use Rattle.rg_admin_laws.specs.Steps.{step}
+use Rattle.rg_admin_laws.specs.Views.{view}
 use Rattle.rg_publish.specs.Publications.{publication}
 use Rattle.rg_publish.specs.declared.history.Publication.{Publication}
 use Rattle.rg_publish.proofs.Lists.{get_last}

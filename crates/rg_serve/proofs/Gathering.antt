@@ -10,7 +10,7 @@ use Rattle.rg_turn.specs.Counting.{once_below, times}
 use Rattle.rg_turn.specs.Values.{TurnName, calls_at}
 use Rattle.rg_turn.specs.declared.rule.Entry.{Entry}
 use Rattle.rg_turn.proofs.Histories.{total_snoc}
-use Rattle.rg_machine.specs.Logs.{Administration}
+use Rattle.rg_admin_laws.specs.Logs.{Administration}
 use Rattle.rg_publish.specs.Passes.{Seeing}
 use Rattle.rg_publish.specs.Publications.{Published}
 use Rattle.rg_publish.specs.declared.history.Publication.{Publication}

@@ -6,7 +6,7 @@ use native.Mathlib.Decide.{ℕ_discrete}
 use Rattle.std.proofs.lemmas.Bool.Decides.{nat_tests}
 use Rattle.std.proofs.lemmas.List.{map-append}
 use Rattle.std.proofs.lemmas.Option.{none-some, same_Some}
-use Rattle.rg_machine.specs.World.{Answer, AreNumbered, Parts, Publication}
+use Rattle.rg_admin_laws.specs.World.{Answer, AreNumbered, Parts, Publication}
 use Rattle.rg_link.specs.Workers.{Rises}
 use Rattle.rg_serve.proofs.Reaching.{Asks, all_answers, answer, get_seam, same_number, with_answers}
 

@@ -10,8 +10,8 @@ use Rattle.std.proofs.lemmas.Option.{same_Some, slice_get_within}
 use Rattle.rg_turn.specs.History.{IsLegal, state_after}
 use Rattle.rg_turn.specs.View.{entry}
 use Rattle.rg_turn.specs.declared.rule.Entry.{Entry}
-use Rattle.rg_machine.specs.World.{Answer, AreRight, Event, History, Parts, Publication, Sent, World, asked, happens, opening, published, publications, run, sent_with, with_seen}
-use Rattle.rg_machine.specs.World.Event.{Admin, Download, Publish, Enter}
+use Rattle.rg_admin_laws.specs.World.{Answer, AreRight, Event, History, Parts, Publication, Sent, World, asked, happens, opening, published, publications, run, sent_with, with_seen}
+use Rattle.rg_admin_laws.specs.World.Event.{Admin, Download, Publish, Enter}
 
 pub get_seam : {A : Type 0} (xs : List A) (y : A) (ys : List A) → slice_get (xs ++ y ∷ ys) (length xs) ≡ Some y
 get_seam [] y ys = refl

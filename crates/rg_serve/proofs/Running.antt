@@ -13,12 +13,12 @@ use Rattle.rg_cmd.specs.declared.ask.Ask.{Ask}
 use Rattle.rg_turn.specs.History.{IsLegal, state_at}
 use Rattle.rg_turn.specs.declared.rule.Entry.{Entry}
 use Rattle.rg_turn.proofs.Histories.{begins_length}
-use Rattle.rg_machine.specs.Logs.{Administration}
-use Rattle.rg_machine.specs.Machine.{administration}
-use Rattle.rg_machine.specs.Steps.{step}
-use Rattle.rg_machine.specs.Views.{view}
-use Rattle.rg_machine.specs.World.{Answer, Parts}
-use Rattle.rg_machine.specs.World as world
+use Rattle.rg_admin_laws.specs.Logs.{Administration}
+use Rattle.rg_admin_laws.specs.Machine.{administration}
+use Rattle.rg_admin_laws.specs.Steps.{step}
+use Rattle.rg_admin_laws.specs.Views.{view}
+use Rattle.rg_admin_laws.specs.World.{Answer, Parts}
+use Rattle.rg_admin_laws.specs.World as world
 use Rattle.rg_publish.specs.declared.history.Publication.{Publication}
 use Rattle.rg_session.specs.Right.{AreDownloadedFor, AreRightFor, in_world}
 use Rattle.rg_link.specs.Audits.{Decided}

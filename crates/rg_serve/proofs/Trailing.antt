@@ -1,7 +1,7 @@
 -- One session more.
 use Rattle.std.proofs.Common.{◌≡◌, ◌∙◌, ℕ, ◌+◌, Bool, List, [], ◌∷◌, ◌++◌, length-append, subst, refl, arith}
 use Rattle.rg_turn.specs.Values.{TurnName, new_seat}
-use Rattle.rg_machine.specs.Logs.{Administration}
+use Rattle.rg_admin_laws.specs.Logs.{Administration}
 use Rattle.rg_publish.specs.Passes.{Seeing, new_pass}
 use Rattle.rg_publish.specs.Publications.{Published}
 use Rattle.rg_serve.specs.Held.{IsAtWork}

@@ -2,7 +2,7 @@
 use Rattle.std.specs.Prelude.{[], None}
 use Rattle.atomic_table.specs.Seated.{TableId}
 use Rattle.logbook.specs.Pages.{Book}
-use Rattle.rg_machine.specs.Logs.{Administration}
+use Rattle.rg_admin_laws.specs.Logs.{Administration}
 use Rattle.rg_turn.specs.Values.{TurnName, new_seat}
 use Rattle.rg_publish.specs.Publications.{Published}
 use Rattle.rg_serve.specs.Trails.{Seated}

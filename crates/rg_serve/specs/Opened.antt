@@ -9,10 +9,10 @@ use Rattle.rg_cmd.specs.declared.rule.Rule.{Rule}
 use Rattle.rg_turn.specs.History.{state_after}
 use Rattle.rg_turn.specs.View.{entry}
 use Rattle.rg_turn.specs.declared.rule.Entry.{Entry}
-use Rattle.rg_machine.specs.Logs.{Administration}
-use Rattle.rg_machine.specs.Machine.{download_ask, versions}
-use Rattle.rg_machine.specs.Steps.{step}
-use Rattle.rg_machine.specs.Views.{view}
+use Rattle.rg_admin_laws.specs.Logs.{Administration}
+use Rattle.rg_admin_laws.specs.Machine.{download_ask, versions}
+use Rattle.rg_admin_laws.specs.Steps.{step}
+use Rattle.rg_admin_laws.specs.Views.{view}
 use Rattle.rg_admin.specs.Starting.{started}
 use Rattle.rg_publish.specs.Publications.{publication}
 use Rattle.rg_publish.specs.declared.history.Publication.{Publication}

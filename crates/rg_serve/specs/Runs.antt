@@ -5,10 +5,10 @@ use Rattle.rg_facts.specs.declared.facts.Facts.{Facts}
 use Rattle.rg_cmd.specs.declared.ask.AdminReply.{AdminReply}
 use Rattle.rg_cmd.specs.declared.ask.Ask.{Ask}
 use Rattle.rg_turn.specs.declared.rule.Entry.{Entry}
-use Rattle.rg_machine.specs.Logs.{Administration}
-use Rattle.rg_machine.specs.Machine.{Events, administration, after_events}
-use Rattle.rg_machine.specs.Views.{view}
-use Rattle.rg_machine.specs.World.{Answer, publications}
+use Rattle.rg_admin_laws.specs.Logs.{Administration}
+use Rattle.rg_admin_laws.specs.Machine.{Events, administration, after_events}
+use Rattle.rg_admin_laws.specs.Views.{view}
+use Rattle.rg_admin_laws.specs.World.{Answer, publications}
 use Rattle.rg_publish.specs.declared.history.Publication.{Publication}
 use Rattle.rg_session.specs.Right.{in_world}
 use Rattle.rg_link.specs.Audits.{Decided}

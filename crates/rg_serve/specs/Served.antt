@@ -7,10 +7,10 @@ use Rattle.rg_cmd.specs.declared.ask.Ask.{Ask}
 use Rattle.rg_turn.specs.History.{state_after}
 use Rattle.rg_turn.specs.Values.{TurnName}
 use Rattle.rg_turn.specs.declared.rule.Entry.{Entry}
-use Rattle.rg_machine.specs.Logs.{Administration}
-use Rattle.rg_machine.specs.Machine.{Versions, download_ask, same_versions, versions}
-use Rattle.rg_machine.specs.Steps.{step}
-use Rattle.rg_machine.specs.Views.{view}
+use Rattle.rg_admin_laws.specs.Logs.{Administration}
+use Rattle.rg_admin_laws.specs.Machine.{Versions, download_ask, same_versions, versions}
+use Rattle.rg_admin_laws.specs.Steps.{step}
+use Rattle.rg_admin_laws.specs.Views.{view}
 use Rattle.rg_publish.specs.declared.history.Publication.{Publication}
 use Rattle.rg_serve.specs.Opened.{Opened}
 use Rattle.rg_serve.specs.Trails.{AreServed, Seated}

@@ -7,8 +7,8 @@ use Rattle.rg_turn.specs.Values.{SeatValue, TurnName, calls_at, new_seat}
 use Rattle.rg_turn.specs.declared.rule.Entry.{Entry}
 use Rattle.rg_cmd.specs.declared.ask.AdminReply.{AdminReply}
 use Rattle.rg_cmd.specs.declared.ask.Ask.{Ask}
-use Rattle.rg_machine.specs.Logs.{Administration}
-use Rattle.rg_machine.specs.Machine.{Versions, download_ask}
+use Rattle.rg_admin_laws.specs.Logs.{Administration}
+use Rattle.rg_admin_laws.specs.Machine.{Versions, download_ask}
 use Rattle.rg_publish.specs.Passes.{Seeing, new_pass}
 use Rattle.rg_publish.specs.Publications.{Published}
 use Rattle.rg_publish.specs.declared.history.Publication.{Publication}

@@ -1,8 +1,8 @@
 // The end of a service that has served its links.
 ghost use Rattle.std.specs.Prelude.{◌≡◌, ◌≤◌, ◌+◌, ℕ, Some, length, IfOk, OnOk};
 ghost use mathlib.Core.List.{IsPrefix};
-ghost use Rattle.rg_machine.specs.Starts.{IsStart};
-ghost use Rattle.rg_machine.specs.Steps.{step};
+ghost use Rattle.rg_admin_laws.specs.Starts.{IsStart};
+ghost use Rattle.rg_admin_laws.specs.Steps.{step};
 ghost use Rattle.rg_turn.specs.History.{IsLegal, state_after};
 ghost use Rattle.rg_session.specs.Right.{AreDownloadedFor, AreRightFor};
 ghost use Rattle.rg_serve.specs.Held.{AreWorked};

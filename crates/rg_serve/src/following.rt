@@ -1,7 +1,7 @@
 // What refreshes the publications beside the workers.
 ghost use Rattle.std.specs.Prelude.{◌≡◌, ◌≤◌, ◌+◌, false, length, IfOk};
 ghost use mathlib.Core.List.{IsPrefix};
-ghost use Rattle.rg_machine.specs.Starts.{IsStart};
+ghost use Rattle.rg_admin_laws.specs.Starts.{IsStart};
 ghost use Rattle.rg_session.specs.Right.{AreDownloadedFor, AreRightFor};
 ghost use Rattle.rg_serve.specs.Held.{HasLast, IsFollowing};
 ghost use Rattle.rg_serve.specs.Trails.{Downloads};
@@ -117,7 +117,7 @@ pub(crate) struct Follower<'t, 'b, 'f, J: Naming, R: Wait + Drop> {
 
 impl<'t, 'b, 'f, J: Naming, R: Wait + Drop> Watcher for Follower<'t, 'b, 'f, J, R> {
     ghost use Rattle.std.specs.Prelude.{◌≡◌};
-    ghost use Rattle.rg_machine.specs.Starts.{IsStart};
+    ghost use Rattle.rg_admin_laws.specs.Starts.{IsStart};
 
     ghost can_watch = { λ f. (f.turn.now.turn ≡ J.turn) × IsStart f.turn.now.start };
 

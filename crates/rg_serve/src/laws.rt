@@ -5,7 +5,7 @@ ghost use Rattle.rg_cmd.specs.declared.ask.AdminReply.{AdminReply};
 ghost use Rattle.rg_cmd.specs.declared.ask.Ask.{Ask};
 ghost use Rattle.rg_turn.specs.History.{IsLegal};
 ghost use Rattle.rg_turn.specs.declared.rule.Entry.{Entry};
-ghost use Rattle.rg_machine.specs.Steps.{step};
+ghost use Rattle.rg_admin_laws.specs.Steps.{step};
 ghost use Rattle.rg_publish.specs.declared.history.Publication.{Publication};
 ghost use Rattle.rg_session.specs.Right.{AreDownloadedFor, AreRightFor};
 ghost use Rattle.rg_serve.specs.Opened.{Opened};

@@ -6,7 +6,7 @@ use std::sync::ledger::Ledger;
 /// its type alone, so the type has these names. It is the ledger of the links too.
 pub(crate) trait Naming: Ledger {
     ghost use Rattle.std.specs.Prelude.{ℕ, List};
-    ghost use Rattle.rg_machine.specs.Logs.{Administration};
+    ghost use Rattle.rg_admin_laws.specs.Logs.{Administration};
     ghost use Rattle.rg_turn.specs.Values.{TurnName};
     ghost use Rattle.rg_publish.specs.Publications.{Published};
     ghost use Rattle.rg_publish.specs.declared.history.Publication.{Publication};

@@ -1,7 +1,7 @@
 // A service before it serves links.
 ghost use Rattle.std.specs.Prelude.{◌≡◌, ◌≤◌, ◌+◌, length, Some, IfOk, IfSome};
 ghost use Rattle.rg_admin.specs.Starting.{start_fault};
-ghost use Rattle.rg_machine.specs.Starts.{IsStart};
+ghost use Rattle.rg_admin_laws.specs.Starts.{IsStart};
 ghost use Rattle.rg_serve.specs.Opened.{IsAsked, IsRefreshed, opened, opened_unless};
 
 use rg_admin::{Admin, StartFault};

@@ -2,8 +2,8 @@
 ghost use Rattle.std.specs.Prelude.{◌≡◌, ◌⊎◌, ◌≤◌, ◌<◌, ◌+◌, true, Some, length, IfOk, OnOk, OnErr, MatchResult};
 ghost use Rattle.std.specs.Str.{chars};
 ghost use mathlib.Core.List.{IsPrefix};
-ghost use Rattle.rg_machine.specs.Starts.{IsStart};
-ghost use Rattle.rg_machine.specs.Steps.{step};
+ghost use Rattle.rg_admin_laws.specs.Starts.{IsStart};
+ghost use Rattle.rg_admin_laws.specs.Steps.{step};
 ghost use Rattle.rg_turn.specs.History.{IsLegal, state_after};
 ghost use Rattle.rg_serve.specs.Held.{IsHeld, begun};
 ghost use Rattle.rg_session.specs.Right.{AreDownloadedFor, AreRightFor};

@@ -16,7 +16,7 @@ use Rattle.rg_cmd.specs.declared.download.TagPart.{TagPart}
 use Rattle.rg_cmd.specs.declared.download.TagPart.TheVariants.{Unchanged as TagsUnchanged, Delta as TagsDelta, Whole as TagsWhole}
 use Rattle.rg_delta.specs.Applied.{applied}
 use Rattle.rg_publish.specs.Bounds.{WorkWithin, made, pairs_of_changes}
-use Rattle.rg_machine.specs.Leading.{led, no_roles, policies_in, tags_in, with_policies, with_roles, with_tags}
+use Rattle.rg_admin_laws.specs.Leading.{led, no_roles, policies_in, tags_in, with_policies, with_roles, with_tags}
 use Rattle.rg_session.specs.Documents.{IsFit, roles_in}
 use Rattle.rg_session.specs.Refreshing.{IsWithin, is_partial, is_whole_policies, is_whole_tags}
 

@@ -32,17 +32,17 @@ use Rattle.rg_delegate.specs.Rules.{first_failing}
 use Rattle.rg_delta.specs.Logs.{Known}
 use Rattle.rg_delta.specs.Logs.Known.{Nothing, These, Unknown}
 use Rattle.rg_delta.specs.Logs.{changes_after}
-use Rattle.rg_machine.specs.Downloads.{From, download, download_with, policy_part_by, tag_part_by}
-use Rattle.rg_machine.specs.Laws.{AreNoLess, IsNotDeleted, from_of}
-use Rattle.rg_machine.specs.Leading.{led, policies_in, tags_in, with_policies, with_roles, with_tags}
-use Rattle.rg_machine.specs.Logs.{Administration, log_at, policy_book, tag_book}
-use Rattle.rg_machine.specs.Machine.{Versions, document_of, download_ask, is_unchanged, same_versions, versions}
-use Rattle.rg_machine.specs.Starts.{IsStart}
-use Rattle.rg_machine.specs.Steps.{downloaded, fault, step, step_by}
-use Rattle.rg_machine.specs.Views.{view}
-use Rattle.rg_machine.proofs.Downloading.{viewed}
-use Rattle.rg_machine.proofs.Lists.{some_there}
-use Rattle.rg_machine.proofs.Lawful.{count_after, document_of_step, seq_is}
+use Rattle.rg_admin_laws.specs.Downloads.{From, download, download_with, policy_part_by, tag_part_by}
+use Rattle.rg_admin_laws.specs.Laws.{AreNoLess, IsNotDeleted, from_of}
+use Rattle.rg_admin_laws.specs.Leading.{led, policies_in, tags_in, with_policies, with_roles, with_tags}
+use Rattle.rg_admin_laws.specs.Logs.{Administration, log_at, policy_book, tag_book}
+use Rattle.rg_admin_laws.specs.Machine.{Versions, document_of, download_ask, is_unchanged, same_versions, versions}
+use Rattle.rg_admin_laws.specs.Starts.{IsStart}
+use Rattle.rg_admin_laws.specs.Steps.{downloaded, fault, step, step_by}
+use Rattle.rg_admin_laws.specs.Views.{view}
+use Rattle.rg_admin_laws.proofs.Downloading.{viewed}
+use Rattle.rg_admin_laws.proofs.Lists.{some_there}
+use Rattle.rg_admin_laws.proofs.Lawful.{count_after, document_of_step, seq_is}
 use Rattle.rg_publish.specs.declared.history.Publication.{Publication}
 use Rattle.rg_session.specs.Documents.{IsForward, Leads, roles_in}
 use Rattle.rg_session.specs.Right.{AreRightFor}

@@ -12,11 +12,11 @@ use Rattle.rg_cmd.specs.declared.download.Download.{Download}
 use Rattle.rg_cmd.specs.declared.download.RoleDelta.{RoleDelta}
 use Rattle.rg_cmd.specs.declared.download.RolePart.{RolePart}
 use Rattle.rg_cmd.specs.declared.download.RolePart.TheVariants.{Unchanged as RolesUnchanged, Whole as RolesWhole}
-use Rattle.rg_machine.specs.Leading.{led, no_roles, policies_in, tags_in}
-use Rattle.rg_machine.specs.Logs.{Administration}
-use Rattle.rg_machine.specs.Machine.{download_ask, is_unchanged, same_versions, versions}
-use Rattle.rg_machine.specs.Steps.{step}
-use Rattle.rg_machine.specs.Views.{view}
+use Rattle.rg_admin_laws.specs.Leading.{led, no_roles, policies_in, tags_in}
+use Rattle.rg_admin_laws.specs.Logs.{Administration}
+use Rattle.rg_admin_laws.specs.Machine.{download_ask, is_unchanged, same_versions, versions}
+use Rattle.rg_admin_laws.specs.Steps.{step}
+use Rattle.rg_admin_laws.specs.Views.{view}
 use Rattle.rg_publish.specs.Passes.{Ends}
 use Rattle.rg_publish.specs.Publications.{publication}
 use Rattle.rg_publish.specs.declared.history.Publication.{Publication}

@@ -15,11 +15,11 @@ use Rattle.rg_cmd.specs.declared.download.PolicyPart.TheVariants.{Unchanged as P
 use Rattle.rg_cmd.specs.declared.download.TagPart.{TagPart}
 use Rattle.rg_cmd.specs.declared.download.TagPart.TheVariants.{Unchanged as TagsUnchanged, Delta as TagsDelta, Whole as TagsWhole}
 use Rattle.rg_publish.specs.Bounds.{WorkWithin, made, pairs_of_changes}
-use Rattle.rg_machine.specs.Leading.{policies_in, tags_in}
-use Rattle.rg_machine.specs.Logs.{Administration}
-use Rattle.rg_machine.specs.Machine.{download_ask, same_versions, versions}
-use Rattle.rg_machine.specs.Steps.{step}
-use Rattle.rg_machine.specs.Views.{view}
+use Rattle.rg_admin_laws.specs.Leading.{policies_in, tags_in}
+use Rattle.rg_admin_laws.specs.Logs.{Administration}
+use Rattle.rg_admin_laws.specs.Machine.{download_ask, same_versions, versions}
+use Rattle.rg_admin_laws.specs.Steps.{step}
+use Rattle.rg_admin_laws.specs.Views.{view}
 use Rattle.rg_publish.specs.Passes.{Ends}
 use Rattle.rg_publish.specs.Publications.{publication}
 use Rattle.rg_publish.specs.declared.history.Publication.{Publication}

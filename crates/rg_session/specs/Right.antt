@@ -6,10 +6,10 @@ use Rattle.rg_cmd.specs.declared.ask.AdminReply.{AdminReply}
 use Rattle.rg_cmd.specs.declared.ask.AdminReply.TheVariants.{Downloaded}
 use Rattle.rg_cmd.specs.declared.ask.Ask.{Ask}
 use Rattle.rg_cmd.specs.declared.download.Download.{Download}
-use Rattle.rg_machine.specs.Leading.{led}
-use Rattle.rg_machine.specs.Logs.{Administration}
-use Rattle.rg_machine.specs.Machine.{administration, download_ask, is_unchanged, versions}
-use Rattle.rg_machine.specs.World.{AreRight, Publication as Shown}
+use Rattle.rg_admin_laws.specs.Leading.{led}
+use Rattle.rg_admin_laws.specs.Logs.{Administration}
+use Rattle.rg_admin_laws.specs.Machine.{administration, download_ask, is_unchanged, versions}
+use Rattle.rg_admin_laws.specs.World.{AreRight, Publication as Shown}
 use Rattle.rg_publish.specs.declared.history.Publication.{Publication}
 
 -- a publication of a publisher as one of the world of this plugin

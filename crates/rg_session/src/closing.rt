@@ -4,7 +4,7 @@ ghost use mathlib.Core.List.{IsPrefix};
 ghost use Rattle.rg_turn.specs.Counting.{once_below};
 ghost use Rattle.rg_turn.specs.History.{IsLegal, state_after};
 ghost use Rattle.rg_turn.specs.Values.{calls_at};
-ghost use Rattle.rg_machine.specs.Steps.{step};
+ghost use Rattle.rg_admin_laws.specs.Steps.{step};
 ghost use Rattle.rg_session.specs.Closing.{IsKnown, IsOwn, ahead_of, answers_of};
 ghost use Rattle.rg_session.specs.Right.{AreRightFor};
 

@@ -9,18 +9,18 @@ ghost use Rattle.rg_cmd.specs.declared.ask.AdminReply.{AdminReply};
 ghost use Rattle.rg_cmd.specs.declared.ask.AdminReply.TheVariants.{Downloaded};
 ghost use Rattle.rg_cmd.specs.declared.ask.Ask.{Ask};
 ghost use Rattle.rg_cmd.specs.declared.download.Download.{Download};
-ghost use Rattle.rg_machine.specs.Logs.{Administration};
-ghost use Rattle.rg_machine.specs.Machine.{Versions, download_ask, versions};
-ghost use Rattle.rg_machine.specs.Starts.{IsStart};
-ghost use Rattle.rg_machine.specs.Steps.{step};
-ghost use Rattle.rg_machine.specs.Views.{view};
+ghost use Rattle.rg_admin_laws.specs.Logs.{Administration};
+ghost use Rattle.rg_admin_laws.specs.Machine.{Versions, download_ask, versions};
+ghost use Rattle.rg_admin_laws.specs.Starts.{IsStart};
+ghost use Rattle.rg_admin_laws.specs.Steps.{step};
+ghost use Rattle.rg_admin_laws.specs.Views.{view};
 ghost use Rattle.rg_publish.specs.Publications.{publication};
 ghost use Rattle.rg_publish.specs.declared.history.Publication.{Publication};
 ghost use Rattle.rg_session.specs.Documents.{Leads};
 ghost use Rattle.rg_session.specs.Right.{AreDownloadedFor, AreRightFor};
 
 use rg_admin::Admin;
-use rg_machine::{
+use rg_admin_laws::{
     downloads_lead, plugin_is_always_viewed, publications_stay_right,
     unchanged_from_present_versions, versions_never_fall, views_are_sound,
 };

@@ -2,7 +2,7 @@
 ghost use Rattle.std.specs.Prelude.{◌≡◌, false, true, [], IfOk, None};
 ghost use Rattle.rg_base.specs.Listed.{listed};
 ghost use Rattle.rg_facts.specs.Sound.{sound};
-ghost use Rattle.rg_machine.specs.Leading.{led, no_roles, policies_in, tags_in, with_policies, with_roles, with_tags};
+ghost use Rattle.rg_admin_laws.specs.Leading.{led, no_roles, policies_in, tags_in, with_policies, with_roles, with_tags};
 ghost use Rattle.rg_session.specs.Documents.{IsFit, roles_in};
 ghost use Rattle.rg_session.specs.Refreshing.{IsWithin, is_partial};
 

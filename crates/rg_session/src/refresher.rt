@@ -1,7 +1,7 @@
 // What keeps the publications up with the history.
 ghost use Rattle.std.specs.Prelude.{◌≡◌, ◌-◌, true, Some, length, slice_get, IfOk, OnErr};
 ghost use mathlib.Core.List.{IsPrefix};
-ghost use Rattle.rg_machine.specs.Starts.{IsStart};
+ghost use Rattle.rg_admin_laws.specs.Starts.{IsStart};
 ghost use Rattle.rg_publish.specs.Passes.{Ends};
 ghost use Rattle.rg_publish.specs.declared.history.Publication.{Publication};
 ghost use Rattle.rg_session.specs.Documents.{IsFit, Takes};

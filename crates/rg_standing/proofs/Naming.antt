@@ -10,7 +10,7 @@ use Rattle.rg_policy.specs.declared.request.AccessRequest.{AccessRequest}
 use Rattle.rg_roles.specs.declared.row.RoleRow.{RoleRow}
 use Rattle.rg_roles.specs.Holding.{holds}
 use Rattle.rg_roles.specs.Members.{everybody}
-use Rattle.rg_effect.specs.Subjects.{Subjects, is_owner, names, names_asker, owner_word, subjects_of, user_word}
+use Rattle.rg_items.specs.Subjects.{Subjects, is_owner, names, names_asker, owner_word, subjects_of, user_word}
 use Rattle.rg_standing.specs.Matching.{holding_role, member_of, own_group, subject_of, told_if}
 use Rattle.rg_standing.specs.declared.reason.Subject.TheVariants.{EveryUser, Owner, User, Group, Everybody, Role}
 use Rattle.rg_standing.proofs.Tests.{some_if, some_mapped}

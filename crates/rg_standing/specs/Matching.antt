@@ -9,7 +9,7 @@ use Rattle.rg_policy.specs.declared.request.AccessRequest.{AccessRequest}
 use Rattle.rg_roles.specs.declared.row.RoleRow.{RoleRow}
 use Rattle.rg_roles.specs.Holding.{holds}
 use Rattle.rg_roles.specs.Members.{everybody}
-use Rattle.rg_effect.specs.Subjects.{is_owner, owner_word, user_word}
+use Rattle.rg_items.specs.Subjects.{is_owner, owner_word, user_word}
 use Rattle.rg_evalr.specs.Items.{first_item}
 use Rattle.rg_evalr.specs.declared.frame.Effect.{Effect}
 use Rattle.rg_evalr.specs.declared.frame.Effect.TheVariants.{Nothing, Allow, Deny}

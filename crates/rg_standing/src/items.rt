@@ -2,7 +2,7 @@
 ghost use Rattle.std.specs.Prelude.{◌≡◌, IfOk, is_none, map, not, option_and_then, option_map, position};
 ghost use Rattle.rg_policy.specs.declared.policy.PolicyCondition.{PolicyCondition};
 ghost use Rattle.rg_cond.specs.Conditions.{condition_holds};
-ghost use Rattle.rg_effect.specs.Subjects.{names_asker, subjects_of};
+ghost use Rattle.rg_items.specs.Subjects.{names_asker, subjects_of};
 ghost use Rattle.rg_evalr.specs.Items.{all_hold, first_item, item_matches};
 ghost use Rattle.rg_standing.specs.Matching.{effect_by, match_at, matched, matches_of, subject_of};
 ghost use Rattle.rg_standing.specs.Standing.{def_asked, first_failing};
@@ -12,8 +12,8 @@ use crate::question::Question;
 use crate::reason::{Match, Matches, Subject};
 use rg_base::NoMemory;
 use rg_cond::compile_condition;
-use rg_effect::{Subjects, any_grants, has_owner_word, has_user_word, is_owner, names};
 use rg_evalr::Effect;
+use rg_items::{Subjects, any_grants, has_owner_word, has_user_word, is_owner, names};
 use rg_policy::{Item, Policy, PolicyCondition};
 use std::alloc::Global;
 

@@ -4,7 +4,7 @@ ghost use Rattle.rg_policy.specs.declared.policy.Item.{Item};
 ghost use Rattle.rg_policy.specs.declared.policy.Policy.{Policy};
 ghost use Rattle.rg_policy.specs.declared.request.AccessRequest.{AccessRequest};
 ghost use Rattle.rg_roles.specs.declared.row.RoleRow.{RoleRow};
-ghost use Rattle.rg_effect.specs.Subjects.{Subjects, names, names_asker};
+ghost use Rattle.rg_items.specs.Subjects.{Subjects, names, names_asker};
 ghost use Rattle.rg_evalr.specs.Effects.{access_of, in_play};
 ghost use Rattle.rg_evalr.specs.Items.{first_item};
 ghost use Rattle.rg_standing.specs.Asking.{Asked};

@@ -7,7 +7,7 @@ ghost use Rattle.rg_standing.specs.Matching.{holding_role, member_of, own_group}
 
 use crate::reason::Subject;
 use rg_base::{NoMemory, Text, TryCopy, is_among};
-use rg_effect::{Subjects, names};
+use rg_items::{Subjects, names};
 use rg_policy::AccessRequest;
 use rg_roles::Roles;
 use std::alloc::Global;

@@ -5,11 +5,11 @@ use Rattle.std.proofs.lemmas.Bool.Decides.{Decides-eqb}
 use Rattle.std.proofs.lemmas.Option.{same_Some}
 use Rattle.rg_base.specs.declared.numbers.Moment.{Moment}
 use Rattle.rg_script.specs.Line.{is_blank, line_read}
-use Rattle.rg_work.specs.declared.status.Status.{Status}
-use Rattle.rg_work.specs.declared.status.Status.TheVariants.{BadLine, Done}
-use Rattle.rg_work.specs.Follow.{Decided, Output, Work, before, ends_bad, worked}
-use Rattle.rg_work.specs.Printed.{quiet}
-use Rattle.rg_replay.specs.Replay.{State, replay_step, replayed}
+use Rattle.rg_run_script.specs.declared.status.Status.{Status}
+use Rattle.rg_run_script.specs.declared.status.Status.TheVariants.{BadLine, Done}
+use Rattle.rg_run_script.specs.Follow.{Decided, Output, Work, before, ends_bad, worked}
+use Rattle.rg_run_script.specs.Printed.{quiet}
+use Rattle.rg_run_replay.specs.Replay.{State, replay_step, replayed}
 use Rattle.rg_test_script.specs.Alike.{AreAlike, EndsAlike}
 use Rattle.rg_test_script.specs.Expecting.{behind, expecting, wanted_by}
 use Rattle.rg_test_script.specs.Testing.{Progress, begins, ended, ended_by, judge_work, judged, is_sound, moved, other_work, outcome_of, test_step, tested}

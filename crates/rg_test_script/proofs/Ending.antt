@@ -2,12 +2,12 @@
 use Rattle.std.proofs.Common.{◌≡◌, ◌⊎◌, ◌∙◌, [], ℕ, Bool, true, false, List, Option, Some, None, inl, inr, is_some, option_map, if◌then◌else◌, refl, ap, sym, subst}
 use Rattle.std.proofs.lemmas.Option.{same_Some}
 use Rattle.rg_base.specs.declared.numbers.Moment.{Moment}
-use Rattle.rg_work.specs.declared.status.Status.{Status}
-use Rattle.rg_work.specs.declared.status.Status.TheVariants.{BadLine, Done, NoMemory}
-use Rattle.rg_work.specs.Follow.{Comes, Decided, Output, worked}
-use Rattle.rg_work.specs.Ports.{Ports, ports}
-use Rattle.rg_work.specs.Runs.{IsRun, OfStatus, Stands}
-use Rattle.rg_work.specs.Statuses.{number_of}
+use Rattle.rg_run_script.specs.declared.status.Status.{Status}
+use Rattle.rg_run_script.specs.declared.status.Status.TheVariants.{BadLine, Done, NoMemory}
+use Rattle.rg_run_script.specs.Follow.{Comes, Decided, Output, worked}
+use Rattle.rg_run_script.specs.Ports.{Ports, ports}
+use Rattle.rg_run_script.specs.Runs.{IsRun, OfStatus, Stands}
+use Rattle.rg_run_script.specs.Statuses.{number_of}
 use Rattle.rg_test_script.specs.Ends.{IsEnd}
 use Rattle.rg_test_script.specs.Testing.{Progress, begins, ended, ended_by, framed, test_step, tested}
 use Rattle.rg_test_script.specs.declared.form.Form.{Form}

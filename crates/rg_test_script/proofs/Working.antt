@@ -14,11 +14,11 @@ use Rattle.rg_publish.specs.declared.history.Publication.{Publication}
 use Rattle.rg_script.specs.Line.{is_blank}
 use Rattle.rg_script.specs.declared.line.Line.{Line}
 use Rattle.rg_script.specs.declared.line.Line.TheVariants as line
-use Rattle.rg_work.specs.Follow.{IsWorked, Work}
-use Rattle.rg_work.specs.Printed.{deciding, quiet}
-use Rattle.rg_replay.specs.Replay.{State, admin_work, config_work, decide_work, decision_by_newest, facts_work, line_work, newest_of, prepare_work, published_facts, refresh_work, refreshed_from, replay_step, request_in, service_of}
-use Rattle.rg_replay.specs.declared.replay.Stage.TheVariants as state
-use Rattle.rg_replay.proofs.Working.{asks, bad_asks_none}
+use Rattle.rg_run_script.specs.Follow.{IsWorked, Work}
+use Rattle.rg_run_script.specs.Printed.{deciding, quiet}
+use Rattle.rg_run_replay.specs.Replay.{State, admin_work, config_work, decide_work, decision_by_newest, facts_work, line_work, newest_of, prepare_work, published_facts, refresh_work, refreshed_from, replay_step, request_in, service_of}
+use Rattle.rg_run_replay.specs.declared.replay.Stage.TheVariants as state
+use Rattle.rg_run_replay.proofs.Working.{asks, bad_asks_none}
 use Rattle.rg_test_script.specs.Coming.{CameTo}
 use Rattle.rg_test_script.specs.Expecting.{is_form, is_met, wanted_by}
 use Rattle.rg_test_script.specs.Testing.{Progress, counted, is_sound, judge_work, judged_text, moved, other_work, outcome_by, outcome_of, reason_of, stands_behind, test_step}

@@ -1,8 +1,8 @@
 -- How a script ends that is replayed, and that is tested.
 use Rattle.std.specs.Prelude.{◌≡◌, Option, Some, None}
-use Rattle.rg_replay.specs.Replay.{State}
-use Rattle.rg_work.specs.declared.status.Status.TheVariants.{Done}
-use Rattle.rg_work.specs.Follow.{Output}
+use Rattle.rg_run_replay.specs.Replay.{State}
+use Rattle.rg_run_script.specs.declared.status.Status.TheVariants.{Done}
+use Rattle.rg_run_script.specs.Follow.{Output}
 use Rattle.rg_test_script.specs.Testing.{Progress}
 
 -- the replay has no bad line, and both end in one state

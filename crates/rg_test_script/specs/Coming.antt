@@ -1,7 +1,7 @@
 -- What a line of the replay came to, as a relation. Only proofs need it.
 use Rattle.std.specs.Prelude.{◌≡◌, Option, Some, None}
-use Rattle.rg_work.specs.Follow.{Work}
-use Rattle.rg_replay.specs.Replay.{State}
+use Rattle.rg_run_script.specs.Follow.{Work}
+use Rattle.rg_run_replay.specs.Replay.{State}
 use Rattle.rg_test_script.specs.declared.outcome.Outcome.{Outcome}
 use Rattle.rg_test_script.specs.Testing.{outcome_of}
 

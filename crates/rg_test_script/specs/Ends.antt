@@ -1,7 +1,7 @@
 -- How tests end.
 use Rattle.std.specs.Prelude.{◌≡◌, ℕ, Option, Some, None}
-use Rattle.rg_work.specs.Ports.{Ports}
-use Rattle.rg_work.specs.Runs.{IsRun, OfStatus, Stands}
+use Rattle.rg_run_script.specs.Ports.{Ports}
+use Rattle.rg_run_script.specs.Runs.{IsRun, OfStatus, Stands}
 use Rattle.rg_test_script.specs.declared.form.Form.{Form}
 use Rattle.rg_test_script.specs.Testing.{tested}
 

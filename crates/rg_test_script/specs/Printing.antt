@@ -1,8 +1,8 @@
 -- What is printed of tests.
 use Rattle.std.specs.Prelude.{ℕ, Bool, ◌==◌, nat_lt, ◌&&◌, ◌||◌, not, ◌++◌, List, [], codes, decimal, encode_utf8, flat_map, if◌then◌else◌}
 use Rattle.std.specs.Str.{chars}
-use Rattle.rg_work.specs.declared.status.Status.{Status}
-use Rattle.rg_work.specs.declared.status.Status.TheVariants.{BadLine}
+use Rattle.rg_run_script.specs.declared.status.Status.{Status}
+use Rattle.rg_run_script.specs.declared.status.Status.TheVariants.{BadLine}
 use Rattle.rg_test_script.specs.declared.form.Form.{Form}
 use Rattle.rg_test_script.specs.declared.form.Form.TheVariants as form
 

@@ -8,12 +8,12 @@ use Rattle.rg_explain_wire.specs.Words.{explanation_words}
 use Rattle.rg_wire.specs.Printing.{decision_text}
 use Rattle.rg_publish.specs.declared.history.Publication.{Publication}
 use Rattle.rg_script.specs.Line.{is_blank}
-use Rattle.rg_work.specs.Follow.{Decided, Output, Script, Work, worked}
-use Rattle.rg_work.specs.declared.status.Status.{Status}
-use Rattle.rg_work.specs.declared.status.Status.TheVariants.{Done, BadLine}
-use Rattle.rg_work.specs.Printed.{quiet}
-use Rattle.rg_replay.specs.Replay.{State, newest_of, replay_step}
-use Rattle.rg_replay.specs.declared.replay.Stage.TheVariants as state
+use Rattle.rg_run_script.specs.Follow.{Decided, Output, Script, Work, worked}
+use Rattle.rg_run_script.specs.declared.status.Status.{Status}
+use Rattle.rg_run_script.specs.declared.status.Status.TheVariants.{Done, BadLine}
+use Rattle.rg_run_script.specs.Printed.{quiet}
+use Rattle.rg_run_replay.specs.Replay.{State, newest_of, replay_step}
+use Rattle.rg_run_replay.specs.declared.replay.Stage.TheVariants as state
 use Rattle.rg_test_script.specs.declared.form.Form.{Form}
 use Rattle.rg_test_script.specs.declared.outcome.Outcome.{Outcome}
 use Rattle.rg_test_script.specs.declared.outcome.Outcome.TheVariants as outcome

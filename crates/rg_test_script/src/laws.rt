@@ -1,9 +1,9 @@
 // How a script ends that is tested, and that is replayed.
 ghost use Rattle.std.specs.Prelude.{◌≡◌, ℕ, List, Some};
 ghost use Rattle.rg_base.specs.declared.numbers.Moment.{Moment};
-ghost use Rattle.rg_replay.specs.Replay.{replayed};
-ghost use Rattle.rg_work.specs.Follow.{Output};
-ghost use Rattle.rg_work.specs.declared.status.Status.TheVariants.{Done};
+ghost use Rattle.rg_run_replay.specs.Replay.{replayed};
+ghost use Rattle.rg_run_script.specs.Follow.{Output};
+ghost use Rattle.rg_run_script.specs.declared.status.Status.TheVariants.{Done};
 ghost use Rattle.rg_test_script.specs.Alike.{EndsAlike};
 ghost use Rattle.rg_test_script.specs.Testing.{Progress, tested};
 ghost use Rattle.rg_test_script.specs.declared.form.Form.{Form};

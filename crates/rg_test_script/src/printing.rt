@@ -4,7 +4,7 @@ ghost use Rattle.rg_test_script.specs.Printing.{bad_case, case_open, escaped, es
 
 use crate::form::Form;
 use rg_base::NoMemory;
-use rg_work::Status;
+use rg_run_script::Status;
 use std::alloc::Global;
 
 // ---- XML

@@ -10,11 +10,11 @@ use Rattle.rg_policy.specs.Maps.{maps_of}
 use Rattle.rg_policy.specs.declared.policy.Policy.{Policy}
 use Rattle.rg_cmd.specs.Lookups.{has_id, policy_at}
 use Rattle.rg_cmd.specs.declared.state.State.{State}
-use Rattle.rg_twins.specs.Counts.{IsCounted, count_of, has_print}
-use Rattle.rg_twins.specs.Prints.{name_print_of, print_of}
-use Rattle.rg_twins.specs.Twins.{is_twin, same_kind, same_maps, same_place}
-use Rattle.rg_twins.proofs.Counting.{has_map_print, has_name_print, none_has, none_other}
-use Rattle.rg_twins.proofs.OnePrint.{one_name_print, one_print}
+use Rattle.rg_same_resources.specs.Counts.{IsCounted, count_of, has_print}
+use Rattle.rg_same_resources.specs.Prints.{name_print_of, print_of}
+use Rattle.rg_same_resources.specs.Twins.{is_twin, same_kind, same_maps, same_place}
+use Rattle.rg_same_resources.proofs.Counting.{has_map_print, has_name_print, none_has, none_other}
+use Rattle.rg_same_resources.proofs.OnePrint.{one_name_print, one_print}
 use Rattle.rg_validate.specs.Policies.{is_namesake, is_other, old_form}
 use Rattle.rg_validate.specs.Steps.{own_count}
 

@@ -7,7 +7,7 @@ use Rattle.rg_policy.specs.declared.policy.Policy.{Policy}
 use Rattle.rg_defs.specs.Rules.{rules_of, tag_name}
 use Rattle.rg_defs.specs.declared.service_def.ServiceDef.{ServiceDef}
 use Rattle.rg_cond.specs.PolicyRules.{conditions_compile}
-use Rattle.rg_effect.specs.PolicyRules.{entries_fit, lists_fit, outcomes_fit, type_fits}
+use Rattle.rg_items.specs.PolicyRules.{entries_fit, lists_fit, outcomes_fit, type_fits}
 use Rattle.rg_resmatch.specs.Rules.{policy_levels_fit, policy_values_fit, tagged_fit}
 use Rattle.rg_tags.specs.declared.row.TagRow.{TagRow}
 use Rattle.rg_zone_rules.specs.Overlap.{first_overlap}

@@ -1,4 +1,4 @@
--- The rules of policies that look at the state. Those of one policy by itself stand in rg_effect, rg_resmatch and rg_cond.
+-- The rules of policies that look at the state. Those of one policy by itself stand in rg_items, rg_resmatch and rg_cond.
 use Rattle.std.specs.Prelude.{◌&&◌, ◌||◌, not, Bool, true, List, [], ◌∷◌, Option, Some, None, option_and_then}
 use Rattle.std.specs.List.{list_any}
 use Rattle.std.specs.Str.{bytes_eq}
@@ -7,7 +7,7 @@ use Rattle.rg_base.specs.declared.numbers.PolicyId.{PolicyId}
 use Rattle.rg_policy.specs.declared.policy.Policy.{Policy}
 use Rattle.rg_defs.specs.declared.service_def.ServiceDef.{ServiceDef}
 use Rattle.rg_cond.specs.PolicyRules.{conditions_compile, schedules_read}
-use Rattle.rg_effect.specs.PolicyRules.{entries_fit, lists_fit, outcomes_fit, priority_fits, subjects_fit, type_fits}
+use Rattle.rg_items.specs.PolicyRules.{entries_fit, lists_fit, outcomes_fit, priority_fits, subjects_fit, type_fits}
 use Rattle.rg_resmatch.specs.Rules.{policy_levels_fit, policy_values_fit}
 use Rattle.rg_roles.specs.Members.{names_of}
 use Rattle.rg_zone_rules.specs.Rules.{policy_zone_fits}
@@ -15,7 +15,7 @@ use Rattle.rg_cmd.specs.Lookups.{has_id, is_tag_service, policy_at}
 use Rattle.rg_cmd.specs.declared.rule.Rule.TheVariants.{V1, V2, V3, V4, V5, V6, V7, V8, V9, V10, V11, V12, V13, V14}
 use Rattle.rg_cmd.specs.declared.state.State.{State}
 use Rattle.rg_validate.specs.Failing.{Tested}
-use Rattle.rg_twins.specs.Twins.{is_twin, same_place}
+use Rattle.rg_same_resources.specs.Twins.{is_twin, same_place}
 
 -- the policy is another one than that which is updated, if one is
 abbrev pub is_other : Option PolicyId → Policy → Bool

@@ -5,10 +5,10 @@ use Rattle.rg_base.specs.declared.numbers.PolicyId.{PolicyId}
 use Rattle.rg_policy.specs.declared.policy.Policy.{Policy}
 use Rattle.rg_defs.specs.declared.service_def.ServiceDef.{ServiceDef}
 use Rattle.rg_cond.specs.PolicyRules.{conditions_compile, schedules_read}
-use Rattle.rg_effect.specs.PolicyRules.{entries_fit, lists_fit, outcomes_fit, priority_fits, type_fits}
+use Rattle.rg_items.specs.PolicyRules.{entries_fit, lists_fit, outcomes_fit, priority_fits, type_fits}
 use Rattle.rg_resmatch.specs.Rules.{policy_levels_fit, policy_values_fit}
 use Rattle.rg_roles.specs.declared.row.RoleRow.{RoleRow}
-use Rattle.rg_twins.specs.Counts.{has_print}
+use Rattle.rg_same_resources.specs.Counts.{has_print}
 use Rattle.rg_cmd.specs.declared.rule.Rule.TheVariants.{V1, V2, V3, V4, V5, V6, V7, V8, V9, V10, V11, V12, V13, V14, O2, O3}
 use Rattle.rg_cmd.specs.declared.state.State.{State}
 use Rattle.rg_validate.specs.Failing.{Tested}

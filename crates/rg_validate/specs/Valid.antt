@@ -8,7 +8,7 @@ use Rattle.rg_policy.specs.declared.policy.Policy.{Policy}
 use Rattle.rg_cond.specs.PolicyRules.{schedules_read}
 use Rattle.rg_defs.specs.Rules.{def_fault}
 use Rattle.rg_defs.specs.declared.service_def.ServiceDef.{ServiceDef}
-use Rattle.rg_effect.specs.PolicyRules.{priority_fits}
+use Rattle.rg_items.specs.PolicyRules.{priority_fits}
 use Rattle.rg_roles.specs.Faults.{fault_of}
 use Rattle.rg_tags.specs.Rules.{tags_fit}
 use Rattle.rg_tags.specs.declared.row.TagRow.{TagRow}

@@ -1,7 +1,7 @@
 // The first rule that each command breaks, but for L1 and the rules of authority.
 ghost use Rattle.std.specs.Prelude.{◌≡◌, ◌∷◌, [], IfOk};
 ghost use Rattle.rg_cmd.specs.declared.ask.AdminCommand.TheVariants.{CreatePolicy, CreateService, DeleteRole, DeleteService, DeleteZone, PutDef, PutRole, PutTags, PutZone, UpdatePolicy, UpdateService};
-ghost use Rattle.rg_twins.specs.Counts.{IsCounted};
+ghost use Rattle.rg_same_resources.specs.Counts.{IsCounted};
 ghost use Rattle.rg_validate.specs.Definitions.{definition_rule, definition_rules};
 ghost use Rattle.rg_validate.specs.Failing.{first_failing};
 ghost use Rattle.rg_validate.specs.Rules.{command_rules};
@@ -29,8 +29,8 @@ use rg_defs::{DefFault, ServiceDef, check_def};
 use rg_policy::Policy;
 use rg_roles::RoleRow;
 use rg_roles::laws::{leads_is_decided, row_may_be_put, sound_in_lists};
+use rg_same_resources::PrintCounts;
 use rg_tags::{TagRow, tags_fit};
-use rg_twins::PrintCounts;
 use rg_zone_rules::ZoneRow;
 use std::alloc::Global;
 

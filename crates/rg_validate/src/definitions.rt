@@ -13,7 +13,7 @@ use rg_base::{NameIndex, NoMemory, Text, TryCopy, same_text};
 use rg_cmd::State;
 use rg_cond::conditions_compile;
 use rg_defs::{Paths, ServiceDef};
-use rg_effect::{entries_fit, lists_fit, outcomes_fit, type_fits};
+use rg_items::{entries_fit, lists_fit, outcomes_fit, type_fits};
 use rg_policy::Policy;
 use rg_resmatch::{policy_levels_fit, policy_values_fit, tagged_fit};
 use rg_tags::TagRow;

@@ -7,8 +7,8 @@ ghost use Rattle.rg_policy.specs.declared.policy.Policy.{Policy};
 ghost use Rattle.rg_validate.specs.Failing.{first_failing};
 ghost use Rattle.rg_validate.specs.Policies.{has_no_twin, is_namesake, is_other, old_form, policy_name_is_new, policy_place_fits, policy_rules, policy_subjects_fit, stays_in, zone_fits};
 ghost use Rattle.rg_validate.specs.Steps.{form_rules, name_rules, own_count, setting_rules};
-ghost use Rattle.rg_twins.specs.Counts.{IsCounted, has_print};
-ghost use Rattle.rg_twins.specs.Twins.{is_twin};
+ghost use Rattle.rg_same_resources.specs.Counts.{IsCounted, has_print};
+ghost use Rattle.rg_same_resources.specs.Twins.{is_twin};
 ghost use Rattle.rg_validate.specs.Users.{time_zones_read};
 ghost use Rattle.rg_validate.specs.Valid.{IsValid};
 
@@ -17,10 +17,10 @@ use rg_base::{NameIndex, NoMemory, PolicyId, is_name, same_text};
 use rg_cmd::{Rule, State};
 use rg_cond::{TimeZoneFault, TimeZones, conditions_compile, schedules_read};
 use rg_defs::{Paths, ServiceDef};
-use rg_effect::{entries_fit, lists_fit, outcomes_fit, priority_fits, subjects_fit, type_fits};
+use rg_items::{entries_fit, lists_fit, outcomes_fit, priority_fits, subjects_fit, type_fits};
 use rg_policy::Policy;
 use rg_resmatch::{policy_levels_fit, policy_values_fit};
-use rg_twins::{PrintCounts, has_print, is_twin, name_print_of, print_of, same_place};
+use rg_same_resources::{PrintCounts, has_print, is_twin, name_print_of, print_of, same_place};
 use rg_zone_rules::policy_zone_fits;
 use std::alloc::Global;
 

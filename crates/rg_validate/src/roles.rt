@@ -12,7 +12,7 @@ ghost use Rattle.rg_validate.specs.Valid.{IsValid};
 use crate::existence::role_exists;
 use rg_base::{NameIndex, NoMemory, Text, TryCopy, is_among, same_text};
 use rg_cmd::State;
-use rg_effect::all_among;
+use rg_items::all_among;
 use rg_policy::{Item, Policy, item_lists};
 use rg_roles::laws::{leads_is_decided, row_may_be_put, sound_in_lists};
 use rg_roles::{RoleRow, role_fault};

@@ -1,6 +1,6 @@
 // The first rule that a command breaks.
 ghost use Rattle.std.specs.Prelude.{◌≡◌, IfOk};
-ghost use Rattle.rg_twins.specs.Counts.{IsCounted};
+ghost use Rattle.rg_same_resources.specs.Counts.{IsCounted};
 ghost use Rattle.rg_validate.specs.Failing.{first_failing};
 ghost use Rattle.rg_validate.specs.Rules.{first_fault, limit_rules, only_reads};
 ghost use Rattle.rg_validate.specs.Valid.{IsValid};
@@ -8,7 +8,7 @@ ghost use Rattle.rg_validate.specs.Valid.{IsValid};
 use crate::commands::command_fault;
 use rg_base::NoMemory;
 use rg_cmd::{AdminCommand, Ask, Rule, State};
-use rg_twins::PrintCounts;
+use rg_same_resources::PrintCounts;
 use std::alloc::Global;
 
 /// The most entries that a history has before changes are refused.

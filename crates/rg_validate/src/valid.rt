@@ -23,7 +23,7 @@ use crate::zones::{zone_levels_suit, zone_services_fit, zone_subjects_exist, zon
 use rg_base::{NoMemory, PolicyId, Text, all_names_distinct};
 use rg_cmd::{ServiceRow, State};
 use rg_defs::{DefFault, Paths, ServiceDef, check_def};
-use rg_effect::priority_fits;
+use rg_items::priority_fits;
 use rg_policy::Policy;
 use rg_roles::role_fault;
 use rg_tags::{TagRow, tags_fit};

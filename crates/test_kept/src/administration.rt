@@ -4,7 +4,7 @@ use rg_ask_wire::read_ask;
 use rg_cmd::Config;
 use rg_cmd_wire::read_config;
 use rg_keep::{KeptAdmin, ReopenFault};
-use rg_keeper::{Keeper, KeeperFault};
+use rg_record_store::{Keeper, KeeperFault};
 use std::alloc::Global;
 
 fn config_of(alloc: Global, text: &str) -> Result<Config> {

@@ -1,7 +1,7 @@
 // A database in memory as a keeper: each row is a call, and what it answers.
 use crate::keepers::database_in_memory;
 use anyhow::Result;
-use rg_keeper::Keeper;
+use rg_record_store::Keeper;
 use std::alloc::{AllocError, Global};
 use test_tables::text_of;
 

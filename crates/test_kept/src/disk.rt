@@ -9,7 +9,7 @@ use commands::Command;
 use marks::Marks;
 use rg_admin::Admin;
 use rg_keep::{KeptAdmin, ReopenFault};
-use rg_keeper::{Keeper, SqlKeeper};
+use rg_record_store::{Keeper, SqlKeeper};
 use sqlite::{Connection, File, FileStore};
 use std::alloc::Global;
 use std::fs;

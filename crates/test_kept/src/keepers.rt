@@ -1,6 +1,6 @@
 // Keepers over a database.
 use rg_base::Seq;
-use rg_keeper::SqlKeeper;
+use rg_record_store::SqlKeeper;
 use sqlite::{Alter, Connection, Error, MemStore};
 use std::alloc::{AllocError, Global};
 use test_tables::add_record;

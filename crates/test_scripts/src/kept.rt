@@ -5,7 +5,7 @@
 // The last rows are of a keeper that holds `{}`.
 mod runs;
 
-use rg_keeper::{FailingCall, MemKeeper};
+use rg_record_store::{FailingCall, MemKeeper};
 use runs::tell_run;
 use std::alloc::{AllocError, Global};
 use std::sync::Wait;

@@ -1,6 +1,6 @@
 // Keepers of records in memory, and calls of theirs that fail.
 use rg_base::Seq;
-use rg_keeper::{FailingCall, MemKeeper};
+use rg_record_store::{FailingCall, MemKeeper};
 use std::alloc::{AllocError, Global};
 use std::str;
 

@@ -3,8 +3,8 @@ use Rattle.std.specs.Prelude.{◌≡◌, ℕ, List}
 use Rattle.rg_turn.specs.Values.{SeatValue, TurnValue}
 use Rattle.rg_cmd.specs.declared.ask.AdminReply.{AdminReply}
 use Rattle.rg_cmd.specs.declared.ask.Ask.{Ask}
-use Rattle.rg_machine.specs.Logs.{Administration}
-use Rattle.rg_machine.specs.Starts.{IsStart}
+use Rattle.rg_admin_laws.specs.Logs.{Administration}
+use Rattle.rg_admin_laws.specs.Starts.{IsStart}
 use Rattle.rg_publish.specs.Publications.{Published}
 use Rattle.rg_session.specs.Right.{AreRightFor}
 

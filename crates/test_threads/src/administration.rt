@@ -1,6 +1,6 @@
 // An administration and what it is asked, made of texts.
 ghost use Rattle.std.specs.Prelude.{IfSome};
-ghost use Rattle.rg_machine.specs.Starts.{IsStart};
+ghost use Rattle.rg_admin_laws.specs.Starts.{IsStart};
 
 use rg_admin::Admin;
 use rg_base::{Moment, Text};

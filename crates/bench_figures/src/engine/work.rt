@@ -7,7 +7,7 @@ use super::workload::{facts, generator, requests};
 use rg_base::{NoMemory, Steps, TryCopy};
 use rg_engine::Engine;
 use rg_facts::Facts;
-use rg_plain::Plain;
+use rg_plain_engine::Plain;
 use rg_policy::AccessRequest;
 use std::alloc::Global;
 

@@ -5,8 +5,8 @@ ghost use Rattle.rg_facts.specs.Sound.{sound};
 use rg_base::{NoMemory, PolicyId, Seq, Text, Version};
 use rg_drill::{Generator, hive};
 use rg_facts::Facts;
+use rg_facts_check::facts_fault;
 use rg_policy::{AccessRequest, Policy};
-use rg_sound::facts_fault;
 use std::alloc::Global;
 
 /// What the draws begin with.

@@ -10,7 +10,7 @@ use rg_base::{NoMemory, Steps, TryCopy};
 use rg_delta::apply_plain;
 use rg_engine::Engine;
 use rg_facts::{Access, Facts, Verdict};
-use rg_plain::Plain;
+use rg_plain_engine::Plain;
 use rg_policy::AccessRequest;
 use std::alloc::Global;
 

@@ -5,7 +5,7 @@ use anyhow::Result;
 use rg_admin::Admin;
 use rg_base::Seq;
 use rg_keep::{KeptAdmin, ReopenCause};
-use rg_keeper::{FailingCall, Keeper, MemKeeper};
+use rg_record_store::{FailingCall, Keeper, MemKeeper};
 use std::alloc::{AllocError, Global};
 use test_tables::{add_record, failing_keeper, keeper_of, way_of};
 

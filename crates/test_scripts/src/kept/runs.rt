@@ -3,11 +3,11 @@ ghost use Rattle.std.specs.Prelude.{◌≡◌, ◌≤◌, ◌<◌, length, IfOk,
 
 use rg_base::{Moment, NoMemory, Seq};
 use rg_hook::{AuditSink, MemAudit, RequestHooks};
-use rg_keeper::MemKeeper;
 use rg_policy::AccessRequest;
 use rg_ports::{
     Clock, FreeGate, ListClock, Listener, MemListener, MemSink, MemSource, Sink, Source,
 };
+use rg_record_store::MemKeeper;
 use rg_run::run;
 use std::alloc::{AllocError, Global};
 use std::sync::Wait;

@@ -7,8 +7,8 @@ use rg_cmd::{CREATED, DELETED, PolicyChange, PolicyDelta, RoleDelta, TagDelta, U
 use rg_delta::apply_plain;
 use rg_engine::{ApplyFault, Engine};
 use rg_facts::Facts;
+use rg_facts_check::facts_fault;
 use rg_policy::Policy;
-use rg_sound::facts_fault;
 use rg_wire::{read_facts, read_policy};
 use std::alloc::Global;
 

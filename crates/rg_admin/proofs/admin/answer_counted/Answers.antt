@@ -1,9 +1,9 @@
 use Rattle.std.proofs.Common.{◌≡◌, List, Option, ap, refl, subst, sym}
 use Rattle.rg_policy.specs.declared.policy.Policy.{Policy}
-use Rattle.rg_twins.specs.Counts.{IsCounted}
-use Rattle.rg_twins.specs.declared.prints.Prints.{Prints}
-use Rattle.rg_twins.proofs.Counting.{counted_same}
-use Rattle.rg_machine.specs.Logs.{Administration}
+use Rattle.rg_same_resources.specs.Counts.{IsCounted}
+use Rattle.rg_same_resources.specs.declared.prints.Prints.{Prints}
+use Rattle.rg_same_resources.proofs.Counting.{counted_same}
+use Rattle.rg_admin_laws.specs.Logs.{Administration}
 use Rattle.rg_admin.specs.Counting.{IsCountedIn, IsCountedOut}
 use Rattle.rg_admin.specs.Stepped.{administration_in}
 use Rattle.rg_admin.specs.declared.counting.Shift.{Shift}

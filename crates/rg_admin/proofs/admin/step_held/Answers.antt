@@ -1,5 +1,5 @@
 use Rattle.std.proofs.Common.{refl, sym, ◌∙◌, subst}
-use Rattle.rg_twins.specs.Counts.{IsCounted}
+use Rattle.rg_same_resources.specs.Counts.{IsCounted}
 use Rattle.rg_cmd.specs.declared.state.State.{State}
 use Rattle.rg_admin.proofs.Stepping.{refused_step, stepped_on}
 use Rattle.rg_admin.proofs.admin.step_held.Goals as goal

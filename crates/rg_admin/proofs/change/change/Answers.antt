@@ -1,7 +1,7 @@
 use Rattle.std.proofs.Common.{arith, ap, sym, ◌∙◌, w64, FitsSigned}
 use Rattle.std.proofs.lemmas.Int.{ints, to_z-of_z}
 use Rattle.rg_cmd.specs.declared.ask.AdminCommand.TheVariants.{DeleteTags}
-use Rattle.rg_machine.specs.Changes.{after_command}
+use Rattle.rg_admin_laws.specs.Changes.{after_command}
 use Rattle.rg_admin.proofs.change.change.Goals as goal
 
 pub returns-in-DeleteTags-clause-ok : goal.returns-in-DeleteTags-clause-ok

@@ -1,5 +1,5 @@
 use Rattle.std.proofs.Common.{Option, OnOk, sym, subst, arith}
-use Rattle.rg_twins.specs.declared.prints.Prints.{Prints}
+use Rattle.rg_same_resources.specs.declared.prints.Prints.{Prints}
 use Rattle.rg_admin.specs.Counting.{IsCountedIn}
 use Rattle.rg_admin.proofs.counting.count_in.Goals as goal
 

@@ -1,5 +1,5 @@
 use Rattle.std.proofs.Common.{Option, sym, subst, arith}
-use Rattle.rg_twins.specs.declared.prints.Prints.{Prints}
+use Rattle.rg_same_resources.specs.declared.prints.Prints.{Prints}
 use Rattle.rg_admin.specs.Counting.{IsCountedOut}
 use Rattle.rg_admin.proofs.counting.count_out.Goals as goal
 

@@ -1,7 +1,7 @@
 use Rattle.std.proofs.Common.{◌≡◌, ◌||◌, ◌++◌}
 use Rattle.std.specs.List.{filter_map, list_any}
 use Rattle.std.specs.VecDeque.Iter.{deque_iter_rest}
-use Rattle.rg_machine.specs.Downloads.{is_of_zones, policy_change}
+use Rattle.rg_admin_laws.specs.Downloads.{is_of_zones, policy_change}
 use Rattle.rg_admin.proofs.download.copy_entries.Given as goal
 
 -- what is copied, with what is left

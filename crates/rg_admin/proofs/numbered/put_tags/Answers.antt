@@ -4,7 +4,7 @@ use Rattle.std.proofs.lemmas.Result.{on_ok_weaker}
 use Rattle.rg_base.specs.Listed.{listed}
 use Rattle.rg_tags.specs.declared.row.TagRow.{TagRow}
 use Rattle.rg_cmd.specs.Lookups.{has_row_id}
-use Rattle.rg_machine.specs.Changes.{stored_row}
+use Rattle.rg_admin_laws.specs.Changes.{stored_row}
 use Rattle.rg_admin.specs.InPlace.{put_at}
 use Rattle.rg_admin.proofs.Firsts.{put_by_id}
 use Rattle.rg_admin.proofs.numbered.put_tags.Goals as goal

@@ -5,7 +5,7 @@ use Rattle.rg_base.specs.Listed.{listed}
 use Rattle.rg_base.specs.declared.numbers.Version.{Version}
 use Rattle.rg_policy.specs.declared.policy.Policy.{Policy}
 use Rattle.rg_cmd.specs.Lookups.{has_id}
-use Rattle.rg_machine.specs.Changes.{updated_form, version_after}
+use Rattle.rg_admin_laws.specs.Changes.{updated_form, version_after}
 use Rattle.rg_admin.specs.InPlace.{put_at}
 use Rattle.rg_validate.proofs.Places.{found_at}
 use Rattle.rg_admin.proofs.Firsts.{put_by_id}

@@ -1,5 +1,5 @@
 use Rattle.std.proofs.Common.{◌≡◌, take}
-use Rattle.rg_machine.specs.Starts.{new_logs}
+use Rattle.rg_admin_laws.specs.Starts.{new_logs}
 use Rattle.rg_admin.specs.Held.{logs_of}
 use Rattle.rg_admin.proofs.start.new_logs.Given as goal
 

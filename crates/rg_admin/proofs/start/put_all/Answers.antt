@@ -1,7 +1,7 @@
 use Rattle.std.proofs.Common.{◌≡◌, List, [], ◌∷◌, map, length, None, refl, sym, ap, ◌∙◌, subst, arith}
 use Rattle.std.specs.Vec.Iter.{into_iter_items}
 use Rattle.rg_validate.specs.Failing.{first_failing}
-use Rattle.rg_machine.specs.Changes.{after_command}
+use Rattle.rg_admin_laws.specs.Changes.{after_command}
 use Rattle.rg_admin.specs.Starting.{IsCause, put_all, put_fault, start_rules}
 use Rattle.rg_admin.proofs.PutRows.{cause_first, leads_one, passes_one}
 use Rattle.rg_admin.proofs.start.put_all.Goals as goal

@@ -2,8 +2,8 @@ use Rattle.std.proofs.Common.{◌≡◌, None, sym, ap, ◌∙◌, subst}
 use Rattle.std.specs.Option.{option_or}
 use Rattle.rg_cmd.specs.declared.state.State.{State}
 use Rattle.rg_validate.specs.Failing.{first_failing}
-use Rattle.rg_machine.specs.Logs.{Administration}
-use Rattle.rg_machine.specs.Starts.{IsStart, new_logs}
+use Rattle.rg_admin_laws.specs.Logs.{Administration}
+use Rattle.rg_admin_laws.specs.Starts.{IsStart, new_logs}
 use Rattle.rg_admin.specs.Held.{administration_of}
 use Rattle.rg_admin.specs.Reached.{IsPacked}
 use Rattle.rg_admin.specs.Starting.{bare_state, last_rules, put_fault, puts, start_fault, started, started_state}

@@ -1,6 +1,6 @@
 use Rattle.std.proofs.Common.{◌||◌, ◌∙◌, ap, sym}
 use Rattle.rg_cmd.specs.Lookups.{has_def, service_at}
-use Rattle.rg_machine.specs.Touches.{policy_touch, restarts_if}
+use Rattle.rg_admin_laws.specs.Touches.{policy_touch, restarts_if}
 use Rattle.rg_admin.specs.Planning.{tag_def_named}
 use Rattle.rg_admin.proofs.Looking.{tag_def_is}
 use Rattle.rg_admin.proofs.touches.policy_touch.Goals as goal

@@ -1,4 +1,4 @@
-use Rattle.rg_replay.specs.declared.replay.Stage.TheVariants.{Empty}
+use Rattle.rg_run_replay.specs.declared.replay.Stage.TheVariants.{Empty}
 use Rattle.rg_check.proofs.Naming.{ends_at_first}
 use Rattle.rg_check.proofs.laws.replays_end_at_first.Goals as goal
 

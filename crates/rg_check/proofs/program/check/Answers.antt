@@ -1,4 +1,4 @@
-use Rattle.rg_replay.specs.declared.replay.Stage.TheVariants.{Empty}
+use Rattle.rg_run_replay.specs.declared.replay.Stage.TheVariants.{Empty}
 use Rattle.rg_check.proofs.Agreeing.{all_lines}
 use Rattle.rg_check.proofs.Walks.{answered}
 use Rattle.rg_check.proofs.program.check.Goals as goal

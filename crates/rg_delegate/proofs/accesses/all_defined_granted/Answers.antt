@@ -2,7 +2,7 @@ use Rattle.std.proofs.Common.{◌∙◌, sym, ap}
 use Rattle.std.proofs.lemmas.List.Folds.{list_all-map}
 use Rattle.std.specs.List.{list_all, list_any}
 use Rattle.rg_defs.specs.declared.service_def.AccessType.{AccessType}
-use Rattle.rg_effect.specs.Accesses.{any_grants}
+use Rattle.rg_items.specs.Accesses.{any_grants}
 use Rattle.rg_delegate.proofs.accesses.all_defined_granted.Goals as goal
 
 pub returns : goal.returns

@@ -1,6 +1,6 @@
 use Rattle.std.proofs.Common.{◌∙◌}
 use Rattle.std.specs.List.{list_any}
-use Rattle.rg_effect.specs.Accesses.{any_grants}
+use Rattle.rg_items.specs.Accesses.{any_grants}
 use Rattle.rg_policy.specs.Kinds.{item_lists}
 use Rattle.rg_delegate.proofs.Walks.{all_walked}
 use Rattle.rg_delegate.proofs.accesses.all_named_granted.Goals as goal

@@ -2,7 +2,7 @@ use Rattle.std.proofs.Common.{◌∙◌, sym, ap}
 use Rattle.std.specs.List.{list_any}
 use Rattle.rg_base.proofs.Lists.{list_any-map}
 use Rattle.rg_defs.specs.declared.service_def.AccessType.{AccessType}
-use Rattle.rg_effect.specs.Accesses.{any_grants}
+use Rattle.rg_items.specs.Accesses.{any_grants}
 use Rattle.rg_delegate.proofs.accesses.defined_granted.Goals as goal
 
 pub returns : goal.returns

@@ -1,5 +1,5 @@
 use Rattle.std.proofs.Common.{◌∙◌}
-use Rattle.rg_effect.specs.Accesses.{any_grants}
+use Rattle.rg_items.specs.Accesses.{any_grants}
 use Rattle.rg_policy.specs.Kinds.{item_lists}
 use Rattle.rg_delegate.proofs.Walks.{any_walked}
 use Rattle.rg_delegate.proofs.accesses.named_granted.Goals as goal

@@ -3,7 +3,7 @@ use Rattle.rg_defs.specs.Rules.{def_fault}
 use Rattle.rg_base.proofs.Lists.{Contains-filtered}
 use Rattle.rg_policy.specs.declared.policy.Policy.{Policy}
 use Rattle.std.specs.List.{list_all, list_any}
-use Rattle.rg_effect.specs.Accesses.{any_grants}
+use Rattle.rg_items.specs.Accesses.{any_grants}
 use Rattle.rg_delegate.specs.Accesses.{accesses}
 use Rattle.rg_delegate.specs.Found.{Asking, FitsWhere, is_candidate, items_in}
 use Rattle.rg_delegate.proofs.Finding.{all_found, candidates_fit, candidates_suffice, def_is_lawful}

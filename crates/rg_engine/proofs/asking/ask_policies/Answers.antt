@@ -2,7 +2,7 @@ use Rattle.std.proofs.Common.{None, length, ap}
 use Rattle.rg_policy.specs.declared.request.Resource.{Resource}
 use Rattle.rg_evalr.specs.Frames.{def_of}
 use Rattle.rg_index.specs.Candidates.{bound}
-use Rattle.rg_compiled.specs.Bounds.{policy_forms}
+use Rattle.rg_policy_sets.specs.Bounds.{policy_forms}
 use Rattle.rg_engine.proofs.Counting.{more_tries}
 use Rattle.rg_engine.proofs.Found.{finds_visited, lies_on_resource}
 use Rattle.rg_engine.proofs.asking.ask_policies.Goals as goal

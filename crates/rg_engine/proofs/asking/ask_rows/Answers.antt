@@ -4,7 +4,7 @@ use Rattle.std.specs.List.{sum_by}
 use Rattle.rg_policy.specs.declared.tags.Tag.{Tag}
 use Rattle.rg_resmatch.specs.Tests.{lies}
 use Rattle.rg_resmatch.specs.declared.reach.Reach.TheVariants.{Down}
-use Rattle.rg_compiled.specs.Seen.{RowSource}
+use Rattle.rg_policy_sets.specs.Seen.{RowSource}
 use Rattle.rg_engine.specs.Asked.{Finds, all_tagged, reaching_tags, tag_tries}
 use Rattle.rg_engine.proofs.Found.{finds_row, next_tags}
 use Rattle.rg_engine.proofs.asking.ask_rows.Goals as goal

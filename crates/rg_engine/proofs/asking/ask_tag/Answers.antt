@@ -3,7 +3,7 @@ use Rattle.std.specs.Str.{chars}
 use Rattle.rg_resmatch.specs.Tests.{tag_elements}
 use Rattle.rg_evalr.specs.Frames.{def_of}
 use Rattle.rg_index.specs.Candidates.{bound}
-use Rattle.rg_compiled.specs.Bounds.{policy_forms}
+use Rattle.rg_policy_sets.specs.Bounds.{policy_forms}
 use Rattle.rg_engine.specs.Asked.{tag_tries}
 use Rattle.rg_engine.proofs.Counting.{more_tries}
 use Rattle.rg_engine.proofs.Found.{finds_visited, lies_on_tag}

@@ -1,7 +1,7 @@
 use Rattle.std.proofs.Common.{◌≡◌, drop}
 use Rattle.std.specs.List.{list_all}
 use Rattle.rg_policy.specs.declared.policy.ResourceMap.{ResourceMap}
-use Rattle.rg_twins.specs.Twins.{same_levels}
+use Rattle.rg_same_resources.specs.Twins.{same_levels}
 use Rattle.rg_grant.proofs.matching.all_same.Given as goal
 
 -- the rest decides

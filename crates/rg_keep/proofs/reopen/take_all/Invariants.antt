@@ -1,5 +1,5 @@
 use Rattle.std.proofs.Common.{◌≡◌, ◌≤◌, ◌-◌}
-use Rattle.rg_keeper.specs.Keeping.{Nothing, Passes}
+use Rattle.rg_record_store.specs.Keeping.{Nothing, Passes}
 use Rattle.rg_keep.specs.Replay.{most_kept}
 use Rattle.rg_keep.specs.Replaying.{IsPart}
 use Rattle.rg_keep.proofs.reopen.take_all.Given as goal

@@ -1,5 +1,5 @@
 use Rattle.std.proofs.Common.{◌∙◌, sym}
-use Rattle.rg_custody.specs.Custody.{shelf}
+use Rattle.rg_run_keep.specs.Custody.{shelf}
 use Rattle.rg_run.proofs.Hooks.{first_stays, kept_first, others_stay}
 use Rattle.rg_run.proofs.program.keep.Goals as goal
 

@@ -1,5 +1,5 @@
 use Rattle.std.proofs.Common.{◌∙◌, rules, subst}
-use Rattle.rg_work.specs.declared.status.Status.TheVariants.{NoMemory}
+use Rattle.rg_run_script.specs.declared.status.Status.TheVariants.{NoMemory}
 use Rattle.rg_run.specs.Commands.{takes_keeper}
 use Rattle.rg_run.proofs.Runs.{Ends, completed, undone}
 use Rattle.rg_run.proofs.program.run.Goals as goal

@@ -1,6 +1,6 @@
 use Rattle.std.proofs.Common.{◌≡◌, ◌≤◌, ◌⊎◌, IfOk, Some, refl, subst, true}
 use Rattle.rg_turn.specs.Values.{TurnValue}
-use Rattle.rg_machine.specs.Logs.{Administration}
+use Rattle.rg_admin_laws.specs.Logs.{Administration}
 use Rattle.rg_serve.proofs.Opening.{first_following}
 use Rattle.rg_serve.proofs.serving.serve_named.Goals as goal
 

@@ -3,8 +3,8 @@ use Rattle.rg_turn.specs.History.{IsLegal}
 use Rattle.rg_turn.specs.Values.{IsCalled}
 use Rattle.rg_turn.specs.View.{entry}
 use Rattle.rg_cmd.specs.declared.ask.AdminReply.{AdminReply}
-use Rattle.rg_machine.specs.Machine.{download_ask, versions}
-use Rattle.rg_machine.specs.Steps.{step}
+use Rattle.rg_admin_laws.specs.Machine.{download_ask, versions}
+use Rattle.rg_admin_laws.specs.Steps.{step}
 use Rattle.rg_session.proofs.Refreshed.{came}
 use Rattle.rg_session.proofs.Rights.{H}
 use Rattle.rg_session.proofs.document.document.Goals as goal

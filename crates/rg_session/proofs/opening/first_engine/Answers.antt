@@ -1,5 +1,5 @@
 use Rattle.std.proofs.Common.{[], arith, lit<}
-use Rattle.rg_machine.specs.Views.{view}
+use Rattle.rg_admin_laws.specs.Views.{view}
 use Rattle.rg_session.proofs.opening.first_engine.Goals as goal
 
 pub build-requires : goal.build-requires

@@ -1,5 +1,5 @@
 use Rattle.std.proofs.Common.{◌∙◌, ap, string_bytes}
-use Rattle.rg_work.proofs.Runs.{broken, failed_from, unfinished, unread_stands, written, wrote_from, wrote_part_from}
+use Rattle.rg_run_script.proofs.Runs.{broken, failed_from, unfinished, unread_stands, written, wrote_from, wrote_part_from}
 use Rattle.rg_test_script.proofs.program.test_script.Goals as goal
 
 pub returns-in-Err : goal.returns-in-Err

@@ -1,5 +1,5 @@
 use Rattle.std.proofs.Common.{◌||◌, ◌≡◌, Bool, true, false, not, ap, refl, sym, ◌∙◌}
-use Rattle.rg_twins.specs.Twins.{is_twin}
+use Rattle.rg_same_resources.specs.Twins.{is_twin}
 use Rattle.rg_validate.specs.Policies.{has_no_twin}
 use Rattle.rg_validate.proofs.Alone.{twin_has}
 use Rattle.rg_validate.proofs.policies.has_no_twin.Goals as goal

@@ -2,7 +2,7 @@ use Rattle.std.proofs.Common.{◌≡◌, ◌&&◌, drop}
 use Rattle.std.specs.List.{list_any}
 use Rattle.rg_policy.specs.declared.policy.Policy.{Policy}
 use Rattle.rg_validate.specs.Policies.{is_other}
-use Rattle.rg_twins.specs.Twins.{is_twin}
+use Rattle.rg_same_resources.specs.Twins.{is_twin}
 use Rattle.rg_validate.proofs.policies.some_twin.Given as goal
 
 -- the rest decides

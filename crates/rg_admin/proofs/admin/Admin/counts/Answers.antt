@@ -1,6 +1,6 @@
 use Rattle.std.proofs.Common.{subst}
-use Rattle.rg_twins.specs.Counts.{IsCounted}
-use Rattle.rg_machine.specs.Logs.{Administration}
+use Rattle.rg_same_resources.specs.Counts.{IsCounted}
+use Rattle.rg_admin_laws.specs.Logs.{Administration}
 use Rattle.rg_admin.proofs.admin.Admin.counts.Goals as goal
 
 pub returns : goal.returns

@@ -1,7 +1,7 @@
 use Rattle.std.proofs.Common.{subst, sym}
 use Rattle.rg_base.specs.Listed.{Listed}
 use Rattle.rg_policy.specs.declared.policy.Policy.{Policy}
-use Rattle.rg_twins.specs.Counts.{IsCounted}
+use Rattle.rg_same_resources.specs.Counts.{IsCounted}
 use Rattle.rg_admin.specs.Held.{administration_of}
 use Rattle.rg_admin.proofs.Reaching.{reached_start}
 use Rattle.rg_admin.proofs.admin.Admin.opened.Goals as goal

@@ -1,6 +1,6 @@
 use Rattle.std.proofs.Common.{rules, ◌≡◌, Some, subst, sym}
-use Rattle.rg_machine.specs.Logs.{Administration}
-use Rattle.rg_machine.specs.Views.{view}
+use Rattle.rg_admin_laws.specs.Logs.{Administration}
+use Rattle.rg_admin_laws.specs.Views.{view}
 use Rattle.rg_admin.specs.Stepped.{administration_in}
 use Rattle.rg_admin.proofs.Reaching.{reached_sound}
 use Rattle.rg_admin.proofs.admin.Admin.own_view.Goals as goal

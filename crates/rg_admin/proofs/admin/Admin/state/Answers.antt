@@ -1,6 +1,6 @@
 use Rattle.std.proofs.Common.{subst}
 use Rattle.rg_validate.specs.Valid.{IsKept}
-use Rattle.rg_machine.specs.Logs.{Administration}
+use Rattle.rg_admin_laws.specs.Logs.{Administration}
 use Rattle.rg_admin.proofs.Reaching.{reached_kept}
 use Rattle.rg_admin.proofs.admin.Admin.state.Goals as goal
 

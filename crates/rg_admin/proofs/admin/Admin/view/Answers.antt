@@ -3,8 +3,8 @@ use Rattle.std.specs.List.{list_any}
 use Rattle.std.specs.Str.{chars}
 use Rattle.std.proofs.lemmas.Option.{none-some}
 use Rattle.rg_cmd.specs.Lookups.{is_service}
-use Rattle.rg_machine.specs.Logs.{Administration}
-use Rattle.rg_machine.specs.Views.{view}
+use Rattle.rg_admin_laws.specs.Logs.{Administration}
+use Rattle.rg_admin_laws.specs.Views.{view}
 use Rattle.rg_admin.specs.Stepped.{administration_in}
 use Rattle.rg_admin.proofs.Reaching.{reached_viewed}
 use Rattle.rg_admin.proofs.admin.Admin.view.Goals as goal

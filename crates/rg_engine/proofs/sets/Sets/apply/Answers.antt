@@ -10,8 +10,8 @@ use Rattle.rg_evalr.specs.declared.frame.Frame.{Frame}
 use Rattle.rg_evalr.specs.declared.frame.Side.{Side}
 use Rattle.rg_evalr.specs.declared.frame.Side.TheVariants.{Tag}
 use Rattle.rg_facts.specs.Sound.{passes, row_ids, same_id}
-use Rattle.rg_compiled.specs.Bounds.{side_after}
-use Rattle.rg_compiled.specs.Seen.{Policies, Rows}
+use Rattle.rg_policy_sets.specs.Bounds.{side_after}
+use Rattle.rg_policy_sets.specs.Seen.{Policies, Rows}
 use Rattle.rg_engine.specs.Parts.{Compiled, IsTagSet, MayCompile, compiled_after, tag_policies_of}
 use Rattle.rg_engine.proofs.Counting.{one_moved, three_moved, two_moved}
 use Rattle.rg_engine.proofs.sets.Sets.apply.Goals as goal

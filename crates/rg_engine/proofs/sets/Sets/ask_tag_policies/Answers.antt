@@ -2,7 +2,7 @@ use Rattle.std.proofs.Common.{sym, ap, subst, ◌∙◌, arith}
 use Rattle.rg_facts.specs.Best.{none_yet}
 use Rattle.rg_facts.specs.Candidates.{tags_of}
 use Rattle.rg_index.specs.Candidates.{bound}
-use Rattle.rg_compiled.specs.Bounds.{row_forms}
+use Rattle.rg_policy_sets.specs.Bounds.{row_forms}
 use Rattle.rg_engine.specs.Asked.{Finds}
 use Rattle.rg_engine.specs.Parts.{Compiled, IsTagSet, tag_policies_of}
 use Rattle.rg_engine.proofs.Counting.{more_tries, no_try}

@@ -7,7 +7,7 @@ use Rattle.rg_evalr.specs.Frames.{def_of}
 use Rattle.rg_evalr.specs.declared.frame.Frame.{Frame}
 use Rattle.rg_evalr.specs.declared.frame.Side.TheVariants.{Resource, Tag}
 use Rattle.rg_facts.specs.Sound.{passes}
-use Rattle.rg_compiled.specs.Seen.{Policies, Rows}
+use Rattle.rg_policy_sets.specs.Seen.{Policies, Rows}
 use Rattle.rg_engine.specs.Parts.{IsTagSet}
 use Rattle.rg_engine.proofs.Counting.{one_built, three_built, two_built}
 use Rattle.rg_engine.proofs.sets.Sets.build.Goals as goal

@@ -1,6 +1,6 @@
 use Rattle.std.proofs.Common.{◌∙◌, ap, sym}
 use Rattle.rg_turn.proofs.Histories.{begins_trans}
-use Rattle.rg_machine.specs.Logs.{Administration}
+use Rattle.rg_admin_laws.specs.Logs.{Administration}
 use Rattle.rg_session.specs.Right.{AreDownloadedFor, AreRightFor}
 use Rattle.rg_serve.proofs.Downloading.{one_download, published_more, same_list, same_service, same_start}
 use Rattle.rg_serve.proofs.following.Following.refresh.Goals as goal

@@ -1,7 +1,0 @@
-use Rattle.std.proofs.Common.{◌≡◌, take}
-use Rattle.rg_compiled.specs.Plan.{plan_of}
-use Rattle.rg_compiled.proofs.plan.plan_of.Given as goal
-
--- the edits before this one are followed
-abbrev pub invariant-loop-edit : goal.invariant-loop-edit
-invariant-loop-edit g l = l.plan ≡ plan_of g.X.Identified.id_of l.ids (take l.edit-index l.edits)

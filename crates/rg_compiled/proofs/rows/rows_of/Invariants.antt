@@ -1,7 +1,0 @@
-use Rattle.std.proofs.Common.{◌≡◌, take}
-use Rattle.rg_base.specs.Listed.{listed}
-use Rattle.rg_compiled.specs.Kept.{rows_in}
-use Rattle.rg_compiled.proofs.rows.rows_of.Given as goal
-
-abbrev pub invariant-loop-slot : goal.invariant-loop-slot
-invariant-loop-slot l = l.list ≡ listed (rows_in (take l.slot-index l.slots))

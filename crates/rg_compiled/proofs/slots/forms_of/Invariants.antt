@@ -1,7 +1,0 @@
-use Rattle.std.proofs.Common.{◌≡◌, take}
-use Rattle.rg_compiled.specs.Kept.{slot_forms}
-use Rattle.rg_compiled.proofs.slots.forms_of.Given as goal
-
--- the forms so far
-abbrev pub invariant-loop-slot : goal.invariant-loop-slot
-invariant-loop-slot g l = l.forms.items ≡ slot_forms g.H.Fileable.form_of (take l.slot-index l.slots)

@@ -1,5 +1,0 @@
-use Rattle.rg_machine.proofs.Further.{given_once}
-use Rattle.rg_machine.proofs.laws.ids_are_given_once.Goals as goal
-
-pub returns : goal.returns
-returns c = given_once

@@ -1,0 +1,7 @@
+use Rattle.std.proofs.Common.{◌≡◌, take}
+use Rattle.rg_base.specs.Listed.{listed}
+use Rattle.rg_policy_sets.specs.Kept.{rows_in}
+use Rattle.rg_policy_sets.proofs.rows.rows_of.Given as goal
+
+abbrev pub invariant-loop-slot : goal.invariant-loop-slot
+invariant-loop-slot l = l.list ≡ listed (rows_in (take l.slot-index l.slots))

@@ -1,0 +1,81 @@
+// The plans of changes of policies and tag rows.
+ghost use Rattle.std.specs.Prelude.{◌≡◌, IfOk, map};
+ghost use Rattle.rg_delta.specs.Sides.{row_edit};
+ghost use Rattle.rg_policy_sets.specs.Kept.{policies_in, rows_in};
+ghost use Rattle.rg_policy_sets.specs.Moved.{edits_of, policy_id, row_id};
+ghost use Rattle.rg_policy_sets.specs.Plan.{plan_of};
+
+use crate::held::{HeldPolicy, HeldRow};
+use crate::plan::{Plan, plan_of};
+use crate::slots::Slot;
+use rg_base::NoMemory;
+use rg_cmd::{PolicyChange, TagChange};
+use rg_delta::{Edit, policy_edits, row_edits};
+use rg_evalr::Side;
+use rg_policy::Policy;
+use rg_tags::TagRow;
+use std::alloc::Global;
+
+/// The changes of the policies of the side.
+#[tactic(auto, using(crate::proofs::Siding::own_sided, crate::proofs::Siding::tag_sided))]
+fn edits_of<'a>(
+    alloc: Global,
+    side: Side,
+    changes: &'a [PolicyChange],
+) -> Result<Vec<Edit<'a, Policy>>, NoMemory>
+    ensures { IfOk result (λ edits. edits.items ≡ edits_of side changes.now) }
+{
+    match side {
+        Side::Resource => policy_edits(alloc, changes, false),
+        Side::Tag => policy_edits(alloc, changes, true),
+    }
+}
+
+/// The ids of the policies in the slots.
+fn policy_ids(alloc: Global, slots: &[Slot<HeldPolicy>]) -> Result<Vec<i64>, NoMemory>
+    ensures { IfOk result (λ ids. ids.items ≡ map policy_id (policies_in slots.now)) }
+{
+    let mut ids = Vec::new(alloc);
+    for slot in slots {
+        ids.push(slot.held.policy.id.0)?;
+    }
+    Ok(ids)
+}
+
+/// The ids of the rows in the slots.
+fn row_ids(alloc: Global, slots: &[Slot<HeldRow>]) -> Result<Vec<i64>, NoMemory>
+    ensures { IfOk result (λ ids. ids.items ≡ map row_id (rows_in slots.now)) }
+{
+    let mut ids = Vec::new(alloc);
+    for slot in slots {
+        ids.push(slot.held.row.id)?;
+    }
+    Ok(ids)
+}
+
+/// The plan of the changes of the policies of the side.
+pub(crate) fn policy_plan<'a>(
+    alloc: Global,
+    side: Side,
+    slots: &[Slot<HeldPolicy>],
+    changes: &'a [PolicyChange],
+) -> Result<Plan<'a, Policy>, NoMemory>
+    ensures { IfOk result (λ p. p ≡ plan_of policy_id (map policy_id (policies_in slots.now)) (edits_of side changes.now)) }
+{
+    let edits = edits_of(alloc, side, changes)?;
+    let ids = policy_ids(alloc, slots)?;
+    plan_of(alloc, &ids, &edits)
+}
+
+/// The plan of the changes of tag rows.
+pub(crate) fn row_plan<'a>(
+    alloc: Global,
+    slots: &[Slot<HeldRow>],
+    changes: &'a [TagChange],
+) -> Result<Plan<'a, TagRow>, NoMemory>
+    ensures { IfOk result (λ p. p ≡ plan_of row_id (map row_id (rows_in slots.now)) (map row_edit changes.now)) }
+{
+    let edits = row_edits(alloc, changes)?;
+    let ids = row_ids(alloc, slots)?;
+    plan_of(alloc, &ids, &edits)
+}
