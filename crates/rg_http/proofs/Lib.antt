@@ -1,4 +1,5 @@
 pub mod Waiting
+pub mod Writing
 pub mod Room
 pub mod Texts
 pub mod Standing

@@ -22,6 +22,10 @@ abbrev pub IsRead : Option (List ℕ) → List ℕ → Option (List ℕ) → Typ
 IsRead None read after = after ≡ None
 IsRead (Some before) read after = (rest : List ℕ) × (before ≡ read ++ rest) × (after ≡ Some rest)
 
+-- these bytes were written behind those that were held
+abbrev pub Wrote : Option (List ℕ) → Option (List ℕ) → List ℕ → Type 0
+Wrote before after bytes = (out : List ℕ) → before ≡ Some out → after ≡ Some (out ++ bytes)
+
 -- behind the bytes that were kept no more was read than the answer takes: nothing, or one last piece behind bytes in which no answer
 -- stood yet
 abbrev pub IsSparing : List ℕ → List ℕ → Type 0

@@ -23,8 +23,9 @@ pub enum Ruling {
     Body(u32),
 }
 
+/// Whether it is 1 to 19 digits.
 #[tactic(auto, unfolding(crate::specs::Rules::is_length))]
-fn is_length(value: &[u8]) -> bool
+pub fn is_length(value: &[u8]) -> bool
     ensures { result ≡ is_length value.now }
 {
     !value.is_empty() && (value.len() <= 19 && are_digits(value))
@@ -36,8 +37,8 @@ fn are_digits(value: &[u8]) -> bool
     value.iter().all(|b| b.is_ascii_digit())
 }
 
-// The number that these digits write.
-fn number(digits: &[u8]) -> u64
+/// The number that these digits write.
+pub fn number(digits: &[u8]) -> u64
     requires short { length digits.now ≤ 19 }
     requires digits { list_all is_ascii_digit digits.now ≡ true }
     ensures { result ≡ digits_value 10 digits.now }
@@ -56,8 +57,9 @@ fn needs_length(method: &[u8]) -> bool
     method == b"POST".as_slice() || method == b"PUT".as_slice()
 }
 
+/// Whether the body comes in a coding that isn't read.
 #[tactic(auto, unfolding(crate::specs::Rules::is_coded))]
-fn is_coded(window: &[u8], fields: &[HeaderSpan]) -> bool
+pub fn is_coded(window: &[u8], fields: &[HeaderSpan]) -> bool
     requires { All (IsHeaderWithin (length window.now)) fields.now }
     ensures { result ≡ is_coded (map (header_bytes window.now) fields.now) }
 {

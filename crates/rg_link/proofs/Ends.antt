@@ -8,15 +8,16 @@ use Rattle.rg_http.specs.declared.message.Response.{Response}
 use Rattle.rg_http.specs.declared.message.End.{End}
 use Rattle.rg_http.specs.declared.message.End.TheVariants.{Ended, Cut, Bad, Full}
 use Rattle.rg_http.specs.Framing.{HasMessage, HasBad}
-use Rattle.rg_http.specs.Answers.{IsRead}
+use Rattle.rg_http.specs.Answers.{IsRead, Wrote}
 use Rattle.rg_http.specs.Messages.{Messages, Stops}
 use Rattle.rg_http.specs.Print.{response_text}
 use Rattle.rg_link.specs.Answers.{Answers, end_text, texts}
 use Rattle.rg_link.specs.Audits.{AreAudited}
 use Rattle.rg_link.specs.Loop.{Going, IsAnswered, IsServed, IsUnanswered, StayOpen, Unserved}
-use Rattle.rg_link.specs.Sessions.{Broken, Fronts, IsCause, IsTail, MayHaveRun, Served, Wire, Wrote, message_limit}
+use Rattle.rg_link.specs.Sessions.{Broken, Fronts, IsCause, IsTail, MayHaveRun, Served, Wire, message_limit}
 use Rattle.rg_link.specs.Workers.{Leads, Worker}
-use Rattle.rg_link.proofs.Steps.{answers_more, answers_pubs, audited_none, audited_trans, begins_append, begins_refl, enriched_trans, leads_refl, leads_trans, texts_more, wrote_more, wrote_none}
+use Rattle.rg_http.proofs.Writing.{wrote_more, wrote_none}
+use Rattle.rg_link.proofs.Steps.{answers_more, answers_pubs, audited_none, audited_trans, begins_append, begins_refl, enriched_trans, leads_refl, leads_trans, texts_more}
 
 -- ---- bytes read
 

@@ -10,7 +10,6 @@ use Rattle.rg_facts.specs.declared.decision.Decision.{Decision}
 use Rattle.rg_http.specs.declared.message.Message.{Message}
 use Rattle.rg_http.specs.declared.message.Response.{Response}
 use Rattle.rg_http.specs.Print.{response_text}
-use Rattle.rg_ports.specs.Bytes.{Took}
 use Rattle.rg_ports.specs.Moments.{Told}
 use Rattle.rg_cmd.specs.declared.ask.AdminCommand.{AdminCommand}
 use Rattle.rg_cmd.specs.declared.ask.AdminReply.{AdminReply}
@@ -32,7 +31,8 @@ use Rattle.rg_link.specs.Answers.{Answers, NothingLeft, Takes, ask_of, texts}
 use Rattle.rg_link.specs.Audits.{AfterLines, AreAudited, AreEnriched, Decided, IsDecided, audit_lines}
 use Rattle.rg_hook.specs.Told.{IsGiven, SinkState}
 use Rattle.rg_link.specs.Loop.{decided, IsAnswered, IsCall, IsJudged, IsServed, IsUncalled, IsUnjudged, Unserved}
-use Rattle.rg_link.specs.Sessions.{Wrote}
+use Rattle.rg_http.specs.Answers.{Wrote}
+use Rattle.rg_http.proofs.Writing.{wrote_none}
 use Rattle.rg_link.specs.Workers.{Leads, Rises, Stand, Worker, counted, serials}
 
 -- ---- lists
@@ -248,15 +248,6 @@ module _ (plugin : List ℕ) where
 pub texts_more : (rs : List Response) (r : Response) → texts (rs ++ r ∷ []) ≡ texts rs ++ response_text r
 texts_more [] r = append-nil (response_text r)
 texts_more (q ∷ rs) r = ap (λ l. response_text q ++ l) (texts_more rs r) ∙ sym (append_assoc (response_text q) (texts rs) (response_text r))
-
-pub wrote_none : (before : Option (List ℕ)) → Wrote before before []
-wrote_none before = λ out e. e ∙ ap Some (sym (append-nil out))
-
-pub wrote_more : (before mid after : Option (List ℕ)) (a b : List ℕ) → Wrote before mid a → Wrote mid after b → Wrote before after (a ++ b)
-wrote_more before mid after a b x y = λ out e. y (out ++ a) (x out e) ∙ ap Some (append_assoc out a b)
-
-pub wrote_took : (mid after : Option (List ℕ)) (n : ℕ) (piece : List ℕ) → Took mid after n piece → Wrote mid after (take n piece)
-wrote_took mid after n piece x = λ out e. subst (λ k. Took k after n piece) e x
 
 -- ---- one message
 

@@ -17,12 +17,12 @@ use Rattle.rg_cmd.specs.declared.ask.Ask.{Ask}
 use Rattle.rg_turn.specs.declared.rule.Entry.{Entry}
 use Rattle.rg_http.specs.declared.message.Message.{Message}
 use Rattle.rg_http.specs.declared.message.Response.{Response}
-use Rattle.rg_http.specs.Answers.{IsRead}
+use Rattle.rg_http.specs.Answers.{IsRead, Wrote}
 use Rattle.rg_http.specs.Print.{response_text}
 use Rattle.rg_rest.specs.Routes.{call_of}
 use Rattle.rg_link.specs.Answers.{Answers, NothingLeft, Takes, ask_of, texts}
 use Rattle.rg_link.specs.Audits.{AreAudited, AreEnriched, Decided, IsDecided}
-use Rattle.rg_link.specs.Sessions.{Fronts, MayHaveRun, Wire, Wrote}
+use Rattle.rg_link.specs.Sessions.{Fronts, MayHaveRun, Wire}
 use Rattle.rg_link.specs.Workers.{Leads, Worker}
 
 -- the message, answered by r, leads from a to b

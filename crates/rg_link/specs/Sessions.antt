@@ -12,7 +12,7 @@ use Rattle.rg_http.specs.declared.message.End.{End}
 use Rattle.rg_http.specs.declared.message.End.TheVariants.{Ended, Cut, Bad, Full}
 use Rattle.rg_http.specs.declared.message.FrameFault.{FrameFault}
 use Rattle.rg_http.specs.declared.message.FrameFault.TheVariants.{Failed as FrameFailed, NoMemory as FrameNoMemory}
-use Rattle.rg_http.specs.Answers.{IsRead}
+use Rattle.rg_http.specs.Answers.{IsRead, Wrote}
 use Rattle.rg_http.specs.Framing.{HasMessage, HasBad}
 use Rattle.rg_http.specs.Messages.{Messages}
 use Rattle.rg_hook.specs.Enriching.{EnricherState, HaveRun}
@@ -34,10 +34,6 @@ pub record Wire : Type 0 where
 
 abbrev pub wire : Option (List ℕ) → Option (List ℕ) → Bool → Wire
 wire left held ended = record { left = left; held = held; ended = ended }
-
--- these bytes were written behind those that were held
-abbrev pub Wrote : Option (List ℕ) → Option (List ℕ) → List ℕ → Type 0
-Wrote before after bytes = (out : List ℕ) → before ≡ Some out → after ≡ Some (out ++ bytes)
 
 -- the last of these messages asks to close
 abbrev pub AsksLast : List Message → Type 0

@@ -9,7 +9,8 @@ ghost use Rattle.rg_rest.specs.Responses.{is_command, response_of};
 ghost use Rattle.rg_turn.specs.Values.{IsCalled};
 ghost use Rattle.rg_link.specs.Answers.{actor_of, ask_of};
 ghost use Rattle.rg_link.specs.Loop.{IsCall, IsUncalled};
-ghost use Rattle.rg_link.specs.Sessions.{Counts, Wrote};
+ghost use Rattle.rg_http.specs.Answers.{Wrote};
+ghost use Rattle.rg_link.specs.Sessions.{Counts};
 
 use crate::report::LinkFault;
 use crate::writing::send;

@@ -6,7 +6,8 @@ ghost use Rattle.rg_http.specs.Print.{response_text};
 ghost use Rattle.rg_rest.specs.Responses.{decision_response};
 ghost use Rattle.rg_link.specs.Audits.{AreAudited, Decided};
 ghost use Rattle.rg_link.specs.Loop.{IsJudged, IsUnjudged, decided};
-ghost use Rattle.rg_link.specs.Sessions.{Counts, Wrote};
+ghost use Rattle.rg_http.specs.Answers.{Wrote};
+ghost use Rattle.rg_link.specs.Sessions.{Counts};
 
 use crate::audit::audit;
 use crate::report::LinkFault;
@@ -51,7 +52,7 @@ fn judge<G: Gate, H: RequestHooks>(
 }
 
 /// Decides the request, writes the answer, and then audits it. The gate's second point stands behind the answer.
-pub(crate) fn serve_decision<T: Link, G: Gate, H: RequestHooks>(
+pub fn serve_decision<T: Link, G: Gate, H: RequestHooks>(
     alloc: Global,
     link: &mut T,
     pass: &mut Pass,

@@ -10,6 +10,8 @@ mod message;
 mod report;
 mod writing;
 
+pub use decisions::serve_decision;
 pub use laws::{answers_are_one, lines_are_held};
 pub use link::serve_link;
 pub use report::{LinkFault, Report};
+pub use writing::{refuse, send};

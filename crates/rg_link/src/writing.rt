@@ -1,42 +1,20 @@
 // Responses written to a link.
-ghost use Rattle.std.specs.Prelude.{◌≡◌, ◌<◌, List, ℕ, OnOk, OnErr, MatchResult};
+ghost use Rattle.std.specs.Prelude.{◌≡◌, List, ℕ, OnOk, OnErr, MatchResult};
 ghost use mathlib.Core.List.{IsPrefix};
 ghost use Rattle.http.specs.StatusCode.{IsStatusCode};
 ghost use Rattle.rg_http.specs.Print.{response_text};
 ghost use Rattle.rg_link.specs.Answers.{refusal};
-ghost use Rattle.rg_link.specs.Sessions.{Counts, Wrote};
+ghost use Rattle.rg_http.specs.Answers.{Wrote};
+ghost use Rattle.rg_link.specs.Sessions.{Counts};
 
 use crate::report::LinkFault;
-use rg_base::{Failed, Seq};
-use rg_http::{Response, print_response};
+use rg_base::Seq;
+use rg_http::{Response, print_response, write_whole};
 use rg_ports::Link;
 use std::alloc::Global;
 
-/// Writes all bytes, or those before the link failed.
-fn write_whole<T: Link>(link: &mut T, bytes: &[u8]) -> Result<(), Failed>
-    ensures ok { OnOk result (Wrote (T.held link.old) (T.held link.new) bytes.now) }
-    ensures err { OnErr result ((part : List ℕ) × Wrote (T.held link.old) (T.held link.new) part × IsPrefix part bytes.now) }
-    ensures faults { MatchResult result (λ _. T.faults link.new ≡ T.faults link.old) (λ _. T.faults link.old < T.faults link.new) }
-    ensures unread { (T.left link.new ≡ T.left link.old) × (T.ended link.new ≡ T.ended link.old) }
-{
-    let mut done: usize = 0;
-    while done < bytes.len() {
-        match link.write(&bytes[done..]) {
-            Ok(n) => {
-                done += n;
-            }
-            Err(failed) => return Err(failed),
-        }
-    }
-    Ok(())
-}
-
 /// Writes a response, or a part of it.
-pub(crate) fn send<T: Link>(
-    alloc: Global,
-    link: &mut T,
-    response: &Response,
-) -> Result<(), LinkFault>
+pub fn send<T: Link>(alloc: Global, link: &mut T, response: &Response) -> Result<(), LinkFault>
     requires { IsStatusCode response.now.status }
     ensures ok { OnOk result (Wrote (T.held link.old) (T.held link.new) (response_text response.now)) }
     ensures err { OnErr result ((part : List ℕ) × Wrote (T.held link.old) (T.held link.new) part × IsPrefix part (response_text response.now)) }
@@ -64,7 +42,7 @@ fn refusal(alloc: Global, status: u16) -> Response
 }
 
 /// Answers a bad place.
-pub(crate) fn refuse<T: Link>(alloc: Global, link: &mut T, status: u16) -> Result<(), LinkFault>
+pub fn refuse<T: Link>(alloc: Global, link: &mut T, status: u16) -> Result<(), LinkFault>
     requires { IsStatusCode status }
     ensures ok { OnOk result (Wrote (T.held link.old) (T.held link.new) (response_text (refusal status))) }
     ensures err { OnErr result ((part : List ℕ) × Wrote (T.held link.old) (T.held link.new) part × IsPrefix part (response_text (refusal status))) }

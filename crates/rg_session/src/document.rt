@@ -22,7 +22,7 @@ use std::alloc::Global;
 use std::sync::Wait;
 
 /// Whether each part of the document is unchanged.
-pub(crate) fn is_unchanged(document: &Download) -> bool
+pub fn is_unchanged(document: &Download) -> bool
     ensures { result ≡ is_unchanged document.now }
 {
     matches!(document.policies, PolicyPart::Unchanged)

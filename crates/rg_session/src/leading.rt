@@ -228,7 +228,7 @@ fn rebuild<L: Ledger>(
 }
 
 /// The engine to which the document leads. Where neither the policies nor the tag rows are whole its deltas are applied.
-pub(crate) fn lead<L: Ledger>(
+pub fn lead<L: Ledger>(
     alloc: Global,
     engine: &Engine,
     document: Download,

@@ -5,8 +5,9 @@ use Rattle.rg_http.specs.Print.{response_text}
 use Rattle.rg_rest.specs.Responses.{decision_response}
 use Rattle.rg_link.specs.Audits.{AreAudited}
 use Rattle.rg_link.specs.Loop.{IsJudged, decided}
-use Rattle.rg_link.specs.Sessions.{Wrote}
-use Rattle.rg_link.proofs.Steps.{begins_refl, wrote_none}
+use Rattle.rg_http.specs.Answers.{Wrote}
+use Rattle.rg_http.proofs.Writing.{wrote_none}
+use Rattle.rg_link.proofs.Steps.{begins_refl}
 use Rattle.rg_link.proofs.decisions.serve_decision.Goals as goal
 
 pub returns-in-Err-decision_response-clause-unserved : goal.returns-in-Err-decision_response-clause-unserved

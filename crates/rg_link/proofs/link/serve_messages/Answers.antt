@@ -1,10 +1,10 @@
 use Rattle.std.proofs.Common.{refl, sym, ap, ◌∙◌, subst, arith}
 use Rattle.std.specs.Str.{chars}
 use Rattle.rg_http.specs.declared.message.End.TheVariants.{Bad}
-use Rattle.rg_http.specs.Answers.{Framed, IsRead}
+use Rattle.rg_http.specs.Answers.{Framed, IsRead, Wrote}
 use Rattle.rg_link.specs.Answers.{end_text}
 use Rattle.rg_link.specs.Loop.{Going, IsServed, Unserved}
-use Rattle.rg_link.specs.Sessions.{Wrote, wire}
+use Rattle.rg_link.specs.Sessions.{wire}
 use Rattle.rg_link.specs.Workers.{worker_of}
 use Rattle.rg_link.proofs.Ends.{broken_bad, broken_here, broken_unserved, going_more, going_start, never_began, served_bad, served_close, served_cut, served_ended, served_full}
 use Rattle.rg_link.proofs.Faults.{counts_after, counts_as, refusal_code}

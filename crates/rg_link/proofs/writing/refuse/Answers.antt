@@ -2,7 +2,7 @@ use Rattle.std.proofs.Common.{List, ℕ, subst}
 use mathlib.Core.List.{IsPrefix}
 use Rattle.rg_http.specs.declared.message.Response.{Response}
 use Rattle.rg_http.specs.Print.{response_text}
-use Rattle.rg_link.specs.Sessions.{Wrote}
+use Rattle.rg_http.specs.Answers.{Wrote}
 use Rattle.rg_link.proofs.writing.refuse.Goals as goal
 
 pub returns-in-Ok-clause-ok : goal.returns-in-Ok-clause-ok

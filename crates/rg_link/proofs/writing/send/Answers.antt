@@ -1,6 +1,6 @@
 use Rattle.std.proofs.Common.{List, ℕ, ap, ◌∙◌, subst}
 use mathlib.Core.List.{IsPrefix}
-use Rattle.rg_link.specs.Sessions.{Wrote}
+use Rattle.rg_http.specs.Answers.{Wrote}
 use Rattle.rg_link.proofs.writing.send.Goals as goal
 
 pub returns-clause-err : goal.returns-clause-err

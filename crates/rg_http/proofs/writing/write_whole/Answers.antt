@@ -2,9 +2,9 @@ use Rattle.std.proofs.Common.{◌≤◌, ◌-◌, length, take, drop, subst, sym
 use Rattle.std.proofs.Math.Seq.{take-add}
 use Rattle.std.proofs.lemmas.List.{take-append-drop, take_all}
 use Rattle.rg_ports.specs.Bytes.{Took}
-use Rattle.rg_link.specs.Sessions.{Wrote}
-use Rattle.rg_link.proofs.Steps.{wrote_more, wrote_took}
-use Rattle.rg_link.proofs.writing.write_whole.Goals as goal
+use Rattle.rg_http.specs.Answers.{Wrote}
+use Rattle.rg_http.proofs.Writing.{wrote_more, wrote_took}
+use Rattle.rg_http.proofs.writing.write_whole.Goals as goal
 
 pub returns-in-Err-clause-err : goal.returns-in-Err-clause-err
 returns-in-Err-clause-err g c = (

@@ -1,6 +1,6 @@
 use Rattle.std.proofs.Common.{◌≡◌, ◌≤◌, ◌-◌, length, take}
-use Rattle.rg_link.specs.Sessions.{Wrote}
-use Rattle.rg_link.proofs.writing.write_whole.Given as goal
+use Rattle.rg_http.specs.Answers.{Wrote}
+use Rattle.rg_http.proofs.writing.write_whole.Given as goal
 
 abbrev pub invariant-loop-done : goal.invariant-loop-done
 invariant-loop-done g l = record {
