@@ -16,4 +16,5 @@ mod rows_text;
 
 pub use download_text::{print_policy_part, print_role_part, print_tag_part};
 pub use read::{read_command, read_config, read_service, read_user};
+pub use reply_key::ReplyKey;
 pub use reply_text::{print_kept, print_policies, print_refusal, print_reply};
