@@ -270,6 +270,60 @@ config_shape = record_of (fields (
     may key.Services (list_of service_shape) ∷
     must key.Plugin text ∷ []))
 
+-- ---- parts of a download
+
+-- a change of a policy
+abbrev pub policy_change_shape : Shape
+policy_change_shape = record_of (fields (
+    must key.ChangeType count ∷
+    must key.Policy policy_shape ∷
+    may key.Tag truth ∷ []))
+
+-- the changes of a service's policies
+abbrev pub policy_delta_shape : Shape
+policy_delta_shape = record_of (fields (
+    must key.From count ∷
+    must key.To count ∷
+    may key.Changes (list_of policy_change_shape) ∷
+    may key.Zones (list_of zone_shape) ∷ []))
+
+-- all that the policy version of a service speaks of
+abbrev pub policy_whole_shape : Shape
+policy_whole_shape = record_of (fields (
+    must key.Version count ∷
+    may key.Fallback truth ∷
+    must key.Def service_def_shape ∷
+    may key.TagDef service_def_shape ∷
+    may key.Policies (list_of policy_shape) ∷
+    may key.TagPolicies (list_of policy_shape) ∷
+    may key.Zones (list_of zone_shape) ∷
+    may key.TimeZones (list_of time_zone_shape) ∷ []))
+
+-- a change of a tag row
+abbrev pub tag_change_shape : Shape
+tag_change_shape = record_of (fields (
+    must key.ChangeType count ∷
+    must key.Row tag_row_shape ∷ []))
+
+-- the changes of a service's tag rows
+abbrev pub tag_delta_shape : Shape
+tag_delta_shape = record_of (fields (
+    must key.From count ∷
+    must key.To count ∷
+    may key.Changes (list_of tag_change_shape) ∷ []))
+
+-- all tag rows of a service
+abbrev pub tag_whole_shape : Shape
+tag_whole_shape = record_of (fields (
+    must key.Version count ∷
+    may key.Rows (list_of tag_row_shape) ∷ []))
+
+-- all roles
+abbrev pub role_whole_shape : Shape
+role_whole_shape = record_of (fields (
+    must key.Version count ∷
+    may key.Roles (list_of role_shape) ∷ []))
+
 -- the shape of a record
 unfoldable pub record_shape : Record → Shape
 record_shape the.Entry = entry_shape
@@ -302,3 +356,10 @@ record_shape the.Facts = facts_shape
 record_shape the.Service = service_shape
 record_shape the.User = user_shape
 record_shape the.Config = config_shape
+record_shape the.PolicyChange = policy_change_shape
+record_shape the.PolicyDelta = policy_delta_shape
+record_shape the.PolicyWhole = policy_whole_shape
+record_shape the.TagChange = tag_change_shape
+record_shape the.TagDelta = tag_delta_shape
+record_shape the.TagWhole = tag_whole_shape
+record_shape the.RoleWhole = role_whole_shape

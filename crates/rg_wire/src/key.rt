@@ -125,6 +125,16 @@ pub enum Key {
     Admins,
     ServiceDefs,
     Plugin,
+    // Of the parts of a download.
+    Delta,
+    Whole,
+    From,
+    To,
+    Changes,
+    ChangeType,
+    Tag,
+    Rows,
+    TagDef,
 }
 
 impl Name for Key {
@@ -249,6 +259,15 @@ impl Name for Key {
             Key::Admins => "admins",
             Key::ServiceDefs => "serviceDefs",
             Key::Plugin => "plugin",
+            Key::Delta => "delta",
+            Key::Whole => "whole",
+            Key::From => "from",
+            Key::To => "to",
+            Key::Changes => "changes",
+            Key::ChangeType => "changeType",
+            Key::Tag => "tag",
+            Key::Rows => "rows",
+            Key::TagDef => "tagDef",
         }
     }
 }

@@ -38,6 +38,14 @@ pub enum Record {
     Service,
     User,
     Config,
+    // Parts of a download.
+    PolicyChange,
+    PolicyDelta,
+    PolicyWhole,
+    TagChange,
+    TagDelta,
+    TagWhole,
+    RoleWhole,
 }
 
 impl Table<Key> for Record {
@@ -78,6 +86,13 @@ impl Table<Key> for Record {
             Record::Service => tables::service(),
             Record::User => tables::user(),
             Record::Config => tables::config(),
+            Record::PolicyChange => tables::policy_change(),
+            Record::PolicyDelta => tables::policy_delta(),
+            Record::PolicyWhole => tables::policy_whole(),
+            Record::TagChange => tables::tag_change(),
+            Record::TagDelta => tables::tag_delta(),
+            Record::TagWhole => tables::tag_whole(),
+            Record::RoleWhole => tables::role_whole(),
         }
     }
 }

@@ -5,7 +5,7 @@ ghost use Rattle.std.specs.Prelude.{◌≡◌};
 ghost use Rattle.rg_json.specs.Kinds.{fields_from};
 ghost use Rattle.rg_json.specs.Shape.{record_of};
 ghost use Rattle.rg_wire.specs.Names.{name_of};
-ghost use Rattle.rg_wire.specs.Shapes.{record_shape, entry_shape, condition_shape, mask_shape, filter_info_shape, item_shape, policy_resource_shape, schedule_shape, policy_shape, resource_shape, request_shape, options_shape, level_shape, access_type_shape, condition_def_shape, mask_type_shape, named_shape, mask_part_shape, filter_part_shape, service_def_shape, role_shape, zone_service_shape, zone_shape, tag_shape, tag_row_shape, facts_tag_row_shape, time_zone_shape, facts_shape, service_shape, user_shape, config_shape};
+ghost use Rattle.rg_wire.specs.Shapes.{record_shape, entry_shape, condition_shape, mask_shape, filter_info_shape, item_shape, policy_resource_shape, schedule_shape, policy_shape, resource_shape, request_shape, options_shape, level_shape, access_type_shape, condition_def_shape, mask_type_shape, named_shape, mask_part_shape, filter_part_shape, service_def_shape, role_shape, zone_service_shape, zone_shape, tag_shape, tag_row_shape, facts_tag_row_shape, time_zone_shape, facts_shape, service_shape, user_shape, config_shape, policy_change_shape, policy_delta_shape, policy_whole_shape, tag_change_shape, tag_delta_shape, tag_whole_shape, role_whole_shape};
 
 use crate::key::Key;
 use crate::record::Record;
@@ -390,5 +390,85 @@ pub(crate) fn config() -> Fields
         Field(Key::ServiceDefs, May, Kind::List(Record::ServiceDef)),
         Field(Key::Services, May, Kind::List(Record::Service)),
         Field(Key::Plugin, Must, Kind::Text),
+    ]
+}
+
+/// A change of a policy.
+pub(crate) fn policy_change() -> Fields
+    ensures { record_of (fields_from name_of record_shape result.now) ≡ policy_change_shape }
+{
+    &[
+        Field(Key::ChangeType, Must, Kind::Count),
+        Field(Key::Policy, Must, Kind::Record(Record::Policy)),
+        Field(Key::Tag, May, Kind::Truth),
+    ]
+}
+
+/// The changes of a service's policies.
+pub(crate) fn policy_delta() -> Fields
+    ensures { record_of (fields_from name_of record_shape result.now) ≡ policy_delta_shape }
+{
+    &[
+        Field(Key::From, Must, Kind::Count),
+        Field(Key::To, Must, Kind::Count),
+        Field(Key::Changes, May, Kind::List(Record::PolicyChange)),
+        Field(Key::Zones, May, Kind::List(Record::Zone)),
+    ]
+}
+
+/// All that the policy version of a service speaks of.
+pub(crate) fn policy_whole() -> Fields
+    ensures { record_of (fields_from name_of record_shape result.now) ≡ policy_whole_shape }
+{
+    &[
+        Field(Key::Version, Must, Kind::Count),
+        Field(Key::Fallback, May, Kind::Truth),
+        Field(Key::Def, Must, Kind::Record(Record::ServiceDef)),
+        Field(Key::TagDef, May, Kind::Record(Record::ServiceDef)),
+        Field(Key::Policies, May, Kind::List(Record::Policy)),
+        Field(Key::TagPolicies, May, Kind::List(Record::Policy)),
+        Field(Key::Zones, May, Kind::List(Record::Zone)),
+        Field(Key::TimeZones, May, Kind::List(Record::TimeZone)),
+    ]
+}
+
+/// A change of a tag row.
+pub(crate) fn tag_change() -> Fields
+    ensures { record_of (fields_from name_of record_shape result.now) ≡ tag_change_shape }
+{
+    &[
+        Field(Key::ChangeType, Must, Kind::Count),
+        Field(Key::Row, Must, Kind::Record(Record::TagRow)),
+    ]
+}
+
+/// The changes of a service's tag rows.
+pub(crate) fn tag_delta() -> Fields
+    ensures { record_of (fields_from name_of record_shape result.now) ≡ tag_delta_shape }
+{
+    &[
+        Field(Key::From, Must, Kind::Count),
+        Field(Key::To, Must, Kind::Count),
+        Field(Key::Changes, May, Kind::List(Record::TagChange)),
+    ]
+}
+
+/// All tag rows of a service.
+pub(crate) fn tag_whole() -> Fields
+    ensures { record_of (fields_from name_of record_shape result.now) ≡ tag_whole_shape }
+{
+    &[
+        Field(Key::Version, Must, Kind::Count),
+        Field(Key::Rows, May, Kind::List(Record::TagRow)),
+    ]
+}
+
+/// All roles.
+pub(crate) fn role_whole() -> Fields
+    ensures { record_of (fields_from name_of record_shape result.now) ≡ role_whole_shape }
+{
+    &[
+        Field(Key::Version, Must, Kind::Count),
+        Field(Key::Roles, May, Kind::List(Record::Role)),
     ]
 }
