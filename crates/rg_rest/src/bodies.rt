@@ -11,7 +11,7 @@ use rg_json::WireKind;
 use std::alloc::Global;
 
 /// An answer with this body.
-pub(crate) fn answer(
+pub fn answer(
     alloc: Global,
     status: StatusCode,
     body: &str,
@@ -28,7 +28,7 @@ pub(crate) fn answer(
 }
 
 /// The answer where no route has the path.
-pub(crate) fn no_path(alloc: Global, close: bool) -> Result<Response, NoMemory>
+pub fn no_path(alloc: Global, close: bool) -> Result<Response, NoMemory>
     ensures { IfOk result (λ r. r ≡ no_path close) }
 {
     answer(alloc, StatusCode::NOT_FOUND, "{\"error\":\"path\"}", close)

@@ -12,6 +12,7 @@ mod route;
 mod router;
 mod split;
 
+pub use bodies::{answer, no_path};
 pub use call::Call;
 pub use response::{decision_response, response_of};
 pub use router::Router;

@@ -195,7 +195,7 @@ fn take_roles(facts: Facts, part: RolePart) -> (Facts, RoleDelta)
 }
 
 /// The facts to which the document leads from these. Where memory is refused the facts are gone.
-fn lead_facts(alloc: Global, facts: Facts, document: Download) -> Result<Facts, NoMemory>
+pub fn lead_facts(alloc: Global, facts: Facts, document: Download) -> Result<Facts, NoMemory>
     ensures { IfOk result (λ after. after ≡ led facts document) }
 {
     let (facts, policies) = take_policies(alloc, facts, document.policies);

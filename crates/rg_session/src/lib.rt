@@ -14,7 +14,7 @@ pub use bell::Bell;
 pub use closing::{Totals, close};
 pub use document::is_unchanged;
 pub use laws::{documents_lead, downloaded_lists_stay, first_is_right, right_lists_stay_right};
-pub use leading::lead;
+pub use leading::{lead, lead_facts};
 pub use opening::{Service, open};
 pub use refresher::{Refresh, Refresher};
 pub use rg_admin::{Admin, StartFault};
