@@ -1,5 +1,5 @@
 pub mod Waiting
-pub mod Writing
+pub mod Written
 pub mod Room
 pub mod Texts
 pub mod Standing

@@ -16,7 +16,7 @@ use Rattle.rg_link.specs.Audits.{AreAudited}
 use Rattle.rg_link.specs.Loop.{Going, IsAnswered, IsServed, IsUnanswered, StayOpen, Unserved}
 use Rattle.rg_link.specs.Sessions.{Broken, Fronts, IsCause, IsTail, MayHaveRun, Served, Wire, message_limit}
 use Rattle.rg_link.specs.Workers.{Leads, Worker}
-use Rattle.rg_http.proofs.Writing.{wrote_more, wrote_none}
+use Rattle.rg_http.proofs.Written.{wrote_more, wrote_none}
 use Rattle.rg_link.proofs.Steps.{answers_more, answers_pubs, audited_none, audited_trans, begins_append, begins_refl, enriched_trans, leads_refl, leads_trans, texts_more}
 
 -- ---- bytes read

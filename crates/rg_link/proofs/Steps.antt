@@ -32,7 +32,7 @@ use Rattle.rg_link.specs.Audits.{AfterLines, AreAudited, AreEnriched, Decided, I
 use Rattle.rg_hook.specs.Told.{IsGiven, SinkState}
 use Rattle.rg_link.specs.Loop.{decided, IsAnswered, IsCall, IsJudged, IsServed, IsUncalled, IsUnjudged, Unserved}
 use Rattle.rg_http.specs.Answers.{Wrote}
-use Rattle.rg_http.proofs.Writing.{wrote_none}
+use Rattle.rg_http.proofs.Written.{wrote_none}
 use Rattle.rg_link.specs.Workers.{Leads, Rises, Stand, Worker, counted, serials}
 
 -- ---- lists

@@ -3,7 +3,7 @@ use Rattle.std.proofs.Math.Seq.{take-add}
 use Rattle.std.proofs.lemmas.List.{take-append-drop, take_all}
 use Rattle.rg_ports.specs.Bytes.{Took}
 use Rattle.rg_http.specs.Answers.{Wrote}
-use Rattle.rg_http.proofs.Writing.{wrote_more, wrote_took}
+use Rattle.rg_http.proofs.Written.{wrote_more, wrote_took}
 use Rattle.rg_http.proofs.writing.write_whole.Goals as goal
 
 pub returns-in-Err-clause-err : goal.returns-in-Err-clause-err

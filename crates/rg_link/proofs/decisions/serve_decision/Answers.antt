@@ -6,7 +6,7 @@ use Rattle.rg_rest.specs.Responses.{decision_response}
 use Rattle.rg_link.specs.Audits.{AreAudited}
 use Rattle.rg_link.specs.Loop.{IsJudged, decided}
 use Rattle.rg_http.specs.Answers.{Wrote}
-use Rattle.rg_http.proofs.Writing.{wrote_none}
+use Rattle.rg_http.proofs.Written.{wrote_none}
 use Rattle.rg_link.proofs.Steps.{begins_refl}
 use Rattle.rg_link.proofs.decisions.serve_decision.Goals as goal
 
