@@ -74,7 +74,7 @@ reads c is =
     ∙ ap (λ w. reading_named (Some (command_data c)) (named w)) (word_so c is.found)
     ∙ is.next
 
-def_there : (x : ServiceDef) → unless_null (def_data x) ≡ Some (def_data x)
+pub def_there : (x : ServiceDef) → unless_null (def_data x) ≡ Some (def_data x)
 unfolding def_data
 def_there x = refl
 

@@ -44,7 +44,7 @@ there (Some (string s)) f = f
 there (Some (array ds)) f = f
 there (Some (object ms)) f = f
 
-field_found : (k : List ℕ) (d : Data) → IsOrderly d → Found (field k d)
+pub field_found : (k : List ℕ) (d : Data) → IsOrderly d → Found (field k d)
 unfolding field
 field_found k d is = there (get k d) (got k d is)
 

@@ -72,7 +72,7 @@ mask_type_own : (d : Data) → IsOrderly d → IsMaskType (mask_type_of d)
 unfolding mask_type_of
 mask_type_own d is = record { name = text_at_own (name_of key.Name) d is; transformer = text_at_own (name_of key.Transformer) d is }
 
-def_own : (d : Data) → IsOrderly d → IsDef (service_def_of d)
+pub def_own : (d : Data) → IsOrderly d → IsDef (service_def_of d)
 unfolding service_def_of
 def_own d is =
     let masks = within_orderly (name_of key.DataMaskDef) d is in
@@ -99,7 +99,7 @@ user_own : (d : Data) → IsOrderly d → IsUser (user_of d)
 unfolding user_of
 user_own d is = record { name = text_at_own (name_of key.Name) d is; groups = texts_own (name_of key.Groups) d is }
 
-role_own : (d : Data) → IsOrderly d → IsRole (role_of d)
+pub role_own : (d : Data) → IsOrderly d → IsRole (role_of d)
 unfolding role_of
 role_own d is = record { name = text_at_own (name_of key.Name) d is; users = names_own (name_of key.Users) d is; groups = names_own (name_of key.Groups) d is; roles = names_own (name_of key.Roles) d is }
 
@@ -126,7 +126,7 @@ subjects_own : (users groups roles : Key) (d : Data) → IsOrderly d → AreSubj
 unfolding subjects_of
 subjects_own users groups roles d is = record { users = texts_own (name_of users) d is; groups = texts_own (name_of groups) d is; roles = texts_own (name_of roles) d is }
 
-zone_own : (d : Data) → IsOrderly d → IsZone (zone_of d)
+pub zone_own : (d : Data) → IsOrderly d → IsZone (zone_of d)
 unfolding zone_of
 zone_own d is = record {
   name = text_at_own (name_of key.Name) d is;
@@ -152,11 +152,14 @@ levels_ordered (r ∷ s ∷ rs) h = (h.0, levels_ordered (s ∷ rs) h.1)
 resources_owned : (rs : Listed PolicyResource) → OwnMap level_name IsResource rs → OwnResources rs
 resources_owned rs own = record { each = own.each; ordered = levels_ordered rs.items own.ordered; whole = own.whole }
 
+pub resources_own : (d : Data) → IsOrderly d → OwnResources (map_of policy_resource_of d)
+resources_own d is = resources_owned _ (map_of_own level_name IsResource policy_resource_of resource_named resource_own d is)
+
 tag_own : (d : Data) → IsOrderly d → IsTag (tag_of d)
 unfolding tag_of
 tag_own d is = record { kind = text_at_own (name_of key.Type) d is; attributes = pairs_own (name_of key.Attributes) d is }
 
-tag_row_own : (d : Data) → IsOrderly d → IsTagRow (tag_row_of d)
+pub tag_row_own : (d : Data) → IsOrderly d → IsTagRow (tag_row_of d)
 unfolding tag_row_of tag_row_for
 tag_row_own d is = record {
   id = integer_own (name_of key.Id) d is;

@@ -215,10 +215,10 @@ resource_right r own =
     first_right _ _ (head (name_of key.IsExcludes) May truth (bool_data r.excludes) d (at key.IsExcludes) refl refl) (
     first_right _ _ (head (name_of key.IsRecursive) May truth (bool_data r.recursive) d (at key.IsRecursive) refl refl) refl))
 
-resources_right : (rs : Listed PolicyResource) → OwnResources rs → fault_of (map_of Any policy_resource_shape) (resources_data rs) ≡ None
+pub resources_right : (rs : Listed PolicyResource) → OwnResources rs → fault_of (map_of Any policy_resource_shape) (resources_data rs) ≡ None
 resources_right rs own = ap (fault_of (map_of Any policy_resource_shape)) (resources_are_map rs) ∙ map_right level_name resource_data IsResource policy_resource_shape resource_right rs (own_resources rs own)
 
-tag_right : (t : Tag) → IsTag t → fault_of tag_shape (tag_data t) ≡ None
+pub tag_right : (t : Tag) → IsTag t → fault_of tag_shape (tag_data t) ≡ None
 unfolding tag_data name_of printed_name text_data pairs_data map_data
 tag_right t own =
     let at = λ (k : Key). get_with printed_name (name_of k) (tag_members t) no_members in

@@ -64,8 +64,9 @@ fn see_members(members: &Map<String, Value>)
     }
 }
 
-/// Looks at the JSON of a text.
-fn see_json(alloc: Global, text: &[u8]) -> Result<(), NoMemory>
+/// The JSON of each text is as JSON in memory: its strings and keys are text, the keys of its maps stand in byte order, and its
+/// integers fit. Nothing is answered: it looks at the text, so that a caller who read a record from it knows this.
+pub fn json_is_orderly(alloc: Global, text: &[u8]) -> Result<(), NoMemory>
     ensures { OnOk result (IfSome (data_of text.now) IsOrderly) }
 {
     match json_of(alloc, text) {
@@ -83,5 +84,5 @@ fn see_json(alloc: Global, text: &[u8]) -> Result<(), NoMemory>
 pub fn commands_are_in_order(alloc: Global, text: &[u8]) -> Result<(), NoMemory>
     ensures { OnOk result ((command : AdminCommand) → command_reading text.now ≡ Ok command → OwnsPolicy command → IsCommandInOrder command) }
 {
-    see_json(alloc, text)
+    json_is_orderly(alloc, text)
 }

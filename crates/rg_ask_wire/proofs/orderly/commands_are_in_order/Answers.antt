@@ -4,4 +4,4 @@ use Rattle.rg_ask_wire.proofs.Owned.{found_in_order}
 use Rattle.rg_ask_wire.proofs.orderly.commands_are_in_order.Goals as goal
 
 pub returns : goal.returns
-returns c = on_ok_weaker c.see_json.result (found_in_order (data_of c.args.text.now)) c.see_json.ensures
+returns c = on_ok_weaker c.json_is_orderly.result (found_in_order (data_of c.args.text.now)) c.json_is_orderly.ensures
