@@ -1,0 +1,5 @@
+pub mod Faults
+pub mod Finishing
+pub mod Room
+pub mod Telling
+pub mod Unique

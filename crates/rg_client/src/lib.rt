@@ -1,0 +1,15 @@
+// One client of an HTTP/1.1 service: a question over a link, and its reply.
+#![tactic(auto)]
+
+mod client;
+mod fault;
+mod heads;
+mod laws;
+mod question;
+mod reading;
+mod rules;
+
+pub use client::Client;
+pub use fault::ClientFault;
+pub use laws::replies_are_one;
+pub use question::Question;
