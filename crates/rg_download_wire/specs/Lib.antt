@@ -1,0 +1,4 @@
+pub mod InOrder
+pub mod Parts
+pub mod PrintedFacts
+pub mod Reading
