@@ -1,0 +1,4 @@
+mod GoingOn
+mod Mixed
+mod Moving
+mod Settled

@@ -1,0 +1,66 @@
+-- How one more download joins those before it.
+use Rattle.std.proofs.Common.{◌≡◌, ◌≢◌, ℕ, List, [], ◌∷◌, ◌++◌, true, false, Some, Result, Ok, Err, IfOk, IfErr, inr, refl, sym, ap, ◌∙◌, subst}
+use Rattle.rg_facts.specs.declared.facts.Facts.{Facts}
+use Rattle.rg_cmd.specs.declared.download.Download.{Download}
+use Rattle.rg_admin_laws.specs.Downloads.{From}
+use Rattle.rg_admin_laws.specs.Laws.{from_of}
+use Rattle.rg_admin_laws.specs.Leading.{led}
+use Rattle.rg_admin_laws.specs.Machine.{is_unchanged}
+use Rattle.rg_remote.specs.Remotes.{Far}
+use Rattle.rg_follow.specs.Answering.{from_nothing}
+use Rattle.rg_follow.specs.Asking.{AreAsked, WasAsked}
+use Rattle.rg_follow.specs.Following.{HasSettled, HasSettledAnew, Moves, Strays, StraysAnew}
+use Rattle.rg_follow.specs.Rounds.{Settles, begun, fits}
+use Rattle.rg_follow.specs.declared.fault.FollowFault.{FollowFault}
+use Rattle.rg_follow.specs.declared.fault.FollowFault.TheVariants.{Ask, Misfit, Unsettled, NoMemory}
+
+pub moves_more : (had at : Facts) (ds : List Download) (d : Download) → Moves had ds at → is_unchanged d ≡ false → fits at d ≡ true
+    → Moves had (ds ++ d ∷ []) (led at d)
+moves_more had at [] d m changed fit = (changed, subst (λ f. fits f d ≡ true) (sym m) fit, ap (λ f. led f d) m)
+moves_more had at (x ∷ ds) d m changed fit = (m.0, m.1, moves_more (led had x) at ds d m.2 changed fit)
+
+pub settles_there : (had at : Facts) (ds : List Download) (d : Download) → Moves had ds at → is_unchanged d ≡ true → Settles had (ds ++ d ∷ []) at
+settles_there had at [] d m same = (same, sym m)
+settles_there had at (x ∷ []) d m same = (m.0, m.1, settles_there (led had x) at [] d m.2 same)
+settles_there had at (x ∷ y ∷ ds) d m same = (m.0, m.1, settles_there (led had x) at (y ∷ ds) d m.2 same)
+
+pub asked_more : (had at : Facts) (ds : List Download) (d : Download) (from : From) (old mid new : Far)
+    → AreAsked had ds old mid → Moves had ds at → from ≡ from_of at
+    → WasAsked from d mid new
+    → AreAsked had (ds ++ d ∷ []) old new
+asked_more had at [] d from old mid new a m e w = (
+  new,
+  subst (λ o. WasAsked (from_of had) d o new) (sym a)
+      (subst (λ f. WasAsked f d mid new) (e ∙ ap from_of (sym m)) w),
+  refl,
+)
+asked_more had at (x ∷ ds) d from old mid new a m e w = (a.0, a.1, asked_more (led had x) at ds d from a.0 mid new a.2 m.2 e w)
+
+-- the last of these downloads doesn't fit, where the fault says so
+pub strays : (most : ℕ) (had at : Facts) (ds : List Download) (d : Download) (fault : FollowFault) (old new : Far)
+    → AreAsked had (ds ++ d ∷ []) old new → Moves had ds at → is_unchanged d ≡ false
+    → (fault ≡ Misfit → fits at d ≡ false) → fault ≢ Unsettled
+    → Strays most had fault old new
+strays most had at ds d (Ask fault) old new a m changed fit other = tt {0}
+strays most had at ds d Misfit old new a m changed fit other = (ds, d, at, a, m, changed, fit refl)
+strays most had at ds d Unsettled old new a m changed fit other = absurd (other refl)
+strays most had at ds d NoMemory old new a m changed fit other = tt {0}
+
+-- what settles after a first download settled anew
+pub settled_anew : (service : List ℕ) (d : Download) (facts : Facts) (result : Result Facts FollowFault) (old mid new : Far)
+    → WasAsked from_nothing d old mid → begun service d ≡ Some facts
+    → IfOk result (λ after. HasSettled facts after mid new)
+    → IfOk result (λ after. HasSettledAnew service after old new)
+settled_anew service d facts (Ok after) old mid new w is h = (d ∷ h.0, (mid, facts, w, is, h.1), (facts, is, h.2))
+settled_anew service d facts (Err fault) old mid new w is h = tt {0}
+
+-- what strays after a first download strayed anew
+pub strayed_anew : (most : ℕ) (service : List ℕ) (d : Download) (facts : Facts) (result : Result Facts FollowFault) (old mid new : Far)
+    → WasAsked from_nothing d old mid → begun service d ≡ Some facts
+    → IfErr result (λ f. Strays most facts f mid new)
+    → IfErr result (λ f. StraysAnew most service f old new)
+strayed_anew most service d facts (Ok after) old mid new w is h = tt {0}
+strayed_anew most service d facts (Err (Ask fault)) old mid new w is h = tt {0}
+strayed_anew most service d facts (Err Misfit) old mid new w is h = inr (mid, d, facts, w, is, h)
+strayed_anew most service d facts (Err Unsettled) old mid new w is h = (mid, d, facts, w, is, h)
+strayed_anew most service d facts (Err NoMemory) old mid new w is h = tt {0}
