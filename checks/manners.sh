@@ -1,15 +1,16 @@
 #!/usr/bin/env bash
 # Looks at what bin/rangerd says besides what the program prints: help without a build, the address of `serve`, what is said after status 2,
 # and the statuses, which are the program's own or 125. What it prints on standard output is compared with what the program prints. The same
-# of the words of bin/rangerd-explain and bin/rangerd-test.
-# usage: checks/manners.sh [PROGRAM [EXPLAINER [TESTER]]]      (the built ones where not given)
+# of the words of bin/rangerd-explain, bin/rangerd-test and bin/rangerd-view.
+# usage: checks/manners.sh [PROGRAM [EXPLAINER [TESTER [VIEWER]]]]      (the built ones where not given)
 set -u
 cd "$(dirname "$0")/.." || exit 1
 program=$(readlink -f "${1:-crates/rangerd/out/rangerd}")
 explainer=$(readlink -m "${2:-crates/rangerd_explain/out/rangerd_explain}") tester=$(readlink -m "${3:-crates/rangerd_test/out/rangerd_test}")
+viewer=$(readlink -m "${4:-crates/rangerd_view/out/rangerd_view}")
 room=$(mktemp -d)
 trap 'rm -rf "$room"' EXIT
-mkdir "$room/bin" && cp bin/rangerd bin/rangerd-explain bin/rangerd-test "$room/bin" || exit 1
+mkdir "$room/bin" && cp bin/rangerd bin/rangerd-explain bin/rangerd-test bin/rangerd-view "$room/bin" || exit 1
 passed=0 failed=0
 
 # What bin/built is here: it prints where the program lies, or isn't there and says so.
@@ -62,6 +63,9 @@ done
 for words in --json --help -1 "$script $script" "$script --junit"; do
   run_wrong rangerd-test "^usage: rangerd-test " $words
 done
+for words in '' 127.0.0.1:1 '127.0.0.1:1 hive1 root more'; do
+  run_wrong rangerd-view "^usage: rangerd-view " $words
+done
 run_wrong rangerd-explain "No such file" ./nowhere
 run_wrong rangerd-test "No such file" --junit ./nowhere
 
@@ -84,6 +88,8 @@ for name in rangerd-explain rangerd-test; do
   "$room/bin/$name" < /dev/null > "$room/printed" 2> /dev/null
   judge "$name isn't built" "$? $(wc -c < "$room/printed")" "125 0"
 done
+"$room/bin/rangerd-view" 127.0.0.1:1 hive1 > "$room/printed" 2> /dev/null
+judge "rangerd-view isn't built" "$? $(wc -c < "$room/printed")" "125 0"
 build_as "echo '$program'"
 
 # A service on a port that the system chooses is named once it listens, and ended by what ends bin/rangerd.
@@ -95,13 +101,21 @@ for _ in {1..100}; do
   sleep 0.1
 done
 said=$(sed 's/:[1-9][0-9]*$/:PORT/' "$room/said")
+# What its plugin sees is printed while it runs, and nothing once it has ended.
+view() { "$room/bin/rangerd-view" "127.0.0.1:$(sed 's/.*://' "$room/said")" hive1; }
+build_as "echo '$viewer'"
+seen=$(view; echo "status $?")
 kill "$service" 2> /dev/null
 wait "$service" 2> /dev/null
 status=$?
 if [ "$status" -eq 5 ]; then
   echo "listening: left out, since nothing can listen here"
 else
-  if [ -r /proc/self/net/tcp ]; then judge "listening" "$said" "listening on 127.0.0.1:PORT"; fi
+  if [ -r /proc/self/net/tcp ]; then
+    judge "listening" "$said" "listening on 127.0.0.1:PORT"
+    judge "what a plugin sees" "${seen%% *} ${seen##*$'\n'}" "facts status 0"
+    judge "what a plugin sees of nobody" "$(view; echo "status $?")" "status 5"
+  fi
   judge "ended by TERM" "$status" 143
 fi
 echo "manners: $passed passed, $failed failed"

@@ -2,7 +2,7 @@
 """Types every block of commands that the pages show, in a checkout of its own for each page, and compares what is printed, byte for byte,
 and the exit status.
 
-usage: checks/pages.py [RANGERD [CHECKER [EXPLAINER [TESTER]]]]      (the built programs where not given)
+usage: checks/pages.py [RANGERD [CHECKER [EXPLAINER [TESTER [VIEWER]]]]]      (the built programs where not given)
        checks/pages.py --list                                        (which blocks are left out, and why)
 
 A block of the language sh is typed as it stands. Where one line that begins with `prints` or `answers` stands between it and the block
@@ -29,7 +29,8 @@ import time
 
 TOP = pathlib.Path(__file__).resolve().parent.parent
 PROGRAMS = {"bin/rangerd": "crates/rangerd/out/rangerd", "bin/rangerd-check": "crates/rangerd_check/out/rangerd_check",
-            "bin/rangerd-explain": "crates/rangerd_explain/out/rangerd_explain", "bin/rangerd-test": "crates/rangerd_test/out/rangerd_test"}
+            "bin/rangerd-explain": "crates/rangerd_explain/out/rangerd_explain", "bin/rangerd-test": "crates/rangerd_test/out/rangerd_test",
+            "bin/rangerd-view": "crates/rangerd_view/out/rangerd_view"}
 ROW = re.compile(r"^\| `(\w+ \{.*?\})` \| (.*?) \| ", re.MULTILINE)
 CONFIG = re.compile(r"^config \{.*", re.MULTILINE)
 BLOCK = re.compile(r"^```(\w*)\n(.*?)^```\n", re.MULTILINE | re.DOTALL)

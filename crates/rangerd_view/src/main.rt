@@ -1,0 +1,20 @@
+// rangerd-view: what the plugin of a service sees, asked of a running administration and printed as a script of facts.
+#![tactic(auto)]
+
+use std::io::ErrorKind;
+use std::process::ExitCode;
+use std::{env, io};
+
+/// The words behind the program's name.
+fn words_of(rt: &HostRuntime) -> io::Result<Vec<String>> {
+    let words = env::args(rt)?.skip(1).collect(rt.alloc())?;
+    Ok(words)
+}
+
+fn main(rt: HostRuntime) -> ExitCode {
+    match words_of(&rt) {
+        Ok(words) => rg_view::start(&rt, words.as_slice()),
+        Err(error) if error.kind() == ErrorKind::InvalidData => rg_view::refused(),
+        Err(_) => rg_view::out_of_memory(),
+    }
+}
