@@ -18,7 +18,7 @@ import time
 
 TOP = pathlib.Path(__file__).resolve().parent.parent
 API = "/service/public/v2/api"
-DEF = {"name": "hive", "resources": [{"name": "database"}, {"name": "table", "parent": "database"}], "accessTypes": [{"name": "select"}, {"name": "update"}]}
+DEF = {"name": "hive", "resources": [{"name": "database", "level": 10}, {"name": "table", "level": 20, "parent": "database"}], "accessTypes": [{"name": "select"}, {"name": "update"}]}
 TAG_DEF = {"name": "tag", "resources": [{"name": "tag"}], "accessTypes": [{"name": "hive:select"}, {"name": "hive:update"}]}
 CONFIG = {
     "admins": ["root"], "plugin": "hive1", "serviceDefs": [DEF, TAG_DEF],
