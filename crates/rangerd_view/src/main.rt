@@ -1,15 +1,9 @@
 // rangerd-view: what the plugin of a service sees, asked of a running administration and printed as a script of facts.
 #![tactic(auto)]
 
+use rg_ports::words_of;
 use std::io::ErrorKind;
 use std::process::ExitCode;
-use std::{env, io};
-
-/// The words behind the program's name.
-fn words_of(rt: &HostRuntime) -> io::Result<Vec<String>> {
-    let words = env::args(rt)?.skip(1).collect(rt.alloc())?;
-    Ok(words)
-}
 
 fn main(rt: HostRuntime) -> ExitCode {
     match words_of(&rt) {

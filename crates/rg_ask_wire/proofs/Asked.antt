@@ -86,7 +86,7 @@ user_there : (x : UserRow) → unless_null (user_data x) ≡ Some (user_data x)
 unfolding user_data
 user_there x = refl
 
-policy_there : (x : Policy) → unless_null (policy_data x) ≡ Some (policy_data x)
+pub policy_there : (x : Policy) → unless_null (policy_data x) ≡ Some (policy_data x)
 unfolding policy_data
 policy_there x = refl
 
@@ -98,7 +98,7 @@ zone_there : (x : ZoneRow) → unless_null (zone_data x) ≡ Some (zone_data x)
 unfolding zone_data
 zone_there x = refl
 
-tag_row_there : (x : TagRow) → unless_null (tag_row_data x) ≡ Some (tag_row_data x)
+pub tag_row_there : (x : TagRow) → unless_null (tag_row_data x) ≡ Some (tag_row_data x)
 unfolding tag_row_data
 tag_row_there x = refl
 

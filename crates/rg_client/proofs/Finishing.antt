@@ -1,44 +1,15 @@
 -- A head that came whole, and its body.
 use Rattle.std.proofs.Common.{◌≡◌, ◌≤◌, ◌<◌, ◌+◌, ℕ, Bool, List, ◌++◌, length, take, drop, Some, ap₂, sym, ap, ◌∙◌, subst, arith, length-append, append_assoc, inl, inr}
-use Rattle.std.proofs.lemmas.List.{take_all, take_at, take-append-le, take-append-drop, length-take-le, length-drop, drop-drop}
+use Rattle.std.proofs.lemmas.List.{take_all, take-append-le, take-append-drop, length-take-le, length-drop, drop-drop}
 use Rattle.rg_base.specs.Listed.{listed}
-use Rattle.httparse.specs.declared.spans.HeaderSpan.{HeaderSpan}
-use Rattle.httparse.specs.declared.spans.ResponseSpans.{ResponseSpans}
 use Rattle.httparse.specs.Grammar.{ResponseHead, print_response, HasNoResponse}
-use Rattle.httparse.specs.Spans.{IsResponseAt}
 use Rattle.rg_http.specs.declared.message.Response.{Response}
 use Rattle.rg_http.specs.Framing.{head_limit, window}
 use Rattle.rg_client.specs.declared.heads.Begun.{Begun}
 use Rattle.rg_client.specs.declared.heads.Judged.{Judged}
 use Rattle.rg_client.specs.declared.heads.Judged.TheVariants.{Open, Unread, Head}
 use Rattle.rg_client.specs.Replies.{HasHead, HasNone, HasReply, IsUnfinished}
-use Rattle.rg_client.specs.Places.{IsBegun, Begins, Judges, Stands}
-
--- ---- what the parser found
-
--- the parser's spans are of a head that begins so
-pub begins_at : (bytes : List ℕ) (room : List HeaderSpan) (spans : ResponseSpans) (b : Begun) (h : ResponseHead) → length bytes ≤ head_limit
-    → IsResponseAt bytes room spans h → IsBegun h b → Begins bytes b
-begins_at bytes room spans b h l x y =
-    let size = ap length x.reads.1 in
-    let both = length-append (print_response h) (drop spans.len bytes) in
-    let len = y.len in
-    record {
-      head = h;
-      is_head = x.reads.0;
-      front = ap (take b.len) x.reads.1 ∙ take_at (print_response h) (drop spans.len bytes) b.len (sym y.len);
-      whole = omega (arith, size, both, len);
-      within = omega (arith, size, both, len, l);
-      begun = y;
-    }
-
--- the same for a head whose reply isn't read
-pub head_at : (bytes : List ℕ) (room : List HeaderSpan) (spans : ResponseSpans) (h : ResponseHead) → length bytes ≤ head_limit
-    → IsResponseAt bytes room spans h → HasHead bytes h (drop spans.len bytes)
-head_at bytes room spans h l x =
-    let size = ap length x.reads.1 in
-    let both = length-append (print_response h) (drop spans.len bytes) in
-    (x.reads, omega (arith, size, both, l))
+use Rattle.rg_client.specs.Places.{Begins, Judges, Stands}
 
 -- ---- more bytes behind
 

@@ -1,4 +1,3 @@
-pub mod Faults
 pub mod Finishing
 pub mod Room
 pub mod Telling

@@ -1,18 +1,15 @@
 -- No byte that is read is lost on the way to a reply.
-use Rattle.std.proofs.Common.{◌≡◌, ◌≤◌, ◌<◌, ◌+◌, ℕ, List, [], ◌++◌, length, take, drop, Option, Result, Ok, Err, MatchResult, sym, ap, ◌∙◌, subst, append_assoc, append-nil}
+use Rattle.std.proofs.Common.{◌≡◌, ◌≤◌, ◌<◌, ◌+◌, ℕ, List, ◌++◌, length, take, drop, Option, Result, Ok, Err, MatchResult, sym, ap, ◌∙◌, subst, append_assoc}
 use Rattle.rg_base.specs.Listed.{listed}
 use Rattle.rg_http.specs.declared.message.Response.{Response}
 use Rattle.rg_http.specs.Places.{Took, Fills}
-use Rattle.rg_http.proofs.Sparing.{read_none, read_more}
+use Rattle.rg_http.proofs.Sparing.{read_more}
 use Rattle.rg_client.specs.declared.fault.ClientFault.{ClientFault}
 use Rattle.rg_client.specs.declared.fault.ClientFault.TheVariants.{Failed, Ended, Unreadable, NoMemory}
 use Rattle.rg_client.specs.declared.heads.Begun.{Begun}
 use Rattle.rg_client.specs.Places.{Begins, Grows, Lacks, Told}
 use Rattle.rg_client.specs.Replies.{HasNone, HasReply, IsUnfinished, Leaves}
 use Rattle.rg_client.proofs.Finishing.{begins_more, body_unfinished, reply_came}
-
-pub grows_none : (left : Option (List ℕ)) (old : List ℕ) → Grows left left old old
-grows_none left old = ([], read_none left, sym (append-nil old))
 
 pub grows_more : (before middle after : Option (List ℕ)) (old held new : List ℕ) → Grows before middle old held → Took middle after held new
     → Grows before after old new
@@ -47,9 +44,6 @@ module _ (before after : Option (List ℕ)) (old new : List ℕ) (b : Begun) (x 
 
   begins : Begins new b
   begins = subst (λ xs. Begins xs b) (sym f.2) (begins_more old f.0 b x)
-
-  pub finished_fault : (fault : ClientFault) → Lacks new fault → Told before after old (Err fault) new
-  finished_fault fault l = told_fault before after old new fault grown l
 
   pub finished_short : length new < b.len + b.body → Told before after old (Err Ended) new
   finished_short l = told_fault before after old new Ended grown (body_unfinished new b begins l)

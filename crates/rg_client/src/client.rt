@@ -60,7 +60,8 @@ impl Client {
 
     /// Writes the question whole, and then reads until its reply is whole (RFC 9112, sections 3, 4 and 6): its status is 200 to 999,
     /// its body, at most 256 MiB, is as long as `Content-Length` says, and takes memory as its pieces come. What came beyond a reply is
-    /// kept for the next one. After a fault it asks no more, and keeps all that it read.
+    /// kept, and begins the next one: ask a service that isn't trusted once a link. After a fault it asks no more, and keeps all that
+    /// it read.
     pub fn ask<T: Link>(
         &mut self,
         alloc: Global,

@@ -8,8 +8,10 @@ mod laws;
 mod question;
 mod reading;
 mod rules;
+mod tcp;
 
 pub use client::Client;
 pub use fault::ClientFault;
 pub use laws::replies_are_one;
 pub use question::Question;
+pub use tcp::connect;

@@ -9,7 +9,8 @@ use rg_http::{FrameFault, write_whole};
 use rg_ports::Link;
 use std::alloc::{AllocError, Global};
 
-/// What a service is asked for: a GET of the target (RFC 9112, section 3). Its parts are written as they are.
+/// What a service is asked for: a GET of the target (RFC 9112, section 3). Its parts are written as they are, so who makes them sees
+/// to it that none holds CR or LF, and the target no blank.
 #[derive(Clone, Copy)]
 pub struct Question<'a> {
     /// A path and its query, as `/path?name=value` (section 3.2.1).

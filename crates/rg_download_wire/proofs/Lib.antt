@@ -1,6 +1,11 @@
 pub mod Again
 pub mod Itself
 pub mod Owned
+pub mod PartsAgain
+pub mod PartsItself
+pub mod PartsOwned
+pub mod PartsPlain
+pub mod PartsRight
 pub mod Plain
 pub mod Refusals
 pub mod Right

@@ -1,4 +1,4 @@
--- For proofs alone: facts and parts of a download in key order, as all that were read are. The lists that JSON keeps as maps stand in byte order of
+-- Facts and parts of a download in key order, as all that were read are. The lists that JSON keeps as maps stand in byte order of
 -- distinct keys, texts are characters, integers fit, and lists have no spare place.
 use Rattle.std.specs.Prelude.{◌≡◌, ◌≤◌, ℕ, List}
 use Rattle.rg_cmd.specs.declared.changes.PolicyChange.{PolicyChange}

@@ -15,7 +15,7 @@ use rg_wire::read_facts;
 use std::alloc::Global;
 
 /// Facts that read from this text are in key order. Nothing is answered: it looks at the text.
-fn look(alloc: Global, text: &[u8]) -> Result<(), NoMemory>
+fn facts_are_in_order(alloc: Global, text: &[u8]) -> Result<(), NoMemory>
     ensures { OnOk result ((facts : Facts) → reading facts_shape facts_of text.now ≡ Ok facts → AreFacts facts) }
 {
     json_is_orderly(alloc, text)
@@ -26,7 +26,7 @@ fn read_in_order(alloc: Global, text: &[u8]) -> Result<Facts, WireFault>
     ensures owned { IfOk result AreFacts }
 {
     let facts = read_facts(alloc, text)?;
-    match look(alloc, text) {
+    match facts_are_in_order(alloc, text) {
         Err(_) => Err(WireFault::NoMemory),
         Ok(()) => Ok(facts),
     }

@@ -15,6 +15,7 @@ mod ports;
 mod taking;
 mod tcp;
 mod unread;
+mod words;
 
 pub use connection::Connection;
 pub use gate::{FreeGate, Gate, MeetingGate};
@@ -26,3 +27,4 @@ pub use mem_sink::MemSink;
 pub use mem_source::MemSource;
 pub use ports::{Clock, Link, Listener, Sink, Source};
 pub use tcp::{TcpLink, TcpNet};
+pub use words::words_of;

@@ -7,36 +7,20 @@ ghost use Rattle.rg_view.specs.Words.{Wanted, wanted_of};
 use crate::viewing::view;
 use crate::words::{Words, wanted_of};
 use rg_base::{NoMemory, Text};
+use rg_client::connect;
 use rg_ports::{StdSink, TcpLink};
 use rg_remote::Remote;
 use rg_run_script::Status;
 use std::net::TcpStream;
 use std::process::ExitCode;
-use std::time::Duration;
 
 /// How many seconds a call of the connection waits at most.
 const PATIENCE: u64 = 30;
 
-// A connection with the administration, each of whose calls has a limit in time.
-fn connected(rt: &HostRuntime, address: &str) -> Option<TcpStream> {
-    let Ok(stream) = TcpStream::connect(rt, address) else {
-        return None;
-    };
-    let limit = Some(Duration::from_secs(PATIENCE));
-    match stream.set_read_timeout(limit) {
-        Ok(()) => {}
-        Err(_) => return None,
-    }
-    match stream.set_write_timeout(limit) {
-        Ok(()) => Some(stream),
-        Err(_) => None,
-    }
-}
-
 // The administration over this connection, and the service.
 fn remote_of(
     rt: &HostRuntime,
-    stream: TcpStream,
+    link: TcpLink<TcpStream>,
     words: &Words,
 ) -> Result<(Remote<TcpLink<TcpStream>>, Text), NoMemory> {
     let alloc = rt.alloc();
@@ -44,7 +28,7 @@ fn remote_of(
     let user = Text::copy_of(alloc, words.user)?;
     let asked = Text::copy_of(alloc, words.service)?;
     let service = Text::copy_of(alloc, words.service)?;
-    let remote = Remote::new(alloc, TcpLink::new(stream), host, user, asked)?;
+    let remote = Remote::new(alloc, link, host, user, asked)?;
     Ok((remote, service))
 }
 
@@ -52,10 +36,10 @@ fn remote_of(
 fn show(rt: &HostRuntime, words: &Words) -> Status
     ensures { (result ≡ Status.Done) ⊎ ((result ≡ Status.WriteFault) ⊎ ((result ≡ Status.NetFault) ⊎ (result ≡ Status.NoMemory))) }
 {
-    let Some(stream) = connected(rt, words.address) else {
+    let Ok(link) = connect(rt, words.address, PATIENCE) else {
         return Status::NetFault;
     };
-    let Ok((mut remote, service)) = remote_of(rt, stream, words) else {
+    let Ok((mut remote, service)) = remote_of(rt, link, words) else {
         return Status::NoMemory;
     };
     let mut sink = StdSink::new(rt.stdout());

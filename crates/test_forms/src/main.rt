@@ -1,6 +1,6 @@
 // Forms in which texts are taken and given: what messages ask, how replies and decisions are answered, why lines of a script are bad,
 // what the drill makes up. The rows of each table are printed, each with its answer behind it; those that begin with `#` are headings.
-// Then come the answers to the rows about scripts, versions, streams and responses (`readings.rt`).
+// Then come the answers to the rows about scripts, versions, streams, responses and questions (`readings.rt`).
 #![tactic(auto)]
 
 mod cells;
@@ -11,6 +11,7 @@ mod drill;
 mod fields;
 mod lines;
 mod messages;
+mod questions;
 mod readings;
 mod replies;
 mod responses;

@@ -1,7 +1,7 @@
-// What is answered for the rows of a table: by the checker for scripts, by a full log for versions, and by the framer for streams of
-// bytes; with them the bytes of responses. A row is a word with fields behind it, each after a `|`; any other line is printed as it is.
+// What is answered for the rows of a table: by the checker for scripts, by a full log for versions, and by the framer and
+// the client for streams of bytes; with them the bytes of responses. A row is a word with fields behind it, each after a `|`; any other line is printed as it is.
 use crate::changes::{Change, noted};
-use crate::{changes, responses, scripts, streams};
+use crate::{changes, questions, responses, scripts, streams};
 use anyhow::{Context, Result};
 use rg_delta::DeltaLog;
 use std::alloc::Global;
@@ -23,6 +23,7 @@ fn answer<R: Files + AllocGlobal>(
         Some(("changes", from)) => Ok(changes::tell(alloc, log, from)?),
         Some(("stream", fields)) => Ok(streams::tell(alloc, fields)?),
         Some(("response", fields)) => Ok(responses::tell(alloc, fields)?),
+        Some(("question", fields)) => Ok(questions::tell(alloc, fields)?),
         _ => Ok(String::from_str(alloc, row)?),
     }
 }

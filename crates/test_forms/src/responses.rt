@@ -7,7 +7,7 @@ use rg_http::{Response, print_response};
 use std::alloc::{AllocError, Global};
 
 /// The bytes in letters.
-fn letters(alloc: Global, bytes: &[u8]) -> Result<String, AllocError> {
+pub(crate) fn letters(alloc: Global, bytes: &[u8]) -> Result<String, AllocError> {
     let mut text = String::new(alloc);
     for byte in bytes {
         match *byte {

@@ -68,7 +68,8 @@ fn user_of(message: &Message) -> &str {
     }
 }
 
-fn tell_body(told: &mut String, body: &[u8]) -> Result<(), AllocError> {
+/// Appends a body, or its length where it is long.
+pub(crate) fn tell_body(told: &mut String, body: &[u8]) -> Result<(), AllocError> {
     if body.len() < 100 {
         let text = text_of(body);
         write!(told, "[{text}]")
@@ -148,8 +149,8 @@ fn tell_all(alloc: Global, told: &mut String, link: &mut MemLink) -> Result<(), 
     Ok(())
 }
 
-/// What the framer answers for the stream of a row.
-pub(crate) fn tell(alloc: Global, row: &str) -> Result<String, AllocError> {
+/// The link that the fields of a row describe.
+pub(crate) fn link_of(alloc: Global, row: &str) -> Result<MemLink, AllocError> {
     let mut fields = row.split('|');
     let piece = number(fields.next());
     let call = number(fields.next());
@@ -159,7 +160,12 @@ pub(crate) fn tell(alloc: Global, row: &str) -> Result<String, AllocError> {
     let times = number(fields.next());
     spell_often(&mut bytes, text, times)?;
     spell(&mut bytes, fields.next().unwrap_or(""))?;
-    let mut link = link(alloc, bytes, piece, call)?;
+    link(alloc, bytes, piece, call)
+}
+
+/// What the framer answers for the stream of a row.
+pub(crate) fn tell(alloc: Global, row: &str) -> Result<String, AllocError> {
+    let mut link = link_of(alloc, row)?;
     let mut told = String::new(alloc);
     tell_all(alloc, &mut told, &mut link)?;
     Ok(told)
