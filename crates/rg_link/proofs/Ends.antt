@@ -1,5 +1,5 @@
 -- Where the loop of a session stands, from its start to its ends.
-use Rattle.std.proofs.Common.{◌≡◌, ◌≤◌, ◌<◌, ◌+◌, ◌-◌, inl, inr, ℕ, zero, suc, List, [], ◌∷◌, ◌++◌, length, Option, Some, None, Bool, true, false, refl, sym, ap, ◌∙◌, subst, arith, append_assoc, append-nil, length-append}
+use Rattle.std.proofs.Common.{◌≡◌, ◌≤◌, ◌<◌, ◌+◌, ◌-◌, inl, inr, ℕ, zero, suc, List, [], ◌∷◌, ◌++◌, length, Option, Bool, true, false, refl, sym, ap, ◌∙◌, subst, arith, append-nil, length-append}
 use Rattle.std.specs.Prelude.{MatchBool}
 use mathlib.Core.List.{IsPrefix}
 use Rattle.rg_base.specs.declared.numbers.Moment.{Moment}
@@ -16,6 +16,7 @@ use Rattle.rg_link.specs.Audits.{AreAudited}
 use Rattle.rg_link.specs.Loop.{Going, IsAnswered, IsServed, IsUnanswered, StayOpen, Unserved}
 use Rattle.rg_link.specs.Sessions.{Broken, Fronts, IsCause, IsTail, MayHaveRun, Served, Wire, message_limit}
 use Rattle.rg_link.specs.Workers.{Leads, Worker}
+use Rattle.rg_http.proofs.Sparing.{read_more, read_none}
 use Rattle.rg_http.proofs.Written.{wrote_more, wrote_none}
 use Rattle.rg_link.proofs.Steps.{answers_more, answers_pubs, audited_none, audited_trans, begins_append, begins_refl, enriched_trans, leads_refl, leads_trans, texts_more}
 
@@ -25,25 +26,15 @@ use Rattle.rg_link.proofs.Steps.{answers_more, answers_pubs, audited_none, audit
 abbrev pub Law : Type 0
 Law = (bytes more : List ℕ) (m : Message) (rest : List ℕ) → HasMessage bytes m rest → HasMessage (bytes ++ more) m (rest ++ more)
 
-read_none : (left : Option (List ℕ)) → IsRead left [] left
-read_none None = refl
-read_none (Some bytes) = (bytes, refl, refl)
-
-read_more : (a b c : Option (List ℕ)) (xs ys : List ℕ) → IsRead a xs b → IsRead b ys c → IsRead a (xs ++ ys) c
-read_more None b c xs ys x y = subst (λ k. IsRead k ys c) x y
-read_more (Some bytes) b c xs ys x y =
-    let z = subst (λ k. IsRead k ys c) x.2 y in
-    (z.0, x.1 ∙ ap (λ l. xs ++ l) z.1 ∙ sym (append_assoc xs ys z.0), z.2)
-
-fronts_grow : Law → (bytes more : List ℕ) (ms : List Message) (rest : List ℕ) → Fronts bytes ms rest → Fronts (bytes ++ more) ms (rest ++ more)
+pub fronts_grow : Law → (bytes more : List ℕ) (ms : List Message) (rest : List ℕ) → Fronts bytes ms rest → Fronts (bytes ++ more) ms (rest ++ more)
 fronts_grow law bytes more [] rest x = ap (λ b. b ++ more) x
 fronts_grow law bytes more (m ∷ ms) rest x = (x.0 ++ more, law bytes more m x.0 x.1, fronts_grow law x.0 more ms rest x.2)
 
-fronts_more : (bytes : List ℕ) (ms : List Message) (r : List ℕ) (m : Message) (next : List ℕ) → Fronts bytes ms r → HasMessage r m next → Fronts bytes (ms ++ m ∷ []) next
+pub fronts_more : (bytes : List ℕ) (ms : List Message) (r : List ℕ) (m : Message) (next : List ℕ) → Fronts bytes ms r → HasMessage r m next → Fronts bytes (ms ++ m ∷ []) next
 fronts_more bytes [] r m next x y = (next, subst (λ b. HasMessage b m next) (sym x) y, refl)
 fronts_more bytes (k ∷ ms) r m next x y = (x.0, x.1, fronts_more x.0 ms r m next x.2 y)
 
-stay_more : (ms : List Message) (m : Message) → StayOpen ms → m.close ≡ false → StayOpen (ms ++ m ∷ [])
+pub stay_more : (ms : List Message) (m : Message) → StayOpen ms → m.close ≡ false → StayOpen (ms ++ m ∷ [])
 stay_more [] m x e = (e, tt {0})
 stay_more (k ∷ ms) m x e = (x.0, stay_more ms m x.1 e)
 
@@ -70,16 +61,16 @@ messages_join (suc most) bytes (m ∷ ms) rest later end x s l y =
 one_less : (ms : List Message) → length ms < message_limit → message_limit - length ms ≡ suc (message_limit - (length ms + 1))
 one_less ms l = omega arith
 
-messages_close : (bytes : List ℕ) (ms : List Message) (rest : List ℕ) (m : Message) (next : List ℕ) → Fronts bytes ms rest → StayOpen ms → length ms < message_limit → HasMessage rest m next → m.close ≡ true → Messages message_limit bytes (ms ++ m ∷ []) Ended
+pub messages_close : (bytes : List ℕ) (ms : List Message) (rest : List ℕ) (m : Message) (next : List ℕ) → Fronts bytes ms rest → StayOpen ms → length ms < message_limit → HasMessage rest m next → m.close ≡ true → Messages message_limit bytes (ms ++ m ∷ []) Ended
 messages_close bytes ms rest m next x s l h c =
     messages_join message_limit bytes ms rest (m ∷ []) Ended x s (omega (arith, l)) (subst (λ n. Messages n rest (m ∷ []) Ended) (sym (one_less ms l)) (next, h, goes_shut m.close _ _ c (refl, refl)))
 
-messages_stop : (bytes : List ℕ) (ms : List Message) (rest : List ℕ) (end : End) → Fronts bytes ms rest → StayOpen ms → length ms < message_limit → Stops rest end → Messages message_limit bytes ms end
+pub messages_stop : (bytes : List ℕ) (ms : List Message) (rest : List ℕ) (end : End) → Fronts bytes ms rest → StayOpen ms → length ms < message_limit → Stops rest end → Messages message_limit bytes ms end
 messages_stop bytes ms rest end x s l y =
     subst (λ k. Messages message_limit bytes k end) (append-nil ms)
     (messages_join message_limit bytes ms rest [] end x s (omega (arith, l)) (subst (λ n. Messages n rest [] end) (sym (one_less ms l)) y))
 
-messages_full : (bytes : List ℕ) (ms : List Message) (rest : List ℕ) → Fronts bytes ms rest → StayOpen ms → length ms ≡ message_limit → Messages message_limit bytes ms Full
+pub messages_full : (bytes : List ℕ) (ms : List Message) (rest : List ℕ) → Fronts bytes ms rest → StayOpen ms → length ms ≡ message_limit → Messages message_limit bytes ms Full
 messages_full bytes ms rest x s l =
     let e : message_limit - length ms ≡ 0 = omega (arith, l) in
     subst (λ k. Messages message_limit bytes k Full) (append-nil ms)

@@ -57,11 +57,11 @@ get_left (y ∷ xs) ys (suc k) x e = get_left xs ys k x e
 get_more : {A : Type 0} (xs ys : List A) (k : ℕ) (x : A) → IsPrefix xs ys → slice_get xs k ≡ Some x → slice_get ys k ≡ Some x
 get_more xs ys k x p e = subst (λ l. slice_get l k ≡ Some x) p.1 (get_left xs p.0 k x e)
 
-get_seam : {A : Type 0} (xs : List A) (y : A) → slice_get (xs ++ y ∷ []) (length xs) ≡ Some y
+pub get_seam : {A : Type 0} (xs : List A) (y : A) → slice_get (xs ++ y ∷ []) (length xs) ≡ Some y
 get_seam [] y = refl
 get_seam (x ∷ xs) y = get_seam xs y
 
-map_join : {A B : Type 0} (f : A → B) (xs ys : List A) → map f (xs ++ ys) ≡ map f xs ++ map f ys
+pub map_join : {A B : Type 0} (f : A → B) (xs ys : List A) → map f (xs ++ ys) ≡ map f xs ++ map f ys
 map_join f [] ys = refl
 map_join f (x ∷ xs) ys = ap (λ l. f x ∷ l) (map_join f xs ys)
 
@@ -162,15 +162,15 @@ rises_lower : (low mid : ℕ) (xs : List ℕ) (high : ℕ) → low ≤ mid → R
 rises_lower low mid [] high l x = omega (arith, l, x)
 rises_lower low mid (s ∷ xs) high l x = (omega (arith, l, x.0), x.1)
 
-rises_append : (low : ℕ) (xs : List ℕ) (mid : ℕ) (ys : List ℕ) (high : ℕ) → Rises low xs mid → Rises mid ys high → Rises low (xs ++ ys) high
+pub rises_append : (low : ℕ) (xs : List ℕ) (mid : ℕ) (ys : List ℕ) (high : ℕ) → Rises low xs mid → Rises mid ys high → Rises low (xs ++ ys) high
 rises_append low [] mid ys high x y = rises_lower low mid ys high x y
 rises_append low (s ∷ xs) mid ys high x y = (x.0, rises_append s xs mid ys high x.1 y)
 
-rises_join : (low : ℕ) (xs : List Decided) (mid : ℕ) (ys : List Decided) (high : ℕ) → Rises low (serials xs) mid → Rises mid (serials ys) high → Rises low (serials (xs ++ ys)) high
+pub rises_join : (low : ℕ) (xs : List Decided) (mid : ℕ) (ys : List Decided) (high : ℕ) → Rises low (serials xs) mid → Rises mid (serials ys) high → Rises low (serials (xs ++ ys)) high
 rises_join low xs mid ys high x y =
     subst (λ l. Rises low l high) (sym (map_join (λ (d : Decided). d.serial) xs ys)) (rises_append low (serials xs) mid (serials ys) high x y)
 
-counted_join : (xs ys : List Decided) (n : ℕ) → counted (length (xs ++ ys)) n ≡ counted (length ys) (counted (length xs) n)
+pub counted_join : (xs ys : List Decided) (n : ℕ) → counted (length (xs ++ ys)) n ≡ counted (length ys) (counted (length xs) n)
 counted_join [] ys n = refl
 counted_join (x ∷ xs) ys n = counted_join xs ys (risen n)
 
@@ -204,7 +204,7 @@ leads_trans a b c ts us own own2 ds ds2 x y = record {
 
 -- ---- answers
 
-decided_more : (pubs all : List Publication) (d : Decided) → IsPrefix pubs all → IsDecided pubs d → IsDecided all d
+pub decided_more : (pubs all : List Publication) (d : Decided) → IsPrefix pubs all → IsDecided pubs d → IsDecided all d
 decided_more pubs all d p x = (x.0, get_more pubs all (d.serial - 1) x.0 p x.1, x.2, x.3)
 
 takes_pubs : (pubs all : List Publication) (m : Message) (call : Call) (P Q : List (Entry Ask AdminReply) → List Decided → Type 0) (own : List (Entry Ask AdminReply)) (ds : List Decided) (r : Response)
@@ -251,7 +251,7 @@ texts_more (q ∷ rs) r = ap (λ l. response_text q ++ l) (texts_more rs r) ∙ 
 
 -- ---- one message
 
-told_one : (x y : Option (List Moment)) (t : Moment) → Told x y t → (before : List Moment) → x ≡ Some before → y ≡ Some (before ++ t ∷ [])
+pub told_one : (x y : Option (List Moment)) (t : Moment) → Told x y t → (before : List Moment) → x ≡ Some before → y ≡ Some (before ++ t ∷ [])
 told_one x y t told before e = subst (λ k. Told k y t) e told
 
 -- nothing was called and nothing decided
