@@ -1,0 +1,4 @@
+pub mod Asks
+pub mod Exchanges
+pub mod Loop
+pub mod Sessions
