@@ -1,0 +1,23 @@
+// A place that holds bytes over restarts.
+ghost use Rattle.std.specs.Prelude.{◌≡◌, ◌⊎◌, List, ℕ, IfOk, OnOk, OnErr, option_map};
+ghost use Rattle.rg_cache.specs.Places.{Held, Holds, IsHeld};
+
+use crate::fault::CacheFault;
+use rg_base::{Failed, Seq};
+use std::alloc::Global;
+
+/// A place that holds bytes over restarts: nothing at first, and then what was stored last.
+pub trait Cache {
+    /// What it holds, where the object tells it.
+    ghost held: { Self → Held };
+
+    /// The bytes that it holds; None where nothing was stored yet.
+    fn load(&mut self, alloc: Global) -> Result<Option<Seq<u8>>, CacheFault>
+        ensures loaded { IfOk result (λ bytes. IsHeld (held self.old) (option_map (λ b. b.items) bytes)) }
+        ensures same { held self.new ≡ held self.old };
+
+    /// Holds these bytes in place of those that it held. After `Failed` it holds the old ones or these, and no mixture.
+    fn store(&mut self, bytes: &[u8]) -> Result<(), Failed>
+        ensures stored { OnOk result (Holds (held self.old) (held self.new) bytes.now) }
+        ensures failed { OnErr result ((held self.new ≡ held self.old) ⊎ Holds (held self.old) (held self.new) bytes.now) };
+}

@@ -1,0 +1,45 @@
+// Facts kept in a cache, and had again.
+ghost use Rattle.std.specs.Prelude.{◌≡◌, ◌≢◌, ◌⊎◌, IfOk, IfErr, OnOk, OnErr, Ok, Err};
+ghost use Rattle.rg_facts.specs.declared.facts.Facts.{Facts};
+ghost use Rattle.rg_cache.specs.Kept.{kept_text};
+ghost use Rattle.rg_cache.specs.Places.{Holds};
+ghost use Rattle.rg_cache.specs.Recalling.{IsRecalled, IsUnread};
+
+use crate::cache::Cache;
+use crate::fault::{CacheFault, KeptFault};
+use crate::kept::{print_kept, read_kept};
+use rg_base::{Failed, NoMemory};
+use rg_facts::Facts;
+use std::alloc::Global;
+
+/// Keeps these facts in place of those that are kept. After a fault the old ones are kept, or these.
+pub fn keep<K: Cache>(alloc: Global, cache: &mut K, facts: &Facts) -> Result<(), CacheFault>
+    ensures kept { OnOk result (Holds (K.held cache.old) (K.held cache.new) (kept_text facts.now)) }
+    ensures fault { OnErr result ((K.held cache.new ≡ K.held cache.old) ⊎ Holds (K.held cache.old) (K.held cache.new) (kept_text facts.now)) }
+{
+    let Ok(text) = print_kept(alloc, facts) else {
+        return Err(CacheFault::NoMemory);
+    };
+    match cache.store(text.as_bytes()) {
+        Ok(()) => Ok(()),
+        Err(Failed) => Err(CacheFault::Failed),
+    }
+}
+
+/// The facts that are kept; None where nothing was stored yet.
+pub fn recall<K: Cache>(alloc: Global, cache: &mut K) -> Result<Option<Facts>, CacheFault>
+    ensures recalled { IfOk result (λ facts. IsRecalled (K.held cache.old) facts) }
+    ensures unread { IfErr result (λ f. IsUnread (K.held cache.old) f) }
+    ensures same { K.held cache.new ≡ K.held cache.old }
+{
+    let bytes = match cache.load(alloc) {
+        Ok(None) => return Ok(None),
+        Ok(Some(bytes)) => bytes,
+        Err(fault) => return Err(fault),
+    };
+    match read_kept(alloc, bytes.as_slice()) {
+        Ok(facts) => Ok(Some(facts)),
+        Err(KeptFault::NoMemory) => Err(CacheFault::NoMemory),
+        Err(fault) => Err(CacheFault::Kept(fault)),
+    }
+}

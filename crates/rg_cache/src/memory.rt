@@ -1,0 +1,58 @@
+// A cache in memory.
+ghost use Rattle.std.specs.Prelude.{◌≡◌, None, option_map};
+
+use crate::cache::Cache;
+use crate::fault::CacheFault;
+use rg_base::{Failed, Seq};
+use std::alloc::Global;
+use std::marker::Model;
+
+/// A cache in memory. It fails where memory is refused.
+#[derive(Drop)]
+pub struct MemCache {
+    alloc: Global,
+    bytes: Option<Seq<u8>>,
+}
+
+impl Model for MemCache {
+    ghost use Rattle.std.specs.Prelude.{ℕ, List, Option, option_map};
+
+    ghost Value = { Option (List ℕ) };
+
+    ghost view = { λ c. option_map (λ b. b.items) c.bytes };
+}
+
+impl MemCache {
+    /// It holds these bytes, or nothing.
+    pub fn new(alloc: Global, bytes: Option<Seq<u8>>) -> MemCache
+        ensures { result ≡ option_map (λ b. b.items) bytes }
+    {
+        MemCache { alloc, bytes }
+    }
+}
+
+impl Cache for MemCache {
+    ghost use Rattle.std.specs.Prelude.{Some};
+
+    ghost held = { λ c. Some c };
+
+    fn load(&mut self, alloc: Global) -> Result<Option<Seq<u8>>, CacheFault> {
+        match &self.bytes {
+            None => Ok(None),
+            Some(bytes) => match Vec::from_slice(alloc, bytes.as_slice()) {
+                Ok(copy) => Ok(Some(Seq::from_vec(copy))),
+                Err(_) => Err(CacheFault::NoMemory),
+            },
+        }
+    }
+
+    fn store(&mut self, bytes: &[u8]) -> Result<(), Failed> {
+        match Vec::from_slice(self.alloc, bytes) {
+            Ok(copy) => {
+                self.bytes = Some(Seq::from_vec(copy));
+                Ok(())
+            }
+            Err(_) => Err(Failed),
+        }
+    }
+}
