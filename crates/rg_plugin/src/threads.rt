@@ -1,0 +1,237 @@
+// The threads of a plugin: workers that serve links, and one that follows the administration.
+use crate::board::{Board, BoardReader};
+use crate::plugin::Plugin;
+use crate::remote::Administration;
+use rg_base::{Failed, Moment, NoMemory, Text};
+use rg_cache::Cache;
+use rg_health::Cause;
+use rg_hook::RequestHooks;
+use rg_plugin_link::Desk;
+use rg_ports::{Clock, FreeGate, Listener};
+use rg_publish::Pass;
+use rg_remote::Remote;
+use rg_threads::SharedClock;
+use std::alloc::Global;
+use std::sync::{Mutex, Wait};
+use std::thread::Threads;
+use std::time::Duration;
+use std::{rt, thread};
+
+/// How many milliseconds a worker waits where no link could be accepted.
+const PAUSE: u64 = 100;
+
+/// What a worker has for itself.
+#[derive(Drop)]
+pub struct Worker<H: Drop> {
+    pub pass: Pass,
+    pub hooks: H,
+}
+
+/// What a plugin asks for.
+#[derive(Clone, Copy)]
+pub struct Post<'s, 'h, 'u> {
+    pub service: &'s str,
+    /// The administration, as its links are addressed.
+    pub host: &'h str,
+    /// Who asks.
+    pub user: &'u str,
+    /// How long it waits between two rounds.
+    pub pause: Duration,
+}
+
+// Serves links, one after another, until none is to come.
+fn serve_links<N: Listener, C: Clock, H: RequestHooks, R: Wait + Sync + rt::Clock>(
+    rt: &R,
+    desk: &Desk<FreeGate, BoardReader<R>>,
+    net: &Mutex<&mut N>,
+    clock: &Mutex<&mut C>,
+    worker: &Mutex<Worker<H>>,
+) {
+    let mut worker = worker.lock(rt);
+    let mut clock = SharedClock::new(rt, clock);
+    for _ in rt.forever() {
+        match accept(rt, net) {
+            Ok(Some(mut link)) => {
+                let Worker { pass, hooks } = &mut *worker;
+                let _report = desk.serve_link(&mut link, pass, &mut clock, hooks);
+            }
+            Ok(None) => break,
+            Err(Failed) => thread::sleep(rt, Duration::from_millis(PAUSE)),
+        }
+    }
+}
+
+// The next link. Whoever has the lock waits for it.
+fn accept<N: Listener, R: Wait>(rt: &R, net: &Mutex<&mut N>) -> Result<Option<N::Link>, Failed> {
+    let mut net = net.lock(rt);
+    net.accept()
+}
+
+// The administration over a link of its own.
+fn reach<A: Administration>(
+    alloc: Global,
+    post: Post,
+    administration: &A,
+) -> Result<Remote<A::Link>, Cause> {
+    let host = copy(alloc, post.host)?;
+    let user = copy(alloc, post.user)?;
+    let service = copy(alloc, post.service)?;
+    let Ok(link) = administration.connect() else {
+        return Err(Cause::Connection);
+    };
+    match Remote::new(alloc, link, host, user, service) {
+        Ok(remote) => Ok(remote),
+        Err(NoMemory) => Err(Cause::Memory),
+    }
+}
+
+fn copy(alloc: Global, text: &str) -> Result<Text, Cause> {
+    match Text::copy_of(alloc, text) {
+        Ok(text) => Ok(text),
+        Err(NoMemory) => Err(Cause::Memory),
+    }
+}
+
+// One round. What is published is kept.
+fn renew<A: Administration, K: Cache + Drop, Q: Wait + Drop>(
+    alloc: Global,
+    post: Post,
+    administration: &A,
+    plugin: &mut Plugin<K, Q>,
+) -> Option<Cause> {
+    let mut remote = match reach(alloc, post, administration) {
+        Ok(remote) => remote,
+        Err(cause) => return Some(cause),
+    };
+    if let Err(cause) = plugin.follow(alloc, &mut remote) {
+        return Some(cause);
+    }
+    keep(alloc, plugin)
+}
+
+// Keeps what is published, where it is still to be kept.
+fn keep<K: Cache + Drop, Q: Wait + Drop>(
+    alloc: Global,
+    plugin: &mut Plugin<K, Q>,
+) -> Option<Cause> {
+    if !plugin.is_unkept() {
+        return None;
+    }
+    match plugin.keep_newest(alloc) {
+        Ok(()) => None,
+        Err(_) => Some(Cause::Cache),
+    }
+}
+
+// The time of a clock that threads share.
+fn moment<C: Clock, R: Wait>(rt: &R, clock: &Mutex<&mut C>) -> Moment {
+    let mut clock = clock.lock(rt);
+    clock.now()
+}
+
+// Follows the administration, round after round, until no link is to come any more.
+fn follow_rounds<
+    A: Administration,
+    K: Cache + Drop,
+    Q: Wait + Drop,
+    C: Clock,
+    R: Wait + Sync + rt::Clock,
+>(
+    rt: &R,
+    alloc: Global,
+    post: Post,
+    administration: &A,
+    plugin: &Mutex<Plugin<K, Q>>,
+    clock: &Mutex<&mut C>,
+    board: &Board,
+    is_over: &Mutex<bool>,
+) {
+    let mut plugin = plugin.lock(rt);
+    for _ in rt.forever() {
+        thread::sleep(rt, post.pause);
+        if *is_over.lock(rt) {
+            break;
+        }
+        let fault = renew(alloc, post, administration, &mut *plugin);
+        board.tell(rt, &*plugin, fault, moment(rt, clock));
+    }
+}
+
+/// Serves links by a thread for each worker, while another follows the administration. It returns when no link is to come, which a
+/// listener over the network never says. A link that can't be accepted, a fault of a link and a round that fails end nothing.
+pub fn run<
+    A: Administration,
+    K: Cache + Drop + Send,
+    Q: Wait + Drop + Send,
+    N: Listener + Send,
+    C: Clock,
+    H: RequestHooks + Send,
+    R: Threads + Wait + Sync + rt::Clock,
+>(
+    rt: &R,
+    alloc: Global,
+    post: Post,
+    administration: &A,
+    plugin: Plugin<K, Q>,
+    workers: &[Mutex<Worker<H>>],
+    net: &mut N,
+    clock: &mut C,
+    settled: Option<Moment>,
+) {
+    let board = Board::new(&plugin, settled);
+    let plugin = Mutex::new(plugin);
+    let net = Mutex::new(net);
+    let clock = Mutex::new(clock);
+    let is_over = Mutex::new(false);
+    let board = &board;
+    let plugin = &plugin;
+    let net = &net;
+    let clock = &clock;
+    let is_over = &is_over;
+    thread::scope(thread::scope_env(), rt, move |scope| {
+        let _started = scope.spawn(move || follow_rounds(
+            rt,
+            alloc,
+            post,
+            administration,
+            plugin,
+            clock,
+            board,
+            is_over,
+        ));
+        with_workers(rt, alloc, post, workers, net, clock, board);
+        *is_over.lock(rt) = true;
+    });
+}
+
+// Starts a thread for each worker. All have ended when it returns.
+fn with_workers<
+    N: Listener + Send,
+    C: Clock,
+    H: RequestHooks + Send,
+    R: Threads + Wait + Sync + rt::Clock,
+>(
+    rt: &R,
+    alloc: Global,
+    post: Post,
+    workers: &[Mutex<Worker<H>>],
+    net: &Mutex<&mut N>,
+    clock: &Mutex<&mut C>,
+    board: &Board,
+) {
+    thread::scope(thread::scope_env(), rt, move |scope| {
+        for (number, worker) in workers.iter().enumerate() {
+            let _started = scope.spawn(move || {
+                let standing = BoardReader { board, rt };
+                let desk = Desk {
+                    alloc,
+                    gate: &FreeGate,
+                    standing: &standing,
+                    plugin: post.service,
+                    worker: number as u32,
+                };
+                serve_links(rt, &desk, net, clock, worker);
+            });
+        }
+    });
+}
