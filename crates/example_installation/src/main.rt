@@ -7,10 +7,8 @@
 
 ghost use Rattle.std.specs.Prelude.{◌≤◌, length};
 
-mod audit_file;
-
 use anyhow::{Context, Result};
-use audit_file::AuditFile;
+use rg_audit_file::AuditFile;
 use rg_base::{Pair, Seq, Text};
 use rg_hook::{AuditFan, AuditSink, Enricher, Enrichers, FixedPair, WorkerHooks};
 use rg_ports::{FreeGate, StdSink, StdSource, TcpNet, WallClock};

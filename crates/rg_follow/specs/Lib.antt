@@ -1,4 +1,5 @@
 pub mod Answering
 pub mod Asking
+pub mod Faults
 pub mod Following
 pub mod Rounds

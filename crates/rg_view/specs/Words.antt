@@ -1,14 +1,6 @@
 -- The words of the command line.
-use Rattle.std.specs.Prelude.{ℕ, ◌&&◌, nat_le, nat_lt, Bool, List, [], ◌∷◌, length, Option, Some, None, if◌then◌else◌, codes}
-use Rattle.std.specs.List.{list_all}
-
--- a byte that is printed and no space
-abbrev pub is_visible : ℕ → Bool
-is_visible b = nat_lt 32 b && nat_lt b 127
-
--- 1 to 256 such bytes: what may stand in a head as it is
-unfoldable pub is_plain : List ℕ → Bool
-is_plain word = nat_lt 0 (length word) && (nat_le (length word) 256 && list_all is_visible word)
+use Rattle.std.specs.Prelude.{ℕ, ◌&&◌, List, [], ◌∷◌, Option, Some, None, if◌then◌else◌, codes}
+use Rattle.rg_client.specs.Plain.{is_plain}
 
 -- where an administration listens, the service whose plugin is asked for, and who asks
 pub record Wanted : Type 0 where

@@ -5,10 +5,9 @@ ghost use Rattle.rg_view.specs.Views.{Views, script_of};
 use rg_base::{NoMemory, Text};
 use rg_download_wire::print_facts;
 use rg_facts::Facts;
-use rg_follow::{FollowFault, begin};
-use rg_json::WireFault;
+use rg_follow::begin;
 use rg_ports::{Link, Sink};
-use rg_remote::{AskFault, Remote};
+use rg_remote::Remote;
 use rg_run_script::{Status, write_all};
 use std::alloc::Global;
 
@@ -19,16 +18,6 @@ fn script_of(alloc: Global, facts: &Facts) -> Result<String, NoMemory>
     let facts = print_facts(alloc, facts)?;
     let facts = facts.as_str();
     Ok(format!(in alloc; "facts {facts}\n")?)
-}
-
-// Whether memory was refused.
-fn is_short(fault: &FollowFault) -> bool {
-    match fault {
-        FollowFault::NoMemory => true,
-        FollowFault::Ask(AskFault::NoMemory) => true,
-        FollowFault::Ask(AskFault::Body(WireFault::NoMemory)) => true,
-        _ => false,
-    }
 }
 
 /// Asks for what the plugin of the service sees, and writes it as a script of facts. Nothing is written where the downloads don't
@@ -44,7 +33,7 @@ pub fn view<T: Link + Drop, K: Sink>(
     let facts = match begin(alloc, remote, service) {
         Ok(facts) => facts,
         Err(fault) => {
-            if is_short(&fault) {
+            if fault.is_short() {
                 return Status::NoMemory;
             }
             return Status::NetFault;

@@ -1,7 +1,8 @@
 // The words of the command line.
 ghost use Rattle.std.specs.Prelude.{◌≡◌, map, option_map, string_bytes, true};
-ghost use Rattle.std.specs.List.{list_all};
-ghost use Rattle.rg_view.specs.Words.{is_plain, is_visible, wanted, wanted_of};
+ghost use Rattle.rg_view.specs.Words.{wanted, wanted_of};
+
+use rg_client::is_plain;
 
 /// What the words ask for.
 #[derive(Clone, Copy)]
@@ -11,27 +12,6 @@ pub(crate) struct Words<'a> {
     pub service: &'a str,
     /// Who asks.
     pub user: &'a str,
-}
-
-fn is_visible(byte: &u8) -> bool
-    ensures { result ≡ is_visible byte.now }
-{
-    32 < *byte && *byte < 127
-}
-
-fn are_visible(bytes: &[u8]) -> bool
-    ensures { result ≡ list_all is_visible bytes.now }
-{
-    bytes.iter().all(|byte| is_visible(byte))
-}
-
-// Whether it may stand in a head as it is: 1 to 256 bytes that are printed and no space.
-#[tactic(auto, unfolding(crate::specs::Words::is_plain))]
-fn is_plain(word: &str) -> bool
-    ensures { result ≡ is_plain word.now }
-{
-    let bytes = word.as_bytes();
-    !bytes.is_empty() && (bytes.len() <= 256 && are_visible(bytes))
 }
 
 fn wanted<'a>(address: &'a str, service: &'a str, user: &'a str) -> Option<Words<'a>>

@@ -1,4 +1,6 @@
-// Audit lines in a file.
+// Audit lines in a file that several workers append to.
+#![tactic(auto)]
+
 ghost use Rattle.std.specs.Prelude.{None};
 
 use rg_base::{Failed, Tally};
@@ -15,9 +17,10 @@ fn append(alloc: Global, file: &mut File, line: &str) -> io::Result<()> {
     file.flush()
 }
 
-/// Appends a line a decision to a file.
+/// Appends each line and its end at once, so that lines of several workers, or of several programs, stand one after another. What the
+/// file system does with them is trusted.
 #[derive(Drop)]
-pub(crate) struct AuditFile {
+pub struct AuditFile {
     alloc: Global,
     file: File,
     faults: Tally,
@@ -25,7 +28,7 @@ pub(crate) struct AuditFile {
 
 impl AuditFile {
     /// At the end of this file, which is made where there is none.
-    pub(crate) fn open(rt: &HostRuntime, path: &str) -> io::Result<AuditFile> {
+    pub fn open(rt: &HostRuntime, path: &str) -> io::Result<AuditFile> {
         Ok(AuditFile {
             alloc: rt.alloc(),
             file: OpenOptions::new().create(true).append(true).open(rt, path)?,
@@ -35,7 +38,6 @@ impl AuditFile {
 }
 
 impl AuditSink for AuditFile {
-    // what contracts know of a file: not what it holds, and how often writing it failed
     ghost heard = { λ s. None };
 
     ghost sink_faults = { λ s. s.faults.count };
