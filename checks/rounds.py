@@ -15,7 +15,7 @@ import threading
 
 TOP = pathlib.Path(__file__).resolve().parent.parent
 MODEL = TOP / "checks/admin_model.py"
-VIEWER = sys.argv[1] if len(sys.argv) > 1 else str(TOP / "crates/rangerd_view/out/rangerd_view")
+VIEWER = str(TOP / "crates/rangerd_view/out/rangerd_view")
 DEF = {"name": "hive", "resources": [{"name": "database"}], "accessTypes": [{"name": "select"}]}
 TAG_DEF = {"name": "tag", "resources": [{"name": "tag"}], "accessTypes": [{"name": "hive:select"}]}
 CONFIG = {
@@ -79,9 +79,10 @@ def compact(value):
     return json.dumps(value, separators=(",", ":"), sort_keys=True, ensure_ascii=False)
 
 
-def replies(askings):
-    """The replies to questions at these moments, three a time, and of which moment all is after the last; None where it never settles."""
-    known, cells = {}, []
+def replies(askings, had=None):
+    """The replies to questions at these moments, three a time, by who has these versions; and of which moment all is after the last, None where it
+    never settles."""
+    known, cells = dict(had or {}), []
     for number, moments in enumerate(askings):
         changed = False
         for part, moment in zip(PARTS, moments):
@@ -205,12 +206,21 @@ def main():
     sys.exit(bool(FAILED))
 
 
-if not pathlib.Path(VIEWER).exists():
-    print(f"rounds: left out, since {VIEWER} isn't built")
-else:
+def can_listen():
+    """Whether something can listen on this machine."""
     try:
         socket.create_server(("127.0.0.1", 0)).close()
     except OSError:
+        return False
+    return True
+
+
+if __name__ == "__main__":
+    if len(sys.argv) > 1:
+        VIEWER = sys.argv[1]
+    if not pathlib.Path(VIEWER).exists():
+        print(f"rounds: left out, since {VIEWER} isn't built")
+    elif not can_listen():
         print("rounds: left out, since nothing can listen here")
     else:
         main()
