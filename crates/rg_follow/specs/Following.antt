@@ -1,5 +1,5 @@
 -- How a round ends.
-use Rattle.std.specs.Prelude.{◌≡◌, ℕ, List, [], ◌∷◌, ◌++◌, length, true, false, ◌⊎◌, Some, None}
+use Rattle.std.specs.Prelude.{◌≡◌, ℕ, List, [], ◌∷◌, ◌++◌, length, true, false, ◌⊎◌, Option, Some, None}
 use Rattle.rg_facts.specs.declared.facts.Facts.{Facts}
 use Rattle.rg_cmd.specs.declared.download.Download.{Download}
 use Rattle.rg_admin_laws.specs.Leading.{led}
@@ -23,6 +23,11 @@ Moves facts (d ∷ ds) after = (is_unchanged d ≡ false) × (fits facts d ≡ t
 -- downloads from these facts settled at these others
 abbrev pub HasSettled : Facts → Facts → Far → Far → Type 0
 HasSettled had after old new = (ds : List Download) × AreAsked had ds old new × Settles had ds after
+
+-- the same, where no facts say that nothing has changed
+abbrev pub HasRenewed : Facts → Option Facts → Far → Far → Type 0
+HasRenewed had None old new = HasSettled had had old new
+HasRenewed had (Some after) old new = HasSettled had after old new
 
 -- downloads moved on to facts that the last of them doesn't fit
 abbrev pub HasMisfit : Facts → Far → Far → Type 0

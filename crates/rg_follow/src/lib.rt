@@ -8,4 +8,4 @@ mod rounds;
 
 pub use fault::FollowFault;
 pub use laws::{rounds_go_on, settled_is_a_view};
-pub use rounds::{begin, settle};
+pub use rounds::{begin, renew, settle};

@@ -4,7 +4,7 @@ ghost use Rattle.rg_admin_laws.specs.Laws.{from_of};
 ghost use Rattle.rg_admin_laws.specs.Leading.{led};
 ghost use Rattle.rg_admin_laws.specs.Machine.{is_unchanged};
 ghost use Rattle.rg_follow.specs.Asking.{AreAsked, AreAskedAnew};
-ghost use Rattle.rg_follow.specs.Following.{HasSettled, HasSettledAnew, Strays, StraysAnew, most_downloads};
+ghost use Rattle.rg_follow.specs.Following.{HasRenewed, HasSettled, HasSettledAnew, Strays, StraysAnew, most_downloads};
 ghost use Rattle.rg_follow.specs.Rounds.{begun, facts_of, fits, goes_on, policies_fit, tags_fit, Settles, SettlesAnew};
 
 use crate::asking::{Known, ask};
@@ -13,6 +13,7 @@ use rg_base::{NoMemory, Text, Version};
 use rg_cmd::{Download, PolicyPart, PolicyWhole, RolePart, RoleWhole, TagPart, TagWhole};
 use rg_facts::Facts;
 use rg_ports::Link;
+use rg_publish::Engine;
 use rg_remote::Remote;
 use rg_session::{is_unchanged, lead_facts};
 use std::alloc::Global;
@@ -80,18 +81,18 @@ fn take(alloc: Global, facts: Facts, download: Download) -> Result<Facts, Follow
     }
 }
 
-/// Asks for downloads from these facts, one after another, until one finds nothing changed: the facts to which the ones before it
-/// led. It asks nine times at most.
-pub fn settle<T: Link + Drop>(
+// Asks for downloads from these facts, so many at most, until one finds nothing changed.
+fn settle_within<T: Link + Drop>(
     alloc: Global,
     remote: &mut Remote<T>,
     had: Facts,
+    most: u32,
 ) -> Result<Facts, FollowFault>
     ensures settled { IfOk result (λ after. HasSettled had after remote.old remote.new) }
-    ensures strayed { IfErr result (λ f. Strays most_downloads had f remote.old remote.new) }
+    ensures strayed { IfErr result (λ f. Strays most had f remote.old remote.new) }
 {
     let mut facts = had;
-    let mut left = MOST_DOWNLOADS;
+    let mut left = most;
     while 0 < left {
         let download = match ask(alloc, remote, known_of(&facts)) {
             Ok(download) => download,
@@ -112,6 +113,64 @@ pub fn settle<T: Link + Drop>(
     }
     drop(facts);
     Err(FollowFault::Unsettled)
+}
+
+/// Asks for downloads from these facts, one after another, until one finds nothing changed: the facts to which the ones before it
+/// led. It asks nine times at most.
+pub fn settle<T: Link + Drop>(
+    alloc: Global,
+    remote: &mut Remote<T>,
+    had: Facts,
+) -> Result<Facts, FollowFault>
+    ensures settled { IfOk result (λ after. HasSettled had after remote.old remote.new) }
+    ensures strayed { IfErr result (λ f. Strays most_downloads had f remote.old remote.new) }
+{
+    settle_within(alloc, remote, had, MOST_DOWNLOADS)
+}
+
+// The versions of an engine's facts.
+fn known_to(engine: &Engine) -> Known
+    ensures { record { policies = result.policies; tags = result.tags; roles = result.roles } ≡ from_of engine.now }
+{
+    Known {
+        policies: Some(engine.policy_version()),
+        tags: Some(engine.tag_version()),
+        roles: Some(engine.role_version()),
+    }
+}
+
+/// As `settle`, from the facts of an engine, which are copied only where something has changed: None where nothing has.
+pub fn renew<T: Link + Drop>(
+    alloc: Global,
+    remote: &mut Remote<T>,
+    had: &Engine,
+) -> Result<Option<Facts>, FollowFault>
+    ensures settled { IfOk result (λ after. HasRenewed had.now after remote.old remote.new) }
+    ensures strayed { IfErr result (λ f. Strays most_downloads had.now f remote.old remote.new) }
+{
+    let download = match ask(alloc, remote, known_to(had)) {
+        Ok(download) => download,
+        Err(fault) => return Err(FollowFault::Ask(fault)),
+    };
+    if is_unchanged(&download) {
+        drop(download);
+        return Ok(None);
+    }
+    let facts = match had.facts(alloc) {
+        Ok(facts) => facts,
+        Err(NoMemory) => {
+            drop(download);
+            return Err(FollowFault::NoMemory);
+        }
+    };
+    let facts = match take(alloc, facts, download) {
+        Ok(facts) => facts,
+        Err(fault) => return Err(fault),
+    };
+    match settle_within(alloc, remote, facts, MOST_DOWNLOADS - 1) {
+        Ok(after) => Ok(Some(after)),
+        Err(fault) => Err(fault),
+    }
 }
 
 // The facts of whole parts.
