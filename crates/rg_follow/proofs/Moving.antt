@@ -1,5 +1,5 @@
--- How one more download joins those before it.
-use Rattle.std.proofs.Common.{◌≡◌, ◌≢◌, ℕ, List, [], ◌∷◌, ◌++◌, true, false, Some, Result, Ok, Err, IfOk, IfErr, inr, refl, sym, ap, ◌∙◌, subst}
+-- How one more download joins those before it, or those after it.
+use Rattle.std.proofs.Common.{◌≡◌, ◌≢◌, ◌+◌, ℕ, List, [], ◌∷◌, ◌++◌, true, false, Some, Result, Ok, Err, IfOk, IfErr, inr, refl, sym, ap, ◌∙◌, subst, arith}
 use Rattle.rg_facts.specs.declared.facts.Facts.{Facts}
 use Rattle.rg_cmd.specs.declared.download.Download.{Download}
 use Rattle.rg_admin_laws.specs.Downloads.{From}
@@ -45,6 +45,31 @@ strays most had at ds d (Ask fault) old new a m changed fit other = tt {0}
 strays most had at ds d Misfit old new a m changed fit other = (ds, d, at, a, m, changed, fit refl)
 strays most had at ds d Unsettled old new a m changed fit other = absurd (other refl)
 strays most had at ds d NoMemory old new a m changed fit other = tt {0}
+
+-- a settled round has a download: after one that changed something its downloads settle from before it
+settles_after : (had after : Facts) (d : Download) (ds : List Download) → is_unchanged d ≡ false → fits had d ≡ true
+    → Settles (led had d) ds after → Settles had (d ∷ ds) after
+settles_after had after d [] changed fit s = absurd s
+settles_after had after d (e ∷ ds) changed fit s = (changed, fit, s)
+
+-- what settled after a first download that changed something settled from before it
+pub settled_after : (had after : Facts) (d : Download) (old mid new : Far)
+    → WasAsked (from_of had) d old mid → is_unchanged d ≡ false → fits had d ≡ true
+    → HasSettled (led had d) after mid new
+    → HasSettled had after old new
+settled_after had after d old mid new w changed fit h = (d ∷ h.0, (mid, w, h.1), settles_after had after d h.0 changed fit h.2)
+
+-- what strayed after a first download that changed something strayed from before it, of one more at most
+pub strayed_after : (less most : ℕ) (had : Facts) (d : Download) (fault : FollowFault) (old mid new : Far) → less + 1 ≡ most
+    → WasAsked (from_of had) d old mid → is_unchanged d ≡ false → fits had d ≡ true
+    → Strays less (led had d) fault mid new
+    → Strays most had fault old new
+strayed_after less most had d (Ask fault) old mid new more w changed fit h = tt {0}
+strayed_after less most had d Misfit old mid new more w changed fit h =
+    (d ∷ h.0, h.1, h.2, (mid, w, h.3), (changed, fit, h.4), h.5, h.6)
+strayed_after less most had d Unsettled old mid new more w changed fit h =
+    (d ∷ h.0, h.1, (mid, w, h.2), (changed, fit, h.3), omega (arith, h.4, more))
+strayed_after less most had d NoMemory old mid new more w changed fit h = tt {0}
 
 -- what settles after a first download settled anew
 pub settled_anew : (service : List ℕ) (d : Download) (facts : Facts) (result : Result Facts FollowFault) (old mid new : Far)
