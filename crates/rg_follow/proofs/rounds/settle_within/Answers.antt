@@ -4,7 +4,7 @@ use Rattle.rg_follow.proofs.Moving.{asked_more, moves_more, settles_there, stray
 use Rattle.rg_follow.proofs.rounds.settle_within.Goals as goal
 
 pub loop-left-init : goal.loop-left-init
-loop-left-init g c = ([], refl, refl, refl)
+loop-left-init g c = ([], refl, refl, omega arith)
 
 pub returns-then-is_unchanged-clause-settled : goal.returns-then-is_unchanged-clause-settled
 returns-then-is_unchanged-clause-settled g c =
