@@ -22,7 +22,7 @@ returns-in-Ok-settle_within-clause-settled g c =
     settled_after c.args.had.now c.in-Ok-take.facts c.in-Ok-settle_within.after c.in-Ok.download
     c.args.remote.now c.ask.new.remote c.settle_within.new.remote
     (has_moved c.args.had.now c.in-Ok-facts.facts c.in-Ok-take.facts c.in-Ok.download _ c.args.remote.now c.ask.new.remote
-        c.known_to.ensures c.in-Ok.ensures (sym c.is_unchanged.ensures ∙ c.if-is_unchanged.false) c.in-Ok-facts.ensures.copied c.in-Ok-take.ensures.taken)
+    c.known_to.ensures c.in-Ok.ensures (sym c.is_unchanged.ensures ∙ c.if-is_unchanged.false) c.in-Ok-facts.ensures.copied c.in-Ok-take.ensures.taken)
     c.in-Ok-settle_within.ensures.settled
 
 pub returns-in-Err-settle_within-clause-strayed : goal.returns-in-Err-settle_within-clause-strayed
@@ -30,5 +30,5 @@ returns-in-Err-settle_within-clause-strayed g c =
     strayed_after 8 9 c.args.had.now c.in-Ok-take.facts c.in-Ok.download c.in-Err-settle_within.fault
     c.args.remote.now c.ask.new.remote c.settle_within.new.remote refl
     (has_moved c.args.had.now c.in-Ok-facts.facts c.in-Ok-take.facts c.in-Ok.download _ c.args.remote.now c.ask.new.remote
-        c.known_to.ensures c.in-Ok.ensures (sym c.is_unchanged.ensures ∙ c.if-is_unchanged.false) c.in-Ok-facts.ensures.copied c.in-Ok-take.ensures.taken)
+    c.known_to.ensures c.in-Ok.ensures (sym c.is_unchanged.ensures ∙ c.if-is_unchanged.false) c.in-Ok-facts.ensures.copied c.in-Ok-take.ensures.taken)
     c.in-Err-settle_within.ensures.strayed
