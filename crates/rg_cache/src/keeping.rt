@@ -6,7 +6,7 @@ ghost use Rattle.rg_cache.specs.Places.{Holds};
 ghost use Rattle.rg_cache.specs.Recalling.{IsRecalled, IsUnread};
 
 use crate::cache::Cache;
-use crate::fault::{CacheFault, KeptFault};
+use crate::fault::{CacheFault, KeptFault, LoadFault};
 use crate::kept::{print_kept, read_kept};
 use rg_base::{Failed, NoMemory};
 use rg_facts::Facts;
@@ -35,7 +35,8 @@ pub fn recall<K: Cache>(alloc: Global, cache: &mut K) -> Result<Option<Facts>, C
     let bytes = match cache.load(alloc) {
         Ok(None) => return Ok(None),
         Ok(Some(bytes)) => bytes,
-        Err(fault) => return Err(fault),
+        Err(LoadFault::Failed) => return Err(CacheFault::Failed),
+        Err(LoadFault::NoMemory) => return Err(CacheFault::NoMemory),
     };
     match read_kept(alloc, bytes.as_slice()) {
         Ok(facts) => Ok(Some(facts)),
