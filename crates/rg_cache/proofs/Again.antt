@@ -1,5 +1,5 @@
 -- What is kept of facts is read again.
-use Rattle.std.proofs.Common.{◌≡◌, List, ℕ, true, cond, Ok, Err, ap, ◌∙◌}
+use Rattle.std.proofs.Common.{◌≡◌, true, cond, Ok, Err, ap, ◌∙◌}
 use Rattle.rg_facts.specs.declared.facts.Facts.{Facts}
 use Rattle.rg_facts.specs.Sound.{sound}
 use Rattle.rg_json.specs.Reading.{reading}

@@ -1,5 +1,5 @@
 -- The line that bytes end with.
-use Rattle.std.proofs.Common.{◌≡◌, ◌==◌, ℕ, Bool, true, false, cond, List, [], ◌∷◌, ◌++◌, length, arith, Option, Some, None, refl, ap, ◌∙◌}
+use Rattle.std.proofs.Common.{◌≡◌, ◌==◌, ℕ, Bool, true, false, cond, List, [], ◌∷◌, ◌++◌, length, arith, Some, None, refl, ap, ◌∙◌}
 use Rattle.rg_cache.specs.Kept.{behind, line_of}
 
 behind_test : (b : ℕ) (xs : List ℕ) (is_end : Bool) → behind b (cond is_end (Some xs) None) ≡ cond is_end (Some (b ∷ xs)) None
