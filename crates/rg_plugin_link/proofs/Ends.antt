@@ -39,6 +39,13 @@ going_start plugin a wire = record {
   audited = audited_none plugin a.sinks a.sinks refl;
 }
 
+pub nothing_written : (before after : Option (List ℕ)) → after ≡ before → Wrote before after []
+nothing_written before after e = subst (λ k. Wrote before k []) (sym e) (wrote_none before)
+
+-- there was no bad place, and nothing was written
+pub off_at_once : (bytes : List ℕ) (before after : Option (List ℕ)) → after ≡ before → BreaksOff bytes before after
+off_at_once bytes before after e = ([], [], inl refl, nothing_written before after e, begins_refl [])
+
 -- behind these exchanges comes none
 by_itself : (P : List Exchange → Type 0) (xs : List Exchange) → P xs → P (xs ++ [])
 by_itself P xs x = subst P (sym (append-nil xs)) x
@@ -216,4 +223,4 @@ module _ (plugin : List ℕ) (a b : Decider) (old mid : Wire) (kept : List ℕ) 
   broken_unserved c new more rest m r h u = elim (u.1) [ inl x ↦ broken_unanswered c new more r x.0 x.1 u.0 | inr x ↦ broken_within c new more rest m x.0 x.1 r h x.2 x.3 x.4 u.0 ]
 
 pub never_began : (plugin : List ℕ) (law : Law) (a : Decider) (wire : Wire) → Broken plugin a a wire wire
-never_began plugin law a wire = broken_off plugin a a wire wire [] 0 (going_start plugin a wire) law wire [] (read_none wire.left) ([], [], inl refl, wrote_none wire.held, begins_refl [])
+never_began plugin law a wire = broken_off plugin a a wire wire [] 0 (going_start plugin a wire) law wire [] (read_none wire.left) (off_at_once [] wire.held wire.held refl)
