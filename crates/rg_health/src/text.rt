@@ -86,7 +86,7 @@ fn health_json(alloc: Global, health: Health) -> Result<Value, NoMemory>
 
 /// A JSON object: `fault` (a word, or null), `policyVersion`, `roleVersion`, `serial`, `settledSecondsAgo` (a number, or null) and
 /// `tagVersion`.
-#[tactic(auto, unfolding(crate::specs::Health::health_text))]
+#[tactic(auto, using(crate::proofs::Plain::healths), unfolding(crate::specs::Health::health_text))]
 pub fn print_health(alloc: Global, health: Health) -> Result<Text, NoMemory>
     ensures { IfOk result (λ t. encode_utf8_all t ≡ health_text health) }
 {
