@@ -14,12 +14,6 @@ use Rattle.rg_cache.specs.declared.fault.KeptFault.TheVariants.{Cut, Unread, Uns
 abbrev pub kept_text : Facts → List ℕ
 kept_text facts = facts_text facts ++ 10 ∷ []
 
--- the bytes before the LF at their end; None where there is none
-abbrev pub line_of : List ℕ → Option (List ℕ)
-line_of [] = None
-line_of (b ∷ []) = end_of b
-line_of (b ∷ c ∷ bytes) = behind b (line_of (c ∷ bytes))
-
 -- one byte alone: the LF ends a line of no bytes
 abbrev pub end_of : ℕ → Option (List ℕ)
 end_of b = if b == 10 then Some [] else None
@@ -27,6 +21,12 @@ end_of b = if b == 10 then Some [] else None
 abbrev pub behind : ℕ → Option (List ℕ) → Option (List ℕ)
 behind b None = None
 behind b (Some line) = Some (b ∷ line)
+
+-- the bytes before the LF at their end; None where there is none
+abbrev pub line_of : List ℕ → Option (List ℕ)
+line_of [] = None
+line_of (b ∷ []) = end_of b
+line_of (b ∷ c ∷ bytes) = behind b (line_of (c ∷ bytes))
 
 -- facts that break no rule
 abbrev pub sound_facts : Facts → Result Facts KeptFault

@@ -1,5 +1,5 @@
 -- What a place of a cache holds, where it tells it.
-use Rattle.std.specs.Prelude.{◌≡◌, ◌⊎◌, ℕ, List, Option, Some, None}
+use Rattle.std.specs.Prelude.{◌≡◌, ℕ, List, Option, Some, None}
 
 -- nothing, or the bytes that were stored last; None where the place doesn't tell it
 abbrev pub Held : Type 0

@@ -1,5 +1,5 @@
 -- What is had again from a cache that tells what it holds.
-use Rattle.std.specs.Prelude.{◌≡◌, ◌≢◌, ℕ, List, Option, Some, None, Ok, Err}
+use Rattle.std.specs.Prelude.{◌≡◌, ℕ, List, Option, Some, None, Ok, Err}
 use Rattle.rg_facts.specs.declared.facts.Facts.{Facts}
 use Rattle.rg_cache.specs.declared.fault.CacheFault.{CacheFault}
 use Rattle.rg_cache.specs.declared.fault.CacheFault.TheVariants.{Failed, Kept, NoMemory}

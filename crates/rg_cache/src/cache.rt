@@ -2,7 +2,7 @@
 ghost use Rattle.std.specs.Prelude.{◌≡◌, ◌⊎◌, List, ℕ, IfOk, OnOk, OnErr, option_map};
 ghost use Rattle.rg_cache.specs.Places.{Held, Holds, IsHeld};
 
-use crate::fault::CacheFault;
+use crate::fault::LoadFault;
 use rg_base::{Failed, Seq};
 use std::alloc::Global;
 
@@ -12,7 +12,7 @@ pub trait Cache {
     ghost held: { Self → Held };
 
     /// The bytes that it holds; None where nothing was stored yet.
-    fn load(&mut self, alloc: Global) -> Result<Option<Seq<u8>>, CacheFault>
+    fn load(&mut self, alloc: Global) -> Result<Option<Seq<u8>>, LoadFault>
         ensures loaded { IfOk result (λ bytes. IsHeld (held self.old) (option_map (λ b. b.items) bytes)) }
         ensures same { held self.new ≡ held self.old };
 

@@ -1,6 +1,15 @@
-// Why nothing is had from a cache.
+// Why nothing is had from a cache, or put into it.
 use rg_base::{Failed, NoMemory};
 use thiserror::Error;
+
+/// Why a place gave no bytes.
+#[derive(Clone, Copy, Debug, PartialEq, Eq, Error)]
+pub enum LoadFault {
+    #[error("the place failed")]
+    Failed,
+    #[error("memory was refused")]
+    NoMemory,
+}
 
 /// What is wrong with the bytes of a cache.
 #[derive(Clone, Copy, Debug, PartialEq, Eq, Error)]

@@ -2,7 +2,7 @@
 ghost use Rattle.std.specs.Prelude.{◌≡◌};
 
 use crate::cache::Cache;
-use crate::fault::CacheFault;
+use crate::fault::LoadFault;
 use rg_base::{Failed, NoMemory, Seq};
 use std::alloc::Global;
 use std::fs::{File, Files, OpenFile, rename};
@@ -56,12 +56,12 @@ impl<'f, 'p, R: Files> Cache for FileCache<'f, 'p, R> {
 
     ghost held = { λ c. None };
 
-    fn load(&mut self, alloc: Global) -> Result<Option<Seq<u8>>, CacheFault> {
+    fn load(&mut self, alloc: Global) -> Result<Option<Seq<u8>>, LoadFault> {
         match self.read(alloc) {
             Ok(bytes) => Ok(Some(Seq::from_vec(bytes))),
             Err(error) if error.kind() == ErrorKind::NotFound => Ok(None),
-            Err(error) if error.kind() == ErrorKind::OutOfMemory => Err(CacheFault::NoMemory),
-            Err(_) => Err(CacheFault::Failed),
+            Err(error) if error.kind() == ErrorKind::OutOfMemory => Err(LoadFault::NoMemory),
+            Err(_) => Err(LoadFault::Failed),
         }
     }
 

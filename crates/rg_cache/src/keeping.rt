@@ -1,21 +1,23 @@
 // Facts kept in a cache, and had again.
-ghost use Rattle.std.specs.Prelude.{◌≡◌, ◌≢◌, ◌⊎◌, IfOk, IfErr, IfSome, OnOk, OnErr, Ok, Err, true};
-ghost use Rattle.rg_facts.specs.declared.facts.Facts.{Facts};
+ghost use Rattle.std.specs.Prelude.{◌≡◌, ◌⊎◌, IfOk, IfErr, IfSome, OnOk, OnErr, Ok, true};
 ghost use Rattle.rg_facts.specs.Sound.{sound};
-ghost use Rattle.rg_cache.specs.Kept.{kept_text};
+ghost use Rattle.rg_download_wire.specs.InOrder.{AreFacts};
+ghost use Rattle.rg_cache.specs.Kept.{kept_in, kept_text};
 ghost use Rattle.rg_cache.specs.Places.{Holds};
 ghost use Rattle.rg_cache.specs.Recalling.{IsRecalled, IsUnread};
 
 use crate::cache::Cache;
-use crate::fault::{CacheFault, KeptFault};
+use crate::fault::{CacheFault, KeptFault, LoadFault};
 use crate::kept::{print_kept, read_kept};
 use rg_base::{Failed, NoMemory};
 use rg_facts::Facts;
 use std::alloc::Global;
 
-/// Keeps these facts in place of those that are kept. After a fault the old ones are kept, or these.
+/// Keeps these facts in place of those that are kept. Facts in key order that break no rule are had again as themselves. After a
+/// fault the old ones are kept, or these.
 pub fn keep<K: Cache>(alloc: Global, cache: &mut K, facts: &Facts) -> Result<(), CacheFault>
     ensures kept { OnOk result (Holds (K.held cache.old) (K.held cache.new) (kept_text facts.now)) }
+    ensures again { OnOk result (AreFacts facts.now → sound facts.now ≡ true → kept_in (kept_text facts.now) ≡ Ok facts.now) }
     ensures fault { OnErr result ((K.held cache.new ≡ K.held cache.old) ⊎ Holds (K.held cache.old) (K.held cache.new) (kept_text facts.now)) }
 {
     let Ok(text) = print_kept(alloc, facts) else {
@@ -37,7 +39,8 @@ pub fn recall<K: Cache>(alloc: Global, cache: &mut K) -> Result<Option<Facts>, C
     let bytes = match cache.load(alloc) {
         Ok(None) => return Ok(None),
         Ok(Some(bytes)) => bytes,
-        Err(fault) => return Err(fault),
+        Err(LoadFault::Failed) => return Err(CacheFault::Failed),
+        Err(LoadFault::NoMemory) => return Err(CacheFault::NoMemory),
     };
     match read_kept(alloc, bytes.as_slice()) {
         Ok(facts) => Ok(Some(facts)),

@@ -26,11 +26,12 @@ pub fn print_kept(alloc: Global, facts: &Facts) -> Result<String, NoMemory>
 }
 
 /// The bytes before the LF at the end.
+#[tactic(auto, using(crate::proofs::Lines::lines))]
 fn line_of(bytes: &[u8]) -> Option<&[u8]>
     ensures { option_map (λ line. line.now) result ≡ line_of bytes.now }
 {
-    match bytes {
-        [line @ .., b'\n'] => Some(line),
+    match bytes.split_last() {
+        Some((b'\n', line)) => Some(line),
         _ => None,
     }
 }

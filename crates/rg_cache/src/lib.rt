@@ -9,7 +9,7 @@ mod kept;
 mod memory;
 
 pub use cache::Cache;
-pub use fault::{CacheFault, KeptFault};
+pub use fault::{CacheFault, KeptFault, LoadFault};
 pub use file::FileCache;
 pub use keeping::{keep, recall};
 pub use kept::{print_kept, read_kept};

@@ -2,7 +2,7 @@
 ghost use Rattle.std.specs.Prelude.{◌≡◌, None, option_map};
 
 use crate::cache::Cache;
-use crate::fault::CacheFault;
+use crate::fault::LoadFault;
 use rg_base::{Failed, Seq};
 use std::alloc::Global;
 use std::marker::Model;
@@ -36,12 +36,12 @@ impl Cache for MemCache {
 
     ghost held = { λ c. Some c };
 
-    fn load(&mut self, alloc: Global) -> Result<Option<Seq<u8>>, CacheFault> {
+    fn load(&mut self, alloc: Global) -> Result<Option<Seq<u8>>, LoadFault> {
         match &self.bytes {
             None => Ok(None),
             Some(bytes) => match Vec::from_slice(alloc, bytes.as_slice()) {
                 Ok(copy) => Ok(Some(Seq::from_vec(copy))),
-                Err(_) => Err(CacheFault::NoMemory),
+                Err(_) => Err(LoadFault::NoMemory),
             },
         }
     }
