@@ -1,5 +1,5 @@
--- How one more download joins those before it.
-use Rattle.std.proofs.Common.{◌≡◌, ◌≢◌, ℕ, List, [], ◌∷◌, ◌++◌, true, false, Some, Result, Ok, Err, IfOk, IfErr, inr, refl, sym, ap, ◌∙◌, subst}
+-- How one more download joins those before it, or those after it.
+use Rattle.std.proofs.Common.{◌≡◌, ◌≢◌, ◌+◌, ℕ, List, [], ◌∷◌, ◌++◌, true, false, Some, Result, Ok, Err, IfOk, IfErr, inr, refl, sym, ap, ◌∙◌, subst, arith}
 use Rattle.rg_facts.specs.declared.facts.Facts.{Facts}
 use Rattle.rg_cmd.specs.declared.download.Download.{Download}
 use Rattle.rg_admin_laws.specs.Downloads.{From}
@@ -45,6 +45,64 @@ strays most had at ds d (Ask fault) old new a m changed fit other = tt {0}
 strays most had at ds d Misfit old new a m changed fit other = (ds, d, at, a, m, changed, fit refl)
 strays most had at ds d Unsettled old new a m changed fit other = absurd (other refl)
 strays most had at ds d NoMemory old new a m changed fit other = tt {0}
+
+-- the download that was asked for from these facts changed something, fits, and leads to these others
+pub record HasMoved (had at : Facts) (d : Download) (old new : Far) : Type 0 where
+  pub asked : WasAsked (from_of had) d old new
+  pub changed : is_unchanged d ≡ false
+  pub fit : fits had d ≡ true
+  pub leads : at ≡ led had d
+
+-- where it was taken by a copy of the facts
+pub has_moved : (had copy at : Facts) (d : Download) (from : From) (old new : Far) → from ≡ from_of had → WasAsked from d old new
+    → is_unchanged d ≡ false → copy ≡ had → (at ≡ led copy d) × (fits copy d ≡ true)
+    → HasMoved had at d old new
+has_moved had copy at d from old new e w changed same taken = record {
+  asked = subst (λ f. WasAsked f d old new) e w;
+  changed = changed;
+  fit = subst (λ f. fits f d ≡ true) same taken.1;
+  leads = taken.0 ∙ ap (λ f. led f d) same;
+}
+
+-- no round settles by no download
+settles_after : (had after : Facts) (d : Download) (ds : List Download) → is_unchanged d ≡ false → fits had d ≡ true
+    → Settles (led had d) ds after
+    → Settles had (d ∷ ds) after
+settles_after had after d [] changed fit s = absurd s
+settles_after had after d (e ∷ ds) changed fit s = (changed, fit, s)
+
+settled_from_led : (had after : Facts) (d : Download) (old mid new : Far)
+    → WasAsked (from_of had) d old mid → is_unchanged d ≡ false → fits had d ≡ true
+    → HasSettled (led had d) after mid new
+    → HasSettled had after old new
+settled_from_led had after d old mid new w changed fit h = (d ∷ h.0, (mid, w, h.1), settles_after had after d h.0 changed fit h.2)
+
+-- what settled after a first download settled
+pub settled_after : (had at after : Facts) (d : Download) (old mid new : Far) → HasMoved had at d old mid
+    → HasSettled at after mid new
+    → HasSettled had after old new
+settled_after had at after d old mid new first h =
+    settled_from_led had after d old mid new first.asked first.changed first.fit (subst (λ f. HasSettled f after mid new) first.leads h)
+
+strayed_from_led : (less most : ℕ) (had : Facts) (d : Download) (fault : FollowFault) (old mid new : Far) → less + 1 ≡ most
+    → WasAsked (from_of had) d old mid → is_unchanged d ≡ false → fits had d ≡ true
+    → Strays less (led had d) fault mid new
+    → Strays most had fault old new
+strayed_from_led less most had d (Ask fault) old mid new more w changed fit h = tt {0}
+strayed_from_led less most had d Misfit old mid new more w changed fit h =
+    (d ∷ h.0, h.1, h.2, (mid, w, h.3), (changed, fit, h.4), h.5, h.6)
+strayed_from_led less most had d Unsettled old mid new more w changed fit h =
+    (d ∷ h.0, h.1, (mid, w, h.2), (changed, fit, h.3), omega (arith, h.4, more))
+strayed_from_led less most had d NoMemory old mid new more w changed fit h = tt {0}
+
+-- what strayed after a first download strayed, of one more at most
+pub strayed_after : (less most : ℕ) (had at : Facts) (d : Download) (fault : FollowFault) (old mid new : Far) → less + 1 ≡ most
+    → HasMoved had at d old mid
+    → Strays less at fault mid new
+    → Strays most had fault old new
+strayed_after less most had at d fault old mid new more first h =
+    strayed_from_led less most had d fault old mid new more first.asked first.changed first.fit
+    (subst (λ f. Strays less f fault mid new) first.leads h)
 
 -- what settles after a first download settled anew
 pub settled_anew : (service : List ℕ) (d : Download) (facts : Facts) (result : Result Facts FollowFault) (old mid new : Far)

@@ -1,10 +1,10 @@
 use Rattle.std.proofs.Common.{[], ◌∷◌, ◌++◌, refl, sym, ◌∙◌, subst, arith, length-append}
 use Rattle.rg_follow.specs.Following.{Moves}
 use Rattle.rg_follow.proofs.Moving.{asked_more, moves_more, settles_there, strays}
-use Rattle.rg_follow.proofs.rounds.settle.Goals as goal
+use Rattle.rg_follow.proofs.rounds.settle_within.Goals as goal
 
 pub loop-left-init : goal.loop-left-init
-loop-left-init g c = ([], refl, refl, refl)
+loop-left-init g c = ([], refl, refl, omega arith)
 
 pub returns-then-is_unchanged-clause-settled : goal.returns-then-is_unchanged-clause-settled
 returns-then-is_unchanged-clause-settled g c =
