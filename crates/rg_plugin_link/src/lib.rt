@@ -2,6 +2,7 @@
 #![tactic(auto)]
 
 mod asks;
+mod coming;
 mod link;
 mod message;
 mod standing;

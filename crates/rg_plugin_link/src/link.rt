@@ -6,11 +6,12 @@ ghost use Rattle.rg_link.specs.Sessions.{Counts, wire};
 ghost use Rattle.rg_plugin_link.specs.Exchanges.{decider_of};
 ghost use Rattle.rg_plugin_link.specs.Sessions.{Broken, Served};
 
+use crate::coming::{Coming, next_message};
 use crate::message::serve_one;
 use crate::standing::Standing;
 use rg_hook::RequestHooks;
-use rg_http::{End, Framer, Next, judged_stays_judged};
-use rg_link::{LinkFault, Report, refuse};
+use rg_http::{End, Framer, judged_stays_judged};
+use rg_link::{LinkFault, Report};
 use rg_ports::{Clock, Gate, Link};
 use rg_publish::Pass;
 use rg_rest::Router;
@@ -65,33 +66,10 @@ impl<'g, 's, 'p, G: Gate, S: Standing> Desk<'g, 's, 'p, G, S> {
         };
         let mut messages: u32 = 0;
         while messages < MESSAGE_LIMIT {
-            let next = match framer.next(self.alloc, link) {
-                Ok(next) => next,
-                Err(fault) => return Err(LinkFault::from(fault)),
-            };
-            let message = match next {
-                Next::Message(message) => message,
-                Next::Ended => {
-                    return Ok(Report {
-                        end: End::Ended,
-                        messages,
-                    });
-                }
-                Next::Cut => {
-                    return Ok(Report {
-                        end: End::Cut,
-                        messages,
-                    });
-                }
-                Next::Bad(status) => {
-                    return match refuse(self.alloc, link, status) {
-                        Ok(()) => Ok(Report {
-                            end: End::Bad(status),
-                            messages,
-                        }),
-                        Err(fault) => Err(fault),
-                    };
-                }
+            let message = match next_message(self.alloc, &mut framer, link) {
+                Ok(Coming::Message(message)) => message,
+                Ok(Coming::Over(end)) => return Ok(Report { end, messages }),
+                Err(fault) => return Err(fault),
             };
             match serve_one(self, &router, link, pass, clock, hooks, &message) {
                 Ok(()) => {}
