@@ -1,5 +1,5 @@
 -- What one message leads to.
-use Rattle.std.proofs.Common.{◌≡◌, ◌≤◌, ◌⊎◌, ℕ, List, [], ◌∷◌, length, Option, Bool, true, false, refl, sym, ap, subst, arith, inl, inr}
+use Rattle.std.proofs.Common.{◌≡◌, ◌⊎◌, ℕ, List, [], ◌∷◌, Option, Bool, true, false, refl, sym, ap, subst, arith, inl, inr}
 use Rattle.std.specs.Prelude.{MatchBool}
 use mathlib.Core.List.{IsPrefix}
 use Rattle.rg_base.specs.declared.numbers.Moment.{Moment}
@@ -19,7 +19,7 @@ use Rattle.rg_rest.specs.Responses.{decision_response}
 use Rattle.rg_rest.specs.Routes.{call_of}
 use Rattle.rg_health.specs.declared.health.Health.{Health}
 use Rattle.rg_health.specs.Health.{health_text}
-use Rattle.rg_link.specs.Audits.{AreAudited, Decided, IsDecided}
+use Rattle.rg_link.specs.Audits.{AreAudited, Decided}
 use Rattle.rg_link.specs.Loop.{IsJudged, IsUnjudged}
 use Rattle.rg_link.proofs.Steps.{audited_none, begins_refl, prefix_length, told_one}
 use Rattle.rg_plugin_link.specs.Asks.{asks_health}

@@ -1,5 +1,5 @@
 -- What a message asks of a plugin. To be read first.
-use Rattle.std.specs.Prelude.{ℕ, ◌&&◌, Bool, List, bytes_eq, codes}
+use Rattle.std.specs.Prelude.{◌&&◌, Bool, bytes_eq, codes}
 use Rattle.std.specs.Str.{encode_utf8_all}
 use Rattle.rg_http.specs.declared.message.Message.{Message}
 

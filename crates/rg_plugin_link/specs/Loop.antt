@@ -1,5 +1,5 @@
 -- One message of a session, and where its loop stands. Only proofs and the functions below the session need it.
-use Rattle.std.specs.Prelude.{◌≡◌, ◌⊎◌, ℕ, List, [], ◌∷◌, ◌++◌, length, true, false, Option}
+use Rattle.std.specs.Prelude.{◌≡◌, ◌⊎◌, ℕ, List, [], ◌∷◌, length, true, false, Option}
 use mathlib.Core.List.{IsPrefix}
 use Rattle.rg_base.specs.declared.numbers.Moment.{Moment}
 use Rattle.http.specs.StatusCode.{IsStatusCode}

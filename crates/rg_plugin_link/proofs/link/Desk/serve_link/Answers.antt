@@ -38,7 +38,7 @@ next_message-requires-after_bounds g c = λ κs h. c.loop-messages.invariant.liv
 pub returns-in-Ok-Over-clause-served : goal.returns-in-Ok-Over-clause-served
 returns-in-Ok-Over-clause-served g c =
     let x = rw c.in-Ok-Over.field-0-is at c.in-Ok-Over.ensures.comes in
-    served_over _ _ _ _ _ _ _ c.loop-messages.invariant.going c.judged_stays_judged.ensures.message _ x.0 c.in-Ok-Over.end x.1 x.2 x.3 x.4 c.loop-messages-test.true
+    served_over _ _ _ _ _ _ _ c.loop-messages.invariant.going c.judged_stays_judged.ensures.message _ x.0 c.in-Ok-Over.end x.1 x.2.0 x.2.1 x.2.2 c.loop-messages-test.true
 
 pub returns-in-Ok-Over-clause-same : goal.returns-in-Ok-Over-clause-same
 returns-in-Ok-Over-clause-same g c = let l = c.loop-messages.invariant.going.leads in (l.publisher, l.list)
@@ -62,8 +62,8 @@ returns-in-Err-serve_one-clause-broken g c =
     let n = c.serve_one.new in
     let a = decider_of l.pass (g.C.Clock.given l.clock) (g.H.RequestHooks.sinks l.hooks) (g.H.RequestHooks.enrichers l.hooks) in
     let b = decider_of n.pass (g.C.Clock.given n.clock) (g.H.RequestHooks.sinks n.hooks) (g.H.RequestHooks.enrichers n.hooks) in
-    let u = subst (λ k. Unserved (chars c.args.self.now.plugin.now) a b k (g.T.Link.held n.link) c.in-Ok-Message.message) x.4 c.in-Err-serve_one.ensures.unserved in
-    broken_unserved _ _ _ _ _ _ _ l.invariant.going c.judged_stays_judged.ensures.message b _ x.0 _ c.in-Ok-Message.message r x.2 u
+    let u = subst (λ k. Unserved (chars c.args.self.now.plugin.now) a b k (g.T.Link.held n.link) c.in-Ok-Message.message) x.2.2 c.in-Err-serve_one.ensures.unserved in
+    broken_unserved _ _ _ _ _ _ _ l.invariant.going c.judged_stays_judged.ensures.message b _ x.0 _ c.in-Ok-Message.message r x.2.0 u
 
 pub returns-in-Err-serve_one-clause-same : goal.returns-in-Err-serve_one-clause-same
 returns-in-Err-serve_one-clause-same g c = let l = (returns-in-Err-serve_one-clause-broken g c).leads in (l.publisher, l.list)
@@ -76,8 +76,8 @@ returns-then-message-clause-served g c =
     let n = c.serve_one.new in
     let a = decider_of l.pass (g.C.Clock.given l.clock) (g.H.RequestHooks.sinks l.hooks) (g.H.RequestHooks.enrichers l.hooks) in
     let b = decider_of n.pass (g.C.Clock.given n.clock) (g.H.RequestHooks.sinks n.hooks) (g.H.RequestHooks.enrichers n.hooks) in
-    let s = subst (λ k. IsServed (chars c.args.self.now.plugin.now) a b k (g.T.Link.held n.link) c.in-Ok-Message.message) x.4 c.in-Ok-serve_one.ensures.served in
-    served_close _ _ _ _ _ _ _ l.invariant.going c.judged_stays_judged.ensures.message b _ x.0 _ c.in-Ok-Message.message r x.2 s c.if-message.true c.loop-messages-test.true
+    let s = subst (λ k. IsServed (chars c.args.self.now.plugin.now) a b k (g.T.Link.held n.link) c.in-Ok-Message.message) x.2.2 c.in-Ok-serve_one.ensures.served in
+    served_close _ _ _ _ _ _ _ l.invariant.going c.judged_stays_judged.ensures.message b _ x.0 _ c.in-Ok-Message.message r x.2.0 s c.if-message.true c.loop-messages-test.true
 
 pub returns-then-message-clause-same : goal.returns-then-message-clause-same
 returns-then-message-clause-same g c = let l = (returns-then-message-clause-served g c).leads in (l.publisher, l.list)
@@ -90,12 +90,12 @@ loop-messages-preserved g c =
     let n = c.serve_one.new in
     let a = decider_of l.pass (g.C.Clock.given l.clock) (g.H.RequestHooks.sinks l.hooks) (g.H.RequestHooks.enrichers l.hooks) in
     let b = decider_of n.pass (g.C.Clock.given n.clock) (g.H.RequestHooks.sinks n.hooks) (g.H.RequestHooks.enrichers n.hooks) in
-    let s = subst (λ k. IsServed (chars c.args.self.now.plugin.now) a b k (g.T.Link.held n.link) c.in-Ok-Message.message) x.4 c.in-Ok-serve_one.ensures.served in
+    let s = subst (λ k. IsServed (chars c.args.self.now.plugin.now) a b k (g.T.Link.held n.link) c.in-Ok-Message.message) x.2.2 c.in-Ok-serve_one.ensures.served in
     record {
-      live = x.3;
+      live = x.2.1;
       faults = c.in-Ok-serve_one.ensures.faults ∙ c.in-Ok-Message.ensures.faults ∙ l.invariant.faults;
       within = omega (arith, c.loop-messages-test.true);
-      going = going_more _ _ _ _ _ _ _ l.invariant.going c.judged_stays_judged.ensures.message b _ x.0 _ c.in-Ok-Message.message r x.2 s c.if-message.false;
+      going = going_more _ _ _ _ _ _ _ l.invariant.going c.judged_stays_judged.ensures.message b _ x.0 _ c.in-Ok-Message.message r x.2.0 s c.if-message.false;
     }
 
 pub returns-clause-served : goal.returns-clause-served
