@@ -27,9 +27,9 @@ pub struct Worker<H: Drop> {
     pub hooks: H,
 }
 
-/// What a plugin asks for.
-#[derive(Clone, Copy)]
-pub struct Post<'s, 'h, 'u> {
+/// What a plugin asks for, and where.
+pub struct Post<'a, 's, 'h, 'u, A> {
+    pub administration: &'a A,
     pub service: &'s str,
     /// The administration, as its links are addressed.
     pub host: &'h str,
@@ -37,6 +37,14 @@ pub struct Post<'s, 'h, 'u> {
     pub user: &'u str,
     /// How long it waits between two rounds.
     pub pause: Duration,
+}
+
+/// A plugin as it begins.
+#[derive(Drop)]
+pub struct Start<K: Cache + Drop, Q: Wait + Drop> {
+    pub plugin: Plugin<K, Q>,
+    /// When its facts were downloaded; None where they were kept from before the start.
+    pub settled: Option<Moment>,
 }
 
 // Serves links, one after another, until none is to come.
@@ -68,15 +76,11 @@ fn accept<N: Listener, R: Wait>(rt: &R, net: &Mutex<&mut N>) -> Result<Option<N:
 }
 
 // The administration over a link of its own.
-fn reach<A: Administration>(
-    alloc: Global,
-    post: Post,
-    administration: &A,
-) -> Result<Remote<A::Link>, Cause> {
+fn reach<A: Administration>(alloc: Global, post: &Post<A>) -> Result<Remote<A::Link>, Cause> {
     let host = copy(alloc, post.host)?;
     let user = copy(alloc, post.user)?;
     let service = copy(alloc, post.service)?;
-    let Ok(link) = administration.connect() else {
+    let Ok(link) = post.administration.connect() else {
         return Err(Cause::Connection);
     };
     match Remote::new(alloc, link, host, user, service) {
@@ -95,11 +99,10 @@ fn copy(alloc: Global, text: &str) -> Result<Text, Cause> {
 // One round. What is published is kept.
 fn renew<A: Administration, K: Cache + Drop, Q: Wait + Drop>(
     alloc: Global,
-    post: Post,
-    administration: &A,
+    post: &Post<A>,
     plugin: &mut Plugin<K, Q>,
 ) -> Option<Cause> {
-    let mut remote = match reach(alloc, post, administration) {
+    let mut remote = match reach(alloc, post) {
         Ok(remote) => remote,
         Err(cause) => return Some(cause),
     };
@@ -139,8 +142,7 @@ fn follow_rounds<
 >(
     rt: &R,
     alloc: Global,
-    post: Post,
-    administration: &A,
+    post: &Post<A>,
     plugin: &Mutex<Plugin<K, Q>>,
     clock: &Mutex<&mut C>,
     board: &Board,
@@ -152,7 +154,7 @@ fn follow_rounds<
         if *is_over.lock(rt) {
             break;
         }
-        let fault = renew(alloc, post, administration, &mut *plugin);
+        let fault = renew(alloc, post, &mut *plugin);
         board.tell(rt, &*plugin, fault, moment(rt, clock));
     }
 }
@@ -170,14 +172,13 @@ pub fn run<
 >(
     rt: &R,
     alloc: Global,
-    post: Post,
-    administration: &A,
-    plugin: Plugin<K, Q>,
+    post: &Post<A>,
+    start: Start<K, Q>,
     workers: &[Mutex<Worker<H>>],
     net: &mut N,
     clock: &mut C,
-    settled: Option<Moment>,
 ) {
+    let Start { plugin, settled } = start;
     let board = Board::new(&plugin, settled);
     let plugin = Mutex::new(plugin);
     let net = Mutex::new(net);
@@ -188,18 +189,18 @@ pub fn run<
     let net = &net;
     let clock = &clock;
     let is_over = &is_over;
+    let service = post.service;
     thread::scope(thread::scope_env(), rt, move |scope| {
         let _started = scope.spawn(move || follow_rounds(
             rt,
             alloc,
             post,
-            administration,
             plugin,
             clock,
             board,
             is_over,
         ));
-        with_workers(rt, alloc, post, workers, net, clock, board);
+        with_workers(rt, alloc, service, workers, net, clock, board);
         *is_over.lock(rt) = true;
     });
 }
@@ -213,7 +214,7 @@ fn with_workers<
 >(
     rt: &R,
     alloc: Global,
-    post: Post,
+    service: &str,
     workers: &[Mutex<Worker<H>>],
     net: &Mutex<&mut N>,
     clock: &Mutex<&mut C>,
@@ -227,7 +228,7 @@ fn with_workers<
                     alloc,
                     gate: &FreeGate,
                     standing: &standing,
-                    plugin: post.service,
+                    plugin: service,
                     worker: number as u32,
                 };
                 serve_links(rt, &desk, net, clock, worker);

@@ -13,7 +13,7 @@ use rg_facts::Facts;
 use rg_facts_check::facts_fault;
 use rg_follow::begin;
 use rg_hook::{AuditFan, AuditSink, Enrichers, WorkerHooks};
-use rg_plugin::{Administration, Plugin, Post, TcpAdministration, Worker, run};
+use rg_plugin::{Administration, Plugin, Post, Start, TcpAdministration, Worker, run};
 use rg_ports::{Clock, Link, Listener, TcpNet, WallClock};
 use rg_publish::Pass;
 use rg_remote::Remote;
@@ -207,21 +207,21 @@ fn serve<R: Threads + Wait + Sync + rt::Clock>(
         return Err(Status::NetFault);
     };
     let post = Post {
+        administration: &administration,
         service: words.service,
         host: words.administration,
         user: USER,
         pause: Duration::from_secs(words.seconds),
     };
+    let start = Start { plugin, settled };
     run(
         threads,
         alloc,
-        post,
-        &administration,
-        plugin,
+        &post,
+        start,
         workers.as_slice(),
         &mut net,
         &mut clock,
-        settled,
     );
     Ok(())
 }
