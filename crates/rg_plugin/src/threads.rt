@@ -29,6 +29,7 @@ pub struct Worker<H: Drop> {
 
 /// What a plugin asks for, and where.
 pub struct Post<'a, 's, 'h, 'u, A> {
+    pub alloc: Global,
     pub administration: &'a A,
     pub service: &'s str,
     /// The administration, as its links are addressed.
@@ -76,7 +77,8 @@ fn accept<N: Listener, R: Wait>(rt: &R, net: &Mutex<&mut N>) -> Result<Option<N:
 }
 
 // The administration over a link of its own.
-fn reach<A: Administration>(alloc: Global, post: &Post<A>) -> Result<Remote<A::Link>, Cause> {
+fn reach<A: Administration>(post: &Post<A>) -> Result<Remote<A::Link>, Cause> {
+    let alloc = post.alloc;
     let host = copy(alloc, post.host)?;
     let user = copy(alloc, post.user)?;
     let service = copy(alloc, post.service)?;
@@ -98,18 +100,17 @@ fn copy(alloc: Global, text: &str) -> Result<Text, Cause> {
 
 // One round. What is published is kept.
 fn renew<A: Administration, K: Cache + Drop, Q: Wait + Drop>(
-    alloc: Global,
     post: &Post<A>,
     plugin: &mut Plugin<K, Q>,
 ) -> Option<Cause> {
-    let mut remote = match reach(alloc, post) {
+    let mut remote = match reach(post) {
         Ok(remote) => remote,
         Err(cause) => return Some(cause),
     };
-    if let Err(cause) = plugin.follow(alloc, &mut remote) {
+    if let Err(cause) = plugin.follow(post.alloc, &mut remote) {
         return Some(cause);
     }
-    keep(alloc, plugin)
+    keep(post.alloc, plugin)
 }
 
 // Keeps what is published, where it is still to be kept.
@@ -141,7 +142,6 @@ fn follow_rounds<
     R: Wait + Sync + rt::Clock,
 >(
     rt: &R,
-    alloc: Global,
     post: &Post<A>,
     plugin: &Mutex<Plugin<K, Q>>,
     clock: &Mutex<&mut C>,
@@ -154,9 +154,40 @@ fn follow_rounds<
         if *is_over.lock(rt) {
             break;
         }
-        let fault = renew(alloc, post, &mut *plugin);
+        let fault = renew(post, &mut *plugin);
         board.tell(rt, &*plugin, fault, moment(rt, clock));
     }
+}
+
+// Follows the administration by a thread of its own, while the workers serve links.
+fn with_follower<
+    A: Administration,
+    K: Cache + Drop + Send,
+    Q: Wait + Drop + Send,
+    N: Listener + Send,
+    C: Clock,
+    H: RequestHooks + Send,
+    R: Threads + Wait + Sync + rt::Clock,
+>(
+    rt: &R,
+    post: &Post<A>,
+    plugin: &Mutex<Plugin<K, Q>>,
+    workers: &[Mutex<Worker<H>>],
+    net: &Mutex<&mut N>,
+    clock: &Mutex<&mut C>,
+    board: &Board,
+) {
+    let is_over = Mutex::new(false);
+    let is_over = &is_over;
+    let alloc = post.alloc;
+    let service = post.service;
+    thread::scope(thread::scope_env(), rt, move |scope| {
+        let _started = scope.spawn(
+            move || follow_rounds(rt, post, plugin, clock, board, is_over),
+        );
+        with_workers(rt, alloc, service, workers, net, clock, board);
+        *is_over.lock(rt) = true;
+    });
 }
 
 /// Serves links by a thread for each worker, while another follows the administration. It returns when no link is to come, which a
@@ -171,7 +202,6 @@ pub fn run<
     R: Threads + Wait + Sync + rt::Clock,
 >(
     rt: &R,
-    alloc: Global,
     post: &Post<A>,
     start: Start<K, Q>,
     workers: &[Mutex<Worker<H>>],
@@ -183,26 +213,7 @@ pub fn run<
     let plugin = Mutex::new(plugin);
     let net = Mutex::new(net);
     let clock = Mutex::new(clock);
-    let is_over = Mutex::new(false);
-    let board = &board;
-    let plugin = &plugin;
-    let net = &net;
-    let clock = &clock;
-    let is_over = &is_over;
-    let service = post.service;
-    thread::scope(thread::scope_env(), rt, move |scope| {
-        let _started = scope.spawn(move || follow_rounds(
-            rt,
-            alloc,
-            post,
-            plugin,
-            clock,
-            board,
-            is_over,
-        ));
-        with_workers(rt, alloc, service, workers, net, clock, board);
-        *is_over.lock(rt) = true;
-    });
+    with_follower(rt, post, &plugin, workers, &net, &clock, &board);
 }
 
 // Starts a thread for each worker. All have ended when it returns.
