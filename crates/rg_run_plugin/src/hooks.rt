@@ -1,4 +1,6 @@
 // What goes with the requests that a worker decides: their audit lines go to one sink, or to none.
+ghost use Rattle.std.specs.Prelude.{◌≤◌};
+
 use rg_base::NoMemory;
 use rg_hook::{AuditSink, RequestHooks};
 use rg_policy::AccessRequest;
