@@ -1,5 +1,5 @@
 // Facts kept in a cache, and had again.
-ghost use Rattle.std.specs.Prelude.{◌≡◌, ◌⊎◌, IfOk, IfErr, OnOk, OnErr, Ok, true};
+ghost use Rattle.std.specs.Prelude.{◌≡◌, ◌⊎◌, IfOk, IfErr, IfSome, OnOk, OnErr, Ok, true};
 ghost use Rattle.rg_facts.specs.Sound.{sound};
 ghost use Rattle.rg_download_wire.specs.InOrder.{AreFacts};
 ghost use Rattle.rg_cache.specs.Kept.{kept_in, kept_text};
@@ -32,6 +32,7 @@ pub fn keep<K: Cache>(alloc: Global, cache: &mut K, facts: &Facts) -> Result<(),
 /// The facts that are kept; None where nothing was stored yet.
 pub fn recall<K: Cache>(alloc: Global, cache: &mut K) -> Result<Option<Facts>, CacheFault>
     ensures recalled { IfOk result (λ facts. IsRecalled (K.held cache.old) facts) }
+    ensures sound { IfOk result (λ facts. IfSome facts (λ f. sound f ≡ true)) }
     ensures unread { IfErr result (λ f. IsUnread (K.held cache.old) f) }
     ensures same { K.held cache.new ≡ K.held cache.old }
 {

@@ -40,6 +40,7 @@ fn line_of(bytes: &[u8]) -> Option<&[u8]>
 #[tactic(auto, unfolding(crate::specs::Kept::kept_in))]
 pub fn read_kept(alloc: Global, bytes: &[u8]) -> Result<Facts, KeptFault>
     ensures read { IfOk result (λ facts. kept_in bytes.now ≡ Ok facts) }
+    ensures sound { IfOk result (λ facts. sound facts ≡ true) }
     ensures fault { IfErr result (λ f. f ≢ KeptFault.NoMemory → kept_in bytes.now ≡ Err f) }
 {
     let Some(line) = line_of(bytes) else {

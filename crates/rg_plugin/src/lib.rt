@@ -10,4 +10,4 @@ mod threads;
 pub use board::Board;
 pub use plugin::Plugin;
 pub use remote::{Administration, TcpAdministration};
-pub use threads::{Post, Worker, run};
+pub use threads::{Post, Start, Worker, run};

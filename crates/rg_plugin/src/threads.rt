@@ -27,9 +27,10 @@ pub struct Worker<H: Drop> {
     pub hooks: H,
 }
 
-/// What a plugin asks for.
-#[derive(Clone, Copy)]
-pub struct Post<'s, 'h, 'u> {
+/// What a plugin asks for, and where.
+pub struct Post<'a, 's, 'h, 'u, A> {
+    pub alloc: Global,
+    pub administration: &'a A,
     pub service: &'s str,
     /// The administration, as its links are addressed.
     pub host: &'h str,
@@ -37,6 +38,14 @@ pub struct Post<'s, 'h, 'u> {
     pub user: &'u str,
     /// How long it waits between two rounds.
     pub pause: Duration,
+}
+
+/// A plugin as it begins.
+#[derive(Drop)]
+pub struct Start<K: Cache + Drop, Q: Wait + Drop> {
+    pub plugin: Plugin<K, Q>,
+    /// When its facts were downloaded; None where they were kept from before the start.
+    pub settled: Option<Moment>,
 }
 
 // Serves links, one after another, until none is to come.
@@ -68,15 +77,12 @@ fn accept<N: Listener, R: Wait>(rt: &R, net: &Mutex<&mut N>) -> Result<Option<N:
 }
 
 // The administration over a link of its own.
-fn reach<A: Administration>(
-    alloc: Global,
-    post: Post,
-    administration: &A,
-) -> Result<Remote<A::Link>, Cause> {
+fn reach<A: Administration>(post: &Post<A>) -> Result<Remote<A::Link>, Cause> {
+    let alloc = post.alloc;
     let host = copy(alloc, post.host)?;
     let user = copy(alloc, post.user)?;
     let service = copy(alloc, post.service)?;
-    let Ok(link) = administration.connect() else {
+    let Ok(link) = post.administration.connect() else {
         return Err(Cause::Connection);
     };
     match Remote::new(alloc, link, host, user, service) {
@@ -94,19 +100,17 @@ fn copy(alloc: Global, text: &str) -> Result<Text, Cause> {
 
 // One round. What is published is kept.
 fn renew<A: Administration, K: Cache + Drop, Q: Wait + Drop>(
-    alloc: Global,
-    post: Post,
-    administration: &A,
+    post: &Post<A>,
     plugin: &mut Plugin<K, Q>,
 ) -> Option<Cause> {
-    let mut remote = match reach(alloc, post, administration) {
+    let mut remote = match reach(post) {
         Ok(remote) => remote,
         Err(cause) => return Some(cause),
     };
-    if let Err(cause) = plugin.follow(alloc, &mut remote) {
+    if let Err(cause) = plugin.follow(post.alloc, &mut remote) {
         return Some(cause);
     }
-    keep(alloc, plugin)
+    keep(post.alloc, plugin)
 }
 
 // Keeps what is published, where it is still to be kept.
@@ -138,9 +142,7 @@ fn follow_rounds<
     R: Wait + Sync + rt::Clock,
 >(
     rt: &R,
-    alloc: Global,
-    post: Post,
-    administration: &A,
+    post: &Post<A>,
     plugin: &Mutex<Plugin<K, Q>>,
     clock: &Mutex<&mut C>,
     board: &Board,
@@ -152,9 +154,40 @@ fn follow_rounds<
         if *is_over.lock(rt) {
             break;
         }
-        let fault = renew(alloc, post, administration, &mut *plugin);
+        let fault = renew(post, &mut *plugin);
         board.tell(rt, &*plugin, fault, moment(rt, clock));
     }
+}
+
+// Follows the administration by a thread of its own, while the workers serve links.
+fn with_follower<
+    A: Administration,
+    K: Cache + Drop + Send,
+    Q: Wait + Drop + Send,
+    N: Listener + Send,
+    C: Clock,
+    H: RequestHooks + Send,
+    R: Threads + Wait + Sync + rt::Clock,
+>(
+    rt: &R,
+    post: &Post<A>,
+    plugin: &Mutex<Plugin<K, Q>>,
+    workers: &[Mutex<Worker<H>>],
+    net: &Mutex<&mut N>,
+    clock: &Mutex<&mut C>,
+    board: &Board,
+) {
+    let is_over = Mutex::new(false);
+    let is_over = &is_over;
+    let alloc = post.alloc;
+    let service = post.service;
+    thread::scope(thread::scope_env(), rt, move |scope| {
+        let _started = scope.spawn(
+            move || follow_rounds(rt, post, plugin, clock, board, is_over),
+        );
+        with_workers(rt, alloc, service, workers, net, clock, board);
+        *is_over.lock(rt) = true;
+    });
 }
 
 /// Serves links by a thread for each worker, while another follows the administration. It returns when no link is to come, which a
@@ -169,39 +202,18 @@ pub fn run<
     R: Threads + Wait + Sync + rt::Clock,
 >(
     rt: &R,
-    alloc: Global,
-    post: Post,
-    administration: &A,
-    plugin: Plugin<K, Q>,
+    post: &Post<A>,
+    start: Start<K, Q>,
     workers: &[Mutex<Worker<H>>],
     net: &mut N,
     clock: &mut C,
-    settled: Option<Moment>,
 ) {
+    let Start { plugin, settled } = start;
     let board = Board::new(&plugin, settled);
     let plugin = Mutex::new(plugin);
     let net = Mutex::new(net);
     let clock = Mutex::new(clock);
-    let is_over = Mutex::new(false);
-    let board = &board;
-    let plugin = &plugin;
-    let net = &net;
-    let clock = &clock;
-    let is_over = &is_over;
-    thread::scope(thread::scope_env(), rt, move |scope| {
-        let _started = scope.spawn(move || follow_rounds(
-            rt,
-            alloc,
-            post,
-            administration,
-            plugin,
-            clock,
-            board,
-            is_over,
-        ));
-        with_workers(rt, alloc, post, workers, net, clock, board);
-        *is_over.lock(rt) = true;
-    });
+    with_follower(rt, post, &plugin, workers, &net, &clock, &board);
 }
 
 // Starts a thread for each worker. All have ended when it returns.
@@ -213,7 +225,7 @@ fn with_workers<
 >(
     rt: &R,
     alloc: Global,
-    post: Post,
+    service: &str,
     workers: &[Mutex<Worker<H>>],
     net: &Mutex<&mut N>,
     clock: &Mutex<&mut C>,
@@ -227,7 +239,7 @@ fn with_workers<
                     alloc,
                     gate: &FreeGate,
                     standing: &standing,
-                    plugin: post.service,
+                    plugin: service,
                     worker: number as u32,
                 };
                 serve_links(rt, &desk, net, clock, worker);

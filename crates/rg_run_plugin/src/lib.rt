@@ -1,6 +1,7 @@
 // The words of `rangerd-plugin`, and the plugin over the machine.
 #![tactic(auto)]
 
+mod hooks;
 mod program;
 mod words;
 

@@ -5,6 +5,7 @@ ghost use Rattle.rg_facts.specs.Sound.{sound};
 ghost use Rattle.rg_run_plugin.specs.Ends.{IsEnd};
 ghost use Rattle.rg_run_plugin.specs.Words.{Wanted, wanted_of};
 
+use crate::hooks::SinkHooks;
 use crate::words::{Words, wanted_of};
 use rg_audit_file::AuditFile;
 use rg_base::{Moment, NoMemory, Text};
@@ -12,8 +13,7 @@ use rg_cache::{Cache, CacheFault, FileCache, recall};
 use rg_facts::Facts;
 use rg_facts_check::facts_fault;
 use rg_follow::begin;
-use rg_hook::{AuditFan, AuditSink, Enrichers, WorkerHooks};
-use rg_plugin::{Administration, Plugin, Post, TcpAdministration, Worker, run};
+use rg_plugin::{Administration, Plugin, Post, Start, TcpAdministration, Worker, run};
 use rg_ports::{Clock, Link, Listener, TcpNet, WallClock};
 use rg_publish::Pass;
 use rg_remote::Remote;
@@ -129,26 +129,16 @@ fn first<A: Administration, K: Cache>(
 }
 
 /// The hooks of a worker: audit lines go to the file that the words name, if they name one.
-fn hooks_of(rt: &HostRuntime, words: &Words) -> Result<WorkerHooks, Status>
-    ensures { IfErr result (λ status. (status ≡ Status.WriteFault) ⊎ (status ≡ Status.NoMemory)) }
+fn hooks_of(rt: &HostRuntime, words: &Words) -> Result<SinkHooks<AuditFile>, Status>
+    ensures { IfErr result (λ status. status ≡ Status.WriteFault) }
 {
-    let alloc = rt.alloc();
-    let mut sinks: Vec<Box<dyn AuditSink + Send>> = Vec::new(alloc);
-    if let Some(path) = words.audit {
-        let Ok(file) = AuditFile::open(rt, path) else {
-            return Err(Status::WriteFault);
-        };
-        let Ok(file) = Box::new(alloc, file) else {
-            return Err(Status::NoMemory);
-        };
-        if sinks.push(file).is_err() {
-            return Err(Status::NoMemory);
-        }
+    let Some(path) = words.audit else {
+        return Ok(SinkHooks::new(None));
+    };
+    match AuditFile::open(rt, path) {
+        Ok(file) => Ok(SinkHooks::new(Some(file))),
+        Err(_) => Err(Status::WriteFault),
     }
-    Ok(WorkerHooks {
-        sinks: AuditFan::new(sinks),
-        enrichers: Enrichers::new(Vec::new(alloc)),
-    })
 }
 
 /// A worker for each pass.
@@ -156,7 +146,7 @@ fn workers_of(
     rt: &HostRuntime,
     passes: Vec<Pass>,
     words: &Words,
-) -> Result<Vec<Mutex<Worker<WorkerHooks>>>, Status>
+) -> Result<Vec<Mutex<Worker<SinkHooks<AuditFile>>>>, Status>
     ensures { IfErr result (λ status. (status ≡ Status.WriteFault) ⊎ (status ≡ Status.NoMemory)) }
 {
     let mut passes = passes;
@@ -207,21 +197,21 @@ fn serve<R: Threads + Wait + Sync + rt::Clock>(
         return Err(Status::NetFault);
     };
     let post = Post {
+        alloc,
+        administration: &administration,
         service: words.service,
         host: words.administration,
         user: USER,
         pause: Duration::from_secs(words.seconds),
     };
+    let start = Start { plugin, settled };
     run(
         threads,
-        alloc,
-        post,
-        &administration,
-        plugin,
+        &post,
+        start,
         workers.as_slice(),
         &mut net,
         &mut clock,
-        settled,
     );
     Ok(())
 }

@@ -2,7 +2,7 @@
 ghost use Rattle.std.specs.Prelude.{◌≡◌, map, option_map, string_bytes};
 ghost use Rattle.std.specs.Char.{is_ascii_digit};
 ghost use Rattle.std.specs.List.{list_all};
-ghost use Rattle.rg_run_plugin.specs.Words.{Wanted, is_numeral, seconds_of, wanted, wanted_of};
+ghost use Rattle.rg_run_plugin.specs.Words.{Wanted, is_numeral, seconds_of, wanted, wanted_of, within_a_day};
 
 use rg_client::is_plain;
 
@@ -34,6 +34,15 @@ fn is_numeral(word: &str) -> bool
     1 <= word.len() && word.len() <= 5 && has_digits_alone(word)
 }
 
+fn within_a_day(number: u64) -> Option<u64>
+    ensures { result ≡ within_a_day number }
+{
+    if 1 <= number && number <= 86_400 {
+        return Some(number);
+    }
+    None
+}
+
 /// The number that 1 to 5 digits write, where it is from 1 to 86,400.
 fn seconds_of(word: &str) -> Option<u64>
     ensures { result ≡ seconds_of word.now }
@@ -42,8 +51,8 @@ fn seconds_of(word: &str) -> Option<u64>
         return None;
     }
     match word.parse::<u64>() {
-        Ok(seconds) if 1 <= seconds && seconds <= 86_400 => Some(seconds),
-        _ => None,
+        Ok(number) => within_a_day(number),
+        Err(_) => None,
     }
 }
 
@@ -56,7 +65,7 @@ fn wanted<'a>(
     audit: Option<&'a str>,
 ) -> Option<Words<'a>>
     ensures { option_map (λ w. record { administration = w.administration.now; service = w.service.now; cache = w.cache.now; address = w.address.now; seconds = w.seconds; audit = option_map (λ a. a.now) w.audit }) result
-        ≡ wanted administration.entry.now service.entry.now cache.entry.now address.entry.now seconds.now (option_map (λ a. a.now) audit) }
+        ≡ wanted administration.entry.now service.entry.now cache.entry.now address.entry.now seconds.now (option_map (λ a. a.now) audit.entry) }
 {
     if !is_plain(administration) || !is_plain(service) {
         return None;
