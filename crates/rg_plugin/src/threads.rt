@@ -28,6 +28,7 @@ pub struct Worker<H: Drop> {
 }
 
 /// What a plugin asks for, and where.
+#[derive(Drop)]
 pub struct Post<'a, 's, 'h, 'u, A> {
     pub alloc: Global,
     pub administration: &'a A,
@@ -133,7 +134,7 @@ fn moment<C: Clock, R: Wait>(rt: &R, clock: &Mutex<&mut C>) -> Moment {
     clock.now()
 }
 
-// Follows the administration, round after round, until no link is to come any more.
+// Keeps what the plugin begins with, and then follows the administration, round after round, until no link is to come any more.
 fn follow_rounds<
     A: Administration,
     K: Cache + Drop,
@@ -149,6 +150,7 @@ fn follow_rounds<
     is_over: &Mutex<bool>,
 ) {
     let mut plugin = plugin.lock(rt);
+    let _fault = keep(post.alloc, &mut *plugin);
     for _ in rt.forever() {
         thread::sleep(rt, post.pause);
         if *is_over.lock(rt) {
@@ -182,9 +184,7 @@ fn with_follower<
     let alloc = post.alloc;
     let service = post.service;
     thread::scope(thread::scope_env(), rt, move |scope| {
-        let _started = scope.spawn(
-            move || follow_rounds(rt, post, plugin, clock, board, is_over),
-        );
+        let _started = scope.spawn(move || follow_rounds(rt, post, plugin, clock, board, is_over));
         with_workers(rt, alloc, service, workers, net, clock, board);
         *is_over.lock(rt) = true;
     });

@@ -20,6 +20,7 @@ use rg_remote::Remote;
 use rg_run_script::Status;
 use std::alloc::Global;
 use std::process::ExitCode;
+use std::random::RandomSource;
 use std::rt;
 use std::sync::{Mutex, Wait};
 use std::thread::Threads;
@@ -160,6 +161,16 @@ fn workers_of(
     Ok(workers)
 }
 
+/// So many seconds, and up to an eighth more, at random, so that plugins that were started together don't ask together.
+fn pause_of(rt: &HostRuntime, seconds: u64) -> Duration {
+    let mut share = [0];
+    if rt.fill_bytes(&mut share).is_err() {
+        return Duration::from_secs(seconds);
+    }
+    let more = seconds.saturating_mul(u64::from(share[0])) / 2;
+    Duration::from_millis(seconds.saturating_mul(1000).saturating_add(more))
+}
+
 /// Begins, listens and runs. It returns where it can't begin, and else never.
 fn serve<R: Threads + Wait + Sync + rt::Clock>(
     rt: &HostRuntime,
@@ -202,7 +213,7 @@ fn serve<R: Threads + Wait + Sync + rt::Clock>(
         service: words.service,
         host: words.administration,
         user: USER,
-        pause: Duration::from_secs(words.seconds),
+        pause: pause_of(rt, words.seconds),
     };
     let start = Start { plugin, settled };
     run(
