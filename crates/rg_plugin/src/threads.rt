@@ -182,9 +182,7 @@ fn with_follower<
     let alloc = post.alloc;
     let service = post.service;
     thread::scope(thread::scope_env(), rt, move |scope| {
-        let _started = scope.spawn(
-            move || follow_rounds(rt, post, plugin, clock, board, is_over),
-        );
+        let _started = scope.spawn(move || follow_rounds(rt, post, plugin, clock, board, is_over));
         with_workers(rt, alloc, service, workers, net, clock, board);
         *is_over.lock(rt) = true;
     });
@@ -240,7 +238,7 @@ fn with_workers<
                     gate: &FreeGate,
                     standing: &standing,
                     plugin: service,
-                    worker: number as u32,
+                    worker: u32::try_from(number).unwrap_or(u32::MAX),
                 };
                 serve_links(rt, &desk, net, clock, worker);
             });
