@@ -240,7 +240,7 @@ fn with_workers<
                     gate: &FreeGate,
                     standing: &standing,
                     plugin: service,
-                    worker: number as u32,
+                    worker: u32::try_from(number).unwrap_or(u32::MAX),
                 };
                 serve_links(rt, &desk, net, clock, worker);
             });
