@@ -1,4 +1,4 @@
-// The threads of a plugin: workers that serve links, and one that follows the administration.
+// The threads of a plugin: workers that serve links. The calling thread follows the administration.
 use crate::board::{Board, BoardReader};
 use crate::plugin::Plugin;
 use crate::remote::Administration;
@@ -29,14 +29,14 @@ pub struct Worker<H: Drop> {
 
 /// What a plugin asks for, and where.
 #[derive(Drop)]
-pub struct Post<'a, 's, 'h, 'u, A> {
+pub struct Post<'a, A> {
     pub alloc: Global,
     pub administration: &'a A,
-    pub service: &'s str,
+    pub service: &'a str,
     /// The administration, as its links are addressed.
-    pub host: &'h str,
+    pub host: &'a str,
     /// Who asks.
-    pub user: &'u str,
+    pub user: &'a str,
     /// How long it waits between two rounds.
     pub pause: Duration,
 }
@@ -134,68 +134,100 @@ fn moment<C: Clock, R: Wait>(rt: &R, clock: &Mutex<&mut C>) -> Moment {
     clock.now()
 }
 
-// Keeps what the plugin begins with, and then follows the administration, round after round, until no link is to come any more.
-fn follow_rounds<
+// What is done beside the workers, without end. Whoever starts these knows no more of it than this, so that it may rest on anything.
+trait Beside: Drop {
+    fn go_on(self);
+}
+
+// What follows the administration.
+#[derive(Drop)]
+struct Follower<'r, 'p, 'a, 'k, 'c, 'b, A, K: Cache + Drop, Q: Wait + Drop, C, R> {
+    rt: &'r R,
+    post: &'p Post<'a, A>,
+    plugin: Plugin<K, Q>,
+    clock: &'k Mutex<&'c mut C>,
+    board: &'b Board,
+}
+
+impl<
+    'r,
+    'p,
+    'a,
+    'k,
+    'c,
+    'b,
     A: Administration,
     K: Cache + Drop,
     Q: Wait + Drop,
     C: Clock,
-    R: Wait + Sync + rt::Clock,
->(
-    rt: &R,
-    post: &Post<A>,
-    plugin: &Mutex<Plugin<K, Q>>,
-    clock: &Mutex<&mut C>,
-    board: &Board,
-    is_over: &Mutex<bool>,
-) {
-    let mut plugin = plugin.lock(rt);
-    let _fault = keep(post.alloc, &mut *plugin);
-    for _ in rt.forever() {
-        thread::sleep(rt, post.pause);
-        if *is_over.lock(rt) {
-            break;
+    R: Wait + rt::Clock,
+> Beside for Follower<'r, 'p, 'a, 'k, 'c, 'b, A, K, Q, C, R> {
+    // Keeps what the plugin begins with, and then goes round after round.
+    fn go_on(self) {
+        let Follower {
+            rt,
+            post,
+            mut plugin,
+            clock,
+            board,
+        } = self;
+        let _fault = keep(post.alloc, &mut plugin);
+        for _ in rt.forever() {
+            thread::sleep(rt, post.pause);
+            let fault = renew(post, &mut plugin);
+            board.tell(rt, &plugin, fault, moment(rt, clock));
         }
-        let fault = renew(post, &mut *plugin);
-        board.tell(rt, &*plugin, fault, moment(rt, clock));
     }
 }
 
-// Follows the administration by a thread of its own, while the workers serve links.
-fn with_follower<
-    A: Administration,
-    K: Cache + Drop + Send,
-    Q: Wait + Drop + Send,
+// Starts a thread for each worker, and does the other meanwhile. False where no thread could be started, and else it never answers but
+// where no link is to come and the other has ended.
+fn with_workers<
+    B: Beside,
     N: Listener + Send,
     C: Clock,
     H: RequestHooks + Send,
     R: Threads + Wait + Sync + rt::Clock,
 >(
     rt: &R,
-    post: &Post<A>,
-    plugin: &Mutex<Plugin<K, Q>>,
+    desk: (Global, &str, &Board),
     workers: &[Mutex<Worker<H>>],
     net: &Mutex<&mut N>,
     clock: &Mutex<&mut C>,
-    board: &Board,
-) {
-    let is_over = Mutex::new(false);
-    let is_over = &is_over;
-    let alloc = post.alloc;
-    let service = post.service;
-    thread::scope(thread::scope_env(), rt, move |scope| {
-        let _started = scope.spawn(move || follow_rounds(rt, post, plugin, clock, board, is_over));
-        with_workers(rt, alloc, service, workers, net, clock, board);
-        *is_over.lock(rt) = true;
-    });
+    beside: B,
+) -> bool {
+    let (alloc, service, board) = desk;
+    thread::scope(thread::scope_env(), rt, move |scope| -> bool {
+        let mut any_started = false;
+        for (number, worker) in workers.iter().enumerate() {
+            let started = scope.spawn(move || {
+                let standing = BoardReader { board, rt };
+                let desk = Desk {
+                    alloc,
+                    gate: &FreeGate,
+                    standing: &standing,
+                    plugin: service,
+                    worker: u32::try_from(number).unwrap_or(u32::MAX),
+                };
+                serve_links(rt, &desk, net, clock, worker);
+            });
+            if started.is_ok() {
+                any_started = true;
+            }
+        }
+        if any_started {
+            beside.go_on();
+        }
+        any_started
+    })
 }
 
-/// Serves links by a thread for each worker, while another follows the administration. It returns when no link is to come, which a
-/// listener over the network never says. A link that can't be accepted, a fault of a link and a round that fails end nothing.
+/// Serves links by a thread for each worker, and follows the administration by this one, without end: a link that can't be accepted, a
+/// fault of a link and a round that fails end nothing. Refused where no thread can be started.
 pub fn run<
     A: Administration,
-    K: Cache + Drop + Send,
-    Q: Wait + Drop + Send,
+    K: Cache + Drop,
+    Q: Wait + Drop,
     N: Listener + Send,
     C: Clock,
     H: RequestHooks + Send,
@@ -207,43 +239,27 @@ pub fn run<
     workers: &[Mutex<Worker<H>>],
     net: &mut N,
     clock: &mut C,
-) {
+) -> Result<(), NoMemory> {
     let Start { plugin, settled } = start;
     let board = Board::new(&plugin, settled);
-    let plugin = Mutex::new(plugin);
     let net = Mutex::new(net);
     let clock = Mutex::new(clock);
-    with_follower(rt, post, &plugin, workers, &net, &clock, &board);
-}
-
-// Starts a thread for each worker. All have ended when it returns.
-fn with_workers<
-    N: Listener + Send,
-    C: Clock,
-    H: RequestHooks + Send,
-    R: Threads + Wait + Sync + rt::Clock,
->(
-    rt: &R,
-    alloc: Global,
-    service: &str,
-    workers: &[Mutex<Worker<H>>],
-    net: &Mutex<&mut N>,
-    clock: &Mutex<&mut C>,
-    board: &Board,
-) {
-    thread::scope(thread::scope_env(), rt, move |scope| {
-        for (number, worker) in workers.iter().enumerate() {
-            let _started = scope.spawn(move || {
-                let standing = BoardReader { board, rt };
-                let desk = Desk {
-                    alloc,
-                    gate: &FreeGate,
-                    standing: &standing,
-                    plugin: service,
-                    worker: u32::try_from(number).unwrap_or(u32::MAX),
-                };
-                serve_links(rt, &desk, net, clock, worker);
-            });
-        }
-    });
+    let follower = Follower {
+        rt,
+        post,
+        plugin,
+        clock: &clock,
+        board: &board,
+    };
+    if with_workers(
+        rt,
+        (post.alloc, post.service, &board),
+        workers,
+        &net,
+        &clock,
+        follower,
+    ) {
+        return Ok(());
+    }
+    Err(NoMemory)
 }

@@ -216,15 +216,17 @@ fn serve<R: Threads + Wait + Sync + rt::Clock>(
         pause: pause_of(rt, words.seconds),
     };
     let start = Start { plugin, settled };
-    run(
+    match run(
         threads,
         &post,
         start,
         workers.as_slice(),
         &mut net,
         &mut clock,
-    );
-    Ok(())
+    ) {
+        Ok(()) => Ok(()),
+        Err(NoMemory) => Err(Status::NoMemory),
+    }
 }
 
 /// What `main` ends with where a word isn't UTF-8.
