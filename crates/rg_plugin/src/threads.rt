@@ -134,69 +134,43 @@ fn moment<C: Clock, R: Wait>(rt: &R, clock: &Mutex<&mut C>) -> Moment {
     clock.now()
 }
 
-// What is done beside the workers, without end. Whoever starts these knows no more of it than this, so that it may rest on anything.
-trait Beside: Drop {
-    fn go_on(self);
-}
-
-// What follows the administration.
-#[derive(Drop)]
-struct Follower<'r, 'p, 'a, 'k, 'c, 'b, A, K: Cache + Drop, Q: Wait + Drop, C, R> {
-    rt: &'r R,
-    post: &'p Post<'a, A>,
+// Keeps what the plugin begins with, and then follows the administration, round after round, without end.
+fn follow_rounds<A: Administration, K: Cache + Drop, Q: Wait + Drop, C: Clock, R: Wait + rt::Clock>(
+    rt: &R,
+    post: &Post<A>,
     plugin: Plugin<K, Q>,
-    clock: &'k Mutex<&'c mut C>,
-    board: &'b Board,
-}
-
-impl<
-    'r,
-    'p,
-    'a,
-    'k,
-    'c,
-    'b,
-    A: Administration,
-    K: Cache + Drop,
-    Q: Wait + Drop,
-    C: Clock,
-    R: Wait + rt::Clock,
-> Beside for Follower<'r, 'p, 'a, 'k, 'c, 'b, A, K, Q, C, R> {
-    // Keeps what the plugin begins with, and then goes round after round.
-    fn go_on(self) {
-        let Follower {
-            rt,
-            post,
-            mut plugin,
-            clock,
-            board,
-        } = self;
-        let _fault = keep(post.alloc, &mut plugin);
-        for _ in rt.forever() {
-            thread::sleep(rt, post.pause);
-            let fault = renew(post, &mut plugin);
-            board.tell(rt, &plugin, fault, moment(rt, clock));
-        }
+    clock: &Mutex<&mut C>,
+    board: &Board,
+) {
+    let mut plugin = plugin;
+    let _fault = keep(post.alloc, &mut plugin);
+    for _ in rt.forever() {
+        thread::sleep(rt, post.pause);
+        let fault = renew(post, &mut plugin);
+        board.tell(rt, &plugin, fault, moment(rt, clock));
     }
 }
 
-// Starts a thread for each worker, and does the other meanwhile. False where no thread could be started, and else it never answers but
-// where no link is to come and the other has ended.
+// Starts a thread for each worker, and follows meanwhile. False where no thread could be started.
 fn with_workers<
-    B: Beside,
+    A: Administration,
+    K: Cache + Drop,
+    Q: Wait + Drop,
     N: Listener + Send,
     C: Clock,
     H: RequestHooks + Send,
     R: Threads + Wait + Sync + rt::Clock,
 >(
     rt: &R,
-    desk: (Global, &str, &Board),
+    post: &Post<A>,
+    plugin: Plugin<K, Q>,
     workers: &[Mutex<Worker<H>>],
     net: &Mutex<&mut N>,
     clock: &Mutex<&mut C>,
-    beside: B,
+    board: &Board,
 ) -> bool {
-    let (alloc, service, board) = desk;
+    let alloc = post.alloc;
+    let service = post.service;
     thread::scope(thread::scope_env(), rt, move |scope| -> bool {
         let mut any_started = false;
         for (number, worker) in workers.iter().enumerate() {
@@ -216,7 +190,7 @@ fn with_workers<
             }
         }
         if any_started {
-            beside.go_on();
+            follow_rounds(rt, post, plugin, clock, board);
         }
         any_started
     })
@@ -244,21 +218,7 @@ pub fn run<
     let board = Board::new(&plugin, settled);
     let net = Mutex::new(net);
     let clock = Mutex::new(clock);
-    let follower = Follower {
-        rt,
-        post,
-        plugin,
-        clock: &clock,
-        board: &board,
-    };
-    if with_workers(
-        rt,
-        (post.alloc, post.service, &board),
-        workers,
-        &net,
-        &clock,
-        follower,
-    ) {
+    if with_workers(rt, post, plugin, workers, &net, &clock, &board) {
         return Ok(());
     }
     Err(NoMemory)
