@@ -1,8 +1,0 @@
-// The words of `rangerd-plugin`, and the plugin over the machine.
-#![tactic(auto)]
-
-mod hooks;
-mod program;
-mod words;
-
-pub use program::{out_of_memory, refused, start};
