@@ -1,5 +1,5 @@
 -- For proofs alone: how an answered ask is put together.
-use Rattle.std.proofs.Common.{◌≡◌, List, Option, Some, None, Result, Ok, Err, IfOk, OnOk, OnErr, ap, ◌∙◌}
+use Rattle.std.proofs.Common.{◌≡◌, List, Option, Some, None, Result, Ok, Err, IfOk, OnOk, OnErr, ap, sym, ◌∙◌, subst}
 use Rattle.rg_cmd.specs.declared.ask.AdminCommand.{AdminCommand}
 use Rattle.rg_cmd.specs.declared.ask.AdminReply.{AdminReply}
 use Rattle.rg_cmd.specs.declared.ask.AdminReply.TheVariants.{Refused}
@@ -22,20 +22,27 @@ pub made : (s t : State) (before after : List Log) (c : AdminCommand) → t ≡ 
 unfolding IsMade
 made s t before after c state logs = λ i. record { state = state i; logs = logs i }
 
--- the same of a result, with the logs as they are held
-pub made_on : {X E : Type 0} (r : Result X E) (s t : State) (ps qs : List Planned) (due : Due) (before : List Log) (c : AdminCommand)
-    → OnOk r (t ≡ counted (after_command s c)) → OnOk r (qs ≡ done due ps) → logs_of (done due ps) ≡ logs_after s c before → OnOk r (IsMade (of s before) c (of t (logs_of qs)))
-made_on (Ok x) s t ps qs due before c state logs is = made s t before (logs_of qs) c state (ap logs_of logs ∙ is)
-made_on (Err e) s t ps qs due before c state logs is = tt
+-- the same with the logs as they are held, of a command that was given
+pub made_by : (s t : State) (ps qs : List Planned) (due : Due) (before : List Log) (given c : AdminCommand) → given ≡ c
+    → t ≡ counted (after_command s given) → qs ≡ done due ps → logs_of (done due ps) ≡ logs_after s c before → IsMade (of s before) c (of t (logs_of qs))
+made_by s t ps qs due before given c same state logs is =
+    made s t before (logs_of qs) c (state ∙ ap (λ (k : AdminCommand). counted (after_command s k)) same) (ap logs_of logs ∙ is)
 
-pub unmade_on : {X E : Type 0} (r : Result X E) (s t : State) (ps qs : List Planned) (before : List Log)
-    → OnErr r (t ≡ s) → OnErr r (qs ≡ ps) → logs_of ps ≡ before → OnErr r (of t (logs_of qs) ≡ of s before)
-unmade_on (Ok x) s t ps qs before state logs is = tt
-unmade_on (Err e) s t ps qs before state logs is = λ i. of (state i) ((ap logs_of logs ∙ is) i)
+pub unmade_by : (s t : State) (ps qs : List Planned) (before : List Log) → t ≡ s → qs ≡ ps → logs_of ps ≡ before → of t (logs_of qs) ≡ of s before
+unmade_by s t ps qs before state logs is = λ i. of (state i) ((ap logs_of logs ∙ is) i)
 
-pub answered : (before after : Administration) (ask : Ask) (c : AdminCommand) (reply : AdminReply) → c ≡ ask.command → IsMade before c after → reply ≡ reply_to before ask.actor ask.command → IsAccepted before ask after reply
+-- what holds after the change of an accepted ask holds of what was made
+pub held_made : (holds : Administration → Type 0) (before after : Administration) (c : AdminCommand) → IsMade before c after → holds (accepted before c) → holds after
+unfolding IsMade
+held_made holds before after c made held = subst holds (sym made) held
+
+-- and where nothing was made
+pub held_same : (holds : Administration → Type 0) (before after : Administration) → after ≡ before → holds before → holds after
+held_same holds before after same held = subst holds (sym same) held
+
+pub answered : (before after : Administration) (ask : Ask) (reply : AdminReply) → IsMade before ask.command after → reply ≡ reply_to before ask.actor ask.command → IsAccepted before ask after reply
 unfolding IsAccepted IsMade
-answered before after ask c reply same made is = λ i. ((made ∙ ap (accepted before) same) i, is i)
+answered before after ask reply made is = λ i. (made i, is i)
 
 pub stepped : (before after : Administration) (ask : Ask) (reply : AdminReply) → None ≡ fault before.state ask → IsAccepted before ask after reply → IsStep before ask after reply
 unfolding IsAccepted IsStep

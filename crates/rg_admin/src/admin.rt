@@ -1,5 +1,5 @@
 // The administration machine.
-ghost use Rattle.std.specs.Prelude.{◌≡◌, [], IfOk, OnErr, OnOk, Some, true, vec_capacity, vec_len};
+ghost use Rattle.std.specs.Prelude.{◌≡◌, [], IfOk, OnErr, None, OnOk, Some, true, vec_capacity, vec_len};
 ghost use Rattle.std.specs.List.{list_any};
 ghost use Rattle.std.specs.Str.{chars};
 ghost use Rattle.rg_facts.specs.Sound.{sound};
@@ -20,6 +20,7 @@ use crate::change::{change, kept_is_tight};
 use crate::counting::{count_in, count_out, shift_of};
 use crate::logs::ServiceLog;
 use crate::planning::{Due, plan, settle};
+use crate::recorder::{Recorder, Unkept};
 use crate::reply::reply_of;
 use crate::view::view_of;
 use rg_admin_laws::{states_are_kept, views_are_sound};
@@ -36,16 +37,22 @@ use std::marker::Model;
 /// The most entries that are counted.
 const MOST_ENTRIES: u64 = 1 << 62;
 
-/// The administration. Contracts see its state, and one log for each service in the order of the services.
-pub struct Admin {
+/// The administration. Contracts see its state, and one log for each service in the order of the services. A recorder is told of each
+/// ask that passes every rule, before it is done.
+pub struct Admin<P: Recorder = Unkept> {
     held: Held,
     // Of the state's policies.
     counts: PrintCounts,
+    recorder: P,
 }
 
-impl Drop for Admin {
+impl<P: Recorder> Drop for Admin<P> {
     fn drop(self) {
-        let Self { held: _, counts: _ } = self;
+        let Self {
+            held: _,
+            counts: _,
+            recorder: _,
+        } = self;
     }
 }
 
@@ -56,7 +63,7 @@ struct Held {
     logs: Vec<ServiceLog>,
 }
 
-impl Model for Admin {
+impl<P: Recorder> Model for Admin<P> {
     ghost use Rattle.rg_admin_laws.specs.Logs.{Administration};
     ghost use Rattle.rg_same_resources.specs.Counts.{IsCounted};
     ghost use Rattle.rg_admin.specs.Stepped.{administration_in};
@@ -66,7 +73,7 @@ impl Model for Admin {
 
     ghost view = { λ a. administration_in a.held };
 
-    ghost invariant = { λ a. IsReached (administration_in a.held) × IsCounted a.counts a.held.state.policies.items };
+    ghost invariant = { λ a. IsReached (administration_in a.held) × IsCounted a.counts a.held.state.policies.items × P.holds a.recorder (administration_in a.held) };
 }
 
 /// The first rule that the ask breaks.
@@ -108,18 +115,41 @@ fn make(alloc: Global, held: &mut Held, command: AdminCommand, due: Due) -> Resu
     Ok(())
 }
 
-/// Makes the change of a command that passes every rule.
-fn accept(alloc: Global, held: &mut Held, command: AdminCommand) -> Result<(), NoMemory>
+/// Makes the change of an ask that passes every rule, and is recorded before. All memory but that of the change itself is taken by then.
+fn accept<P: Recorder>(
+    alloc: Global,
+    held: &mut Held,
+    recorder: &mut P,
+    ask: Ask,
+) -> Result<(), NoMemory>
     requires kept { IsKept held.old.state }
     requires packed { IsPacked held.old.state }
-    ensures ok { OnOk result (IsMade (administration_in held.old) command (administration_in held.new)) }
+    requires passes { fault held.old.state ask ≡ None }
+    requires holds { P.holds recorder.old (administration_in held.old) }
+    ensures ok { OnOk result (IsMade (administration_in held.old) ask.command (administration_in held.new)) }
     ensures err { OnErr result (administration_in held.new ≡ administration_in held.old) }
+    ensures holds { P.holds recorder.new (administration_in held.new) }
 {
     kept_is_tight();
-    match plan(alloc, &held.state, &command, &mut held.logs) {
-        Ok(due) => make(alloc, held, command, due),
+    let due = match plan(alloc, &held.state, &ask.command, &mut held.logs) {
+        Ok(due) => due,
         Err(refused) => {
-            drop(command);
+            drop(ask);
+            return Err(refused);
+        }
+    };
+    match recorder.record(alloc, &ask) {
+        Ok(()) => {}
+        Err(refused) => {
+            drop(due);
+            drop(ask);
+            return Err(refused);
+        }
+    }
+    match make(alloc, held, command_of(ask), due) {
+        Ok(()) => Ok(()),
+        Err(refused) => {
+            recorder.stop();
             Err(refused)
         }
     }
@@ -132,14 +162,22 @@ fn command_of(ask: Ask) -> AdminCommand
 }
 
 /// Answers an ask that passes every rule.
-fn answer(alloc: Global, held: &mut Held, ask: Ask) -> Result<AdminReply, NoMemory>
+fn answer<P: Recorder>(
+    alloc: Global,
+    held: &mut Held,
+    recorder: &mut P,
+    ask: Ask,
+) -> Result<AdminReply, NoMemory>
     requires kept { IsKept held.old.state }
     requires packed { IsPacked held.old.state }
+    requires passes { fault held.old.state ask ≡ None }
+    requires holds { P.holds recorder.old (administration_in held.old) }
     ensures ok { IfOk result (IsAccepted (administration_in held.old) ask (administration_in held.new)) }
     ensures err { OnErr result (administration_in held.new ≡ administration_in held.old) }
+    ensures holds { P.holds recorder.new (administration_in held.new) }
 {
     match reply_of(alloc, &held.state, &held.logs, &ask) {
-        Ok(reply) => match accept(alloc, held, command_of(ask)) {
+        Ok(reply) => match accept(alloc, held, recorder, ask) {
             Ok(()) => Ok(reply),
             Err(refused) => {
                 drop(reply);
@@ -155,22 +193,26 @@ fn answer(alloc: Global, held: &mut Held, ask: Ask) -> Result<AdminReply, NoMemo
 
 /// Answers an ask that passes every rule, with the counts of the policies before it and after it. What it brings is counted
 /// first, since that takes memory.
-fn answer_counted(
+fn answer_counted<P: Recorder>(
     alloc: Global,
     held: &mut Held,
     counts: &mut PrintCounts,
+    recorder: &mut P,
     ask: Ask,
 ) -> Result<AdminReply, NoMemory>
     requires kept { IsKept held.old.state }
     requires packed { IsPacked held.old.state }
+    requires passes { fault held.old.state ask ≡ None }
+    requires holds { P.holds recorder.old (administration_in held.old) }
     requires counted { IsCounted counts.old held.old.state.policies.items }
     ensures ok { IfOk result (IsAccepted (administration_in held.old) ask (administration_in held.new)) }
     ensures err { OnErr result (administration_in held.new ≡ administration_in held.old) }
     ensures counted { IsCounted counts.new held.new.state.policies.items }
+    ensures holds { P.holds recorder.new (administration_in held.new) }
 {
     let shift = shift_of(&held.state, &ask.command);
     match count_in(counts, shift.brings) {
-        Ok(()) => match answer(alloc, held, ask) {
+        Ok(()) => match answer(alloc, held, recorder, ask) {
             Ok(reply) => {
                 count_out(counts, shift.takes);
                 Ok(reply)
@@ -188,21 +230,24 @@ fn answer_counted(
 }
 
 /// Answers an ask.
-fn step_held(
+fn step_held<P: Recorder>(
     alloc: Global,
     held: &mut Held,
     counts: &mut PrintCounts,
+    recorder: &mut P,
     ask: Ask,
 ) -> Result<AdminReply, NoMemory>
     requires kept { IsKept held.old.state }
     requires packed { IsPacked held.old.state }
     requires counted { IsCounted counts.old held.old.state.policies.items }
+    requires holds { P.holds recorder.old (administration_in held.old) }
     ensures ok { IfOk result (IsStep (administration_in held.old) ask (administration_in held.new)) }
     ensures err { OnErr result (administration_in held.new ≡ administration_in held.old) }
     ensures counted { IsCounted counts.new held.new.state.policies.items }
+    ensures holds { P.holds recorder.new (administration_in held.new) }
 {
     match fault(alloc, &held.state, counts, &ask) {
-        Ok(None) => answer_counted(alloc, held, counts, ask),
+        Ok(None) => answer_counted(alloc, held, counts, recorder, ask),
         Ok(Some(rule)) => {
             drop(ask);
             count_entry(&mut held.state);
@@ -216,7 +261,7 @@ fn step_held(
 }
 
 impl Admin {
-    /// The administration as it starts.
+    /// The administration as it starts. Nothing is recorded.
     pub(crate) fn opened(state: State, logs: Vec<ServiceLog>, counts: PrintCounts) -> Admin
         requires counted { IsCounted counts [] }
         requires starts { IsStart (administration_of state logs.items) }
@@ -226,7 +271,39 @@ impl Admin {
         Admin {
             held: Held { state, logs },
             counts,
+            recorder: Unkept,
         }
+    }
+
+    /// Recorded from now on.
+    pub fn recorded_by<P: Recorder>(self, recorder: P) -> Admin<P>
+        requires { P.holds recorder self }
+        ensures { result ≡ self }
+    {
+        let Admin {
+            held,
+            counts,
+            recorder: _,
+        } = self;
+        Admin {
+            held,
+            counts,
+            recorder,
+        }
+    }
+}
+
+impl<P: Recorder> Admin<P> {
+    /// What was recorded is opened again as the administration.
+    pub fn into_recorder(self) -> P
+        ensures { P.holds result self }
+    {
+        let Admin {
+            held: _,
+            counts: _,
+            recorder,
+        } = self;
+        recorder
     }
 
     /// Everything that is administered but for the logs. It passes all rules.
@@ -274,17 +351,23 @@ impl Admin {
     }
 
     /// Answers the ask: refused by the first rule that it breaks, which changes nothing but the count of entries, or else
-    /// done. Where memory is refused everything stays as it is.
+    /// done. One that passes every rule is recorded before it is done. Where memory is refused everything stays as it is.
     pub fn step(&mut self, alloc: Global, ask: Ask) -> Result<AdminReply, NoMemory>
         ensures ok { IfOk result (λ r. (self.new, r) ≡ step self.old ask) }
         ensures err { OnErr result (self.new ≡ self.old) }
     {
         states_are_kept();
-        step_held(alloc, &mut self.held, &mut self.counts, ask)
+        step_held(
+            alloc,
+            &mut self.held,
+            &mut self.counts,
+            &mut self.recorder,
+            ask,
+        )
     }
 }
 
-impl Machine for Admin {
+impl<P: Recorder> Machine for Admin<P> {
     ghost use Rattle.rg_admin_laws.specs.Steps.{step};
 
     type Ask = Ask;

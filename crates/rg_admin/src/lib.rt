@@ -12,6 +12,7 @@ mod numbered;
 mod places;
 mod planning;
 mod putting;
+mod recorder;
 mod reply;
 mod served;
 mod start;
@@ -19,4 +20,5 @@ mod touches;
 mod view;
 
 pub use admin::Admin;
+pub use recorder::{Recorder, Unkept};
 pub use start::StartFault;

@@ -19,7 +19,7 @@ use rg_cmd::{AdminCommand, AdminReply, Ask, Part};
 use rg_http::{Message, Response};
 use rg_ports::Link;
 use rg_rest::{Call, response_of};
-use rg_session::{Admin, Bell};
+use rg_session::{Admin, Bell, Recorder};
 use rg_turn::{Seat, Turn};
 use std::alloc::Global;
 use std::str;
@@ -58,11 +58,11 @@ fn answered_alike(alloc: Global, command: &AdminCommand, part: Part) -> Call
 }
 
 /// Asks the turn's administration what the message's user commands.
-fn call_turn<R: Wait>(
+fn call_turn<P: Recorder, R: Wait>(
     rt: &R,
     alloc: Global,
-    turn: &Turn<Admin>,
-    seat: &mut Seat<Admin>,
+    turn: &Turn<Admin<P>>,
+    seat: &mut Seat<Admin<P>>,
     message: &Message,
     command: AdminCommand,
 ) -> Result<AdminReply, NoMemory>
@@ -115,11 +115,11 @@ fn respond(
 }
 
 /// Calls the administration, and makes the answer. The bell is rung where something was changed that a plugin may see.
-fn administer<R: Wait>(
+fn administer<P: Recorder, R: Wait>(
     rt: &R,
     alloc: Global,
-    turn: &Turn<Admin>,
-    seat: &mut Seat<Admin>,
+    turn: &Turn<Admin<P>>,
+    seat: &mut Seat<Admin<P>>,
     bell: &Bell,
     message: &Message,
     command: AdminCommand,
@@ -148,12 +148,12 @@ fn administer<R: Wait>(
 }
 
 /// Calls the administration, and writes the answer.
-pub(crate) fn serve_call<T: Link, R: Wait>(
+pub(crate) fn serve_call<P: Recorder, T: Link, R: Wait>(
     rt: &R,
     alloc: Global,
     link: &mut T,
-    turn: &Turn<Admin>,
-    seat: &mut Seat<Admin>,
+    turn: &Turn<Admin<P>>,
+    seat: &mut Seat<Admin<P>>,
     bell: &Bell,
     message: &Message,
     command: AdminCommand,

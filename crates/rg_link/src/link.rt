@@ -15,7 +15,7 @@ use rg_http::{End, Framer, Next, judged_stays_judged};
 use rg_ports::{Clock, Gate, Link};
 use rg_publish::Pass;
 use rg_rest::Router;
-use rg_session::{Admin, Bell};
+use rg_session::{Admin, Bell, Recorder};
 use rg_turn::{Seat, Turn};
 use std::alloc::Global;
 use std::sync::Wait;
@@ -25,12 +25,12 @@ const MESSAGE_LIMIT: u32 = 10000;
 
 /// Answers the messages of a link, one after another, up to the link's end, a message that asks to close, a bad place, or the
 /// 10,000th message.
-fn serve_messages<T: Link, C: Clock, H: RequestHooks, G: Gate, R: Wait>(
+fn serve_messages<P: Recorder, T: Link, C: Clock, H: RequestHooks, G: Gate, R: Wait>(
     rt: &R,
     alloc: Global,
     link: &mut T,
-    turn: &Turn<Admin>,
-    seat: &mut Seat<Admin>,
+    turn: &Turn<Admin<P>>,
+    seat: &mut Seat<Admin<P>>,
     pass: &mut Pass,
     clock: &mut C,
     hooks: &mut H,
@@ -115,12 +115,12 @@ fn serve_messages<T: Link, C: Clock, H: RequestHooks, G: Gate, R: Wait>(
 /// read.
 ///
 /// After a fault the link is of no more use. The seat's last entry, or the pass's last decision, may stand unanswered.
-pub fn serve_link<T: Link, C: Clock, H: RequestHooks, G: Gate, R: Wait>(
+pub fn serve_link<P: Recorder, T: Link, C: Clock, H: RequestHooks, G: Gate, R: Wait>(
     rt: &R,
     alloc: Global,
     link: &mut T,
-    turn: &Turn<Admin>,
-    seat: &mut Seat<Admin>,
+    turn: &Turn<Admin<P>>,
+    seat: &mut Seat<Admin<P>>,
     pass: &mut Pass,
     clock: &mut C,
     hooks: &mut H,

@@ -14,18 +14,18 @@ use rg_http::Message;
 use rg_ports::{Clock, Gate, Link};
 use rg_publish::Pass;
 use rg_rest::{Call, Router};
-use rg_session::{Admin, Bell};
+use rg_session::{Admin, Bell, Recorder};
 use rg_turn::{Seat, Turn};
 use std::alloc::Global;
 use std::sync::Wait;
 
 /// Reads what the message asks at a moment of the clock, and answers it.
-pub(crate) fn serve_one<T: Link, C: Clock, H: RequestHooks, G: Gate, R: Wait>(
+pub(crate) fn serve_one<P: Recorder, T: Link, C: Clock, H: RequestHooks, G: Gate, R: Wait>(
     rt: &R,
     alloc: Global,
     link: &mut T,
-    turn: &Turn<Admin>,
-    seat: &mut Seat<Admin>,
+    turn: &Turn<Admin<P>>,
+    seat: &mut Seat<Admin<P>>,
     pass: &mut Pass,
     clock: &mut C,
     hooks: &mut H,

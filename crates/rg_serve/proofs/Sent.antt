@@ -10,6 +10,14 @@ use Rattle.rg_base.proofs.text.Text.TheSendSync as text
 use Rattle.rg_turn.proofs.seats.Seat.TheSendSync as seat
 use Rattle.rg_turn.proofs.turn.Turn.TheSendSync as turn
 use Rattle.rg_admin.proofs.admin.Admin.TheSendSync as admin
+use Rattle.rg_admin.specs.contracts.admin.Admin as D
+use Rattle.rg_admin.specs.contracts.recorder.Unkept as K
+use Rattle.rg_admin.specs.contracts.recorder.UnkeptRecorder.TheImpl as KI
+use Rattle.rg_admin.specs.contracts.admin.AdminMachine.TheImpl as DM
+use Rattle.rg_cmd.specs.contracts.ask.Ask as Q
+use Rattle.rg_cmd.specs.contracts.ask.AdminReply as Y
+use Rattle.rg_turn.specs.contracts.seats.Seat as S
+use Rattle.rg_admin.specs.declared.recorder.Recorder as recorder
 use Rattle.rg_session.proofs.bell.Bell.TheSendSync as bell
 use Rattle.rg_publish.proofs.Sent.{pass_send, shown_send, shown_sync}
 use Rattle.rg_publish.specs.contracts.publisher.Publisher as U
@@ -24,6 +32,14 @@ use Rattle.rg_serve.specs.contracts.following.Following as W
 use Rattle.rg_serve.specs.contracts.following.Following.TheInside as WI
 use Rattle.rg_serve.specs.contracts.following.Follower as L
 
+module _ (P : RattleType) (h : recorder.Ghosts P.Denot) (k : IsSend P) where
+  machine_send : IsSend (D.the_row P h)
+  machine_send = admin.the_send P h k
+
+  -- the seat of an administration, whose state is one that nobody keeps
+  seat_send : IsSend (S.the_row (D.the_row P h) Q.the_row Y.the_row (D.the_row K.the_row KI.ghosts) (DM.ghosts P h DM.no_dict DM.no_dict))
+  seat_send = seat.the_send (D.the_row P h) Q.the_row Y.the_row (D.the_row K.the_row KI.ghosts) (DM.ghosts P h DM.no_dict DM.no_dict) machine_send
+
 module _ (R : RattleType) (s : IsSend R) where
   publisher_inside_send : IsSend (UI.the_row R)
   publisher_inside_send = declared_send (UI.the_type R) (search (crosses, sendable, writer.the_send, shown_send, shown_sync) depth 60, (search (sendable, s) depth 20, (search (sendable, word.the_send) depth 20, (search (sendable, shown_send) depth 40, tt))))
@@ -34,23 +50,23 @@ module _ (R : RattleType) (s : IsSend R) where
   refresher_send : IsSend (F.the_row R)
   refresher_send = declared_send (F.the_type R) (search (sendable, publisher_send) depth 20, (search (sendable, text.the_send) depth 20, (search sendable depth 20, tt)))
 
-module _ (J : RattleType) (g : naming.Ghosts J.Denot) (l : ledger.Ghosts J.Denot) where
-  parts_inside_send : IsSend (AI.the_row J g l)
-  parts_inside_send = declared_send (AI.the_type J g l) (search (crosses, sendable, seat.the_send, admin.the_send) depth 40, (search (sendable, pass_send) depth 20, (search (sendable, share.the_send) depth 20, (search sendable depth 20, (search sendable depth 20, (search (crosses, sendable) depth 20, tt))))))
+module _ (J P : RattleType) (g : naming.Ghosts J.Denot) (l : ledger.Ghosts J.Denot) (h : recorder.Ghosts P.Denot) (k : IsSend P) where
+  parts_inside_send : IsSend (AI.the_row J P g l h)
+  parts_inside_send = declared_send (AI.the_type J P g l h) (seat_send P h k, (search (sendable, pass_send) depth 20, (search (sendable, share.the_send) depth 20, (search sendable depth 20, (search sendable depth 20, (search (crosses, sendable) depth 20, tt))))))
 
   -- a worker's seat and pass, with its share
-  pub parts_send : IsSend (A.the_row J g l)
+  pub parts_send : IsSend (A.the_row J P g l h)
   parts_send = search (sendable, parts_inside_send) depth 20
 
-module _ (J : RattleType) (g : naming.Ghosts J.Denot) (l : ledger.Ghosts J.Denot) where
+module _ (J P : RattleType) (g : naming.Ghosts J.Denot) (l : ledger.Ghosts J.Denot) (h : recorder.Ghosts P.Denot) (k : IsSend P) where
   module _ (R : RattleType) (s : IsSend R) where
-    following_inside_send : IsSend (WI.the_row J R g l)
-    following_inside_send = declared_send (WI.the_type J R g l) (search (sendable, refresher_send, s) depth 20, (search (crosses, sendable, seat.the_send, admin.the_send) depth 40, (search sendable depth 20, (search (crosses, sendable) depth 20, tt))))
+    following_inside_send : IsSend (WI.the_row J P R g l h)
+    following_inside_send = declared_send (WI.the_type J P R g l h) (search (sendable, refresher_send, s) depth 20, (seat_send P h k, (search sendable depth 20, (search (crosses, sendable) depth 20, tt))))
 
     -- a refresher with its seat
-    pub following_send : IsSend (W.the_row J R g l)
+    pub following_send : IsSend (W.the_row J P R g l h)
     following_send = search (sendable, following_inside_send) depth 20
 
     -- what refreshes beside the workers
-    pub follower_sync : (a b d : NamedLft) → IsSync (L.the_row a b d J R g l)
-    follower_sync a b d = declared_sync (L.the_type a b d J R g l) (search (crosses, sendable) depth 20, (search (sendable, turn.the_sync, admin.the_send) depth 40, (search (sendable, bell.the_sync) depth 20, (search (crosses, sendable, following_send) depth 20, tt))))
+    pub follower_sync : (a b d : NamedLft) → IsSync (L.the_row a b d J P R g l h)
+    follower_sync a b d = declared_sync (L.the_type a b d J P R g l h) (search (crosses, sendable) depth 20, (search (sendable, turn.the_sync, machine_send P h k) depth 40, (search (sendable, bell.the_sync) depth 20, (search (crosses, sendable, following_send) depth 20, tt))))

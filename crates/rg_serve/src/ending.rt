@@ -13,7 +13,7 @@ use crate::following::Following;
 use crate::given::Counted;
 use crate::naming::Naming;
 use crate::places::{Place, add};
-use rg_admin::Admin;
+use rg_admin::{Admin, Recorder, Unkept};
 use rg_base::NoMemory;
 use rg_publish::{Pass, Publisher};
 use rg_session::{Totals, close, downloaded_lists_stay};
@@ -24,19 +24,19 @@ use std::sync::{Mutex, Wait};
 
 /// What a service did.
 #[derive(Drop)]
-pub struct Served {
+pub struct Served<P: Recorder = Unkept> {
     /// How many links its listener gave.
     pub links: u64,
     /// What was left when all of them were served.
-    pub totals: Totals,
+    pub totals: Totals<P>,
 }
 
 /// The seats and the passes come back, and the shares go into this one. Refused too where a link met want of memory.
-fn gather<J: Naming>(
+fn gather<J: Naming, P: Recorder>(
     alloc: Global,
-    places: Vec<Place<J>>,
+    places: Vec<Place<J, P>>,
     all: &mut Share<J>,
-) -> Result<(Vec<Seat<Admin>>, Vec<Pass>), NoMemory>
+) -> Result<(Vec<Seat<Admin<P>>>, Vec<Pass>), NoMemory>
     ensures parts { OnOk result (all.new.parts ≡ all.old.parts + length places.items) }
     ensures number { IfOk result (λ t. length t.0.items ≡ length places.items) }
     ensures worked { IfOk result (λ t. (n : ℕ) × (all.new.amount ≡ all.old.amount + n) × AreWorked J.turn J.opening J.plugin t.0.items t.1.items n) }
@@ -54,11 +54,11 @@ fn gather<J: Naming>(
 }
 
 /// The same, with all shares in one: there was a session for each link.
-fn gather_all<J: Naming>(
+fn gather_all<J: Naming, P: Recorder>(
     alloc: Global,
-    places: Vec<Place<J>>,
+    places: Vec<Place<J, P>>,
     counted: Counted<J>,
-) -> Result<(Vec<Seat<Admin>>, Vec<Pass>), NoMemory>
+) -> Result<(Vec<Seat<Admin<P>>>, Vec<Pass>), NoMemory>
     requires { J.parts ≡ length places.items + 2 }
     ensures number { IfOk result (λ t. length t.0.items ≡ length places.items) }
     ensures worked { IfOk result (λ t. AreWorked J.turn J.opening J.plugin t.0.items t.1.items counted.book.total) }
@@ -71,15 +71,15 @@ fn gather_all<J: Naming>(
 
 /// Ends the service with the seats of the workers and the refresher's, for whose history what is published is right. Refused too
 /// where a pass is ahead, which no clause of a pass excludes.
-fn settle<J: Naming, R: Wait + Drop>(
+fn settle<J: Naming, P: Recorder, R: Wait + Drop>(
     alloc: Global,
-    turn: Turn<Admin>,
+    turn: Turn<Admin<P>>,
     publisher: Publisher<R>,
-    seat: Seat<Admin>,
-    seats: Vec<Seat<Admin>>,
+    seat: Seat<Admin<P>>,
+    seats: Vec<Seat<Admin<P>>>,
     passes: Vec<Pass>,
     links: u64,
-) -> Result<Totals, NoMemory>
+) -> Result<Totals<P>, NoMemory>
     requires turn { (turn.turn ≡ J.turn) × (seat.turn ≡ J.turn) × (turn.start.state.plugin ≡ J.plugin) }
     requires book { publisher.book ≡ J.opening.book }
     requires all { length seats.items + 1 ≡ turn.seats }
@@ -110,15 +110,15 @@ fn settle<J: Naming, R: Wait + Drop>(
 
 /// Refreshes once more, and ends the service. Want of memory that a worker or a refresh met is answered here, and it is answered
 /// too where an entry of another seat came after the last download, which no clause of a seat excludes.
-pub(crate) fn end<J: Naming, R: Wait + Drop, W: Wait>(
+pub(crate) fn end<J: Naming, P: Recorder, R: Wait + Drop, W: Wait>(
     rt: &W,
     alloc: Global,
-    turn: Turn<Admin>,
-    following: Mutex<Following<J, R>>,
-    places: Vec<Place<J>>,
+    turn: Turn<Admin<P>>,
+    following: Mutex<Following<J, P, R>>,
+    places: Vec<Place<J, P>>,
     counted: Counted<J>,
     links: u64,
-) -> Result<Totals, NoMemory>
+) -> Result<Totals<P>, NoMemory>
     requires turn { (turn.turn ≡ J.turn) × IsStart turn.start × (turn.start.state.plugin ≡ J.plugin) }
     requires all { length places.items + 1 ≡ turn.seats }
     requires parts { J.parts ≡ length places.items + 2 }
@@ -138,7 +138,7 @@ pub(crate) fn end<J: Naming, R: Wait + Drop, W: Wait>(
 {
     let (publisher, seat, entries) = following.into_inner().finish(rt, alloc, &turn)?;
     let (seats, passes) = gather_all(alloc, places, counted)?;
-    let totals = settle::<J, R>(alloc, turn, publisher, seat, seats, passes, links)?;
+    let totals = settle::<J, P, R>(alloc, turn, publisher, seat, seats, passes, links)?;
     let all = totals.past.entries();
     if all == 0 || all - 1 != entries {
         return Err(NoMemory);

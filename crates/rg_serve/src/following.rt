@@ -7,7 +7,7 @@ ghost use Rattle.rg_serve.specs.Held.{HasLast, IsFollowing};
 ghost use Rattle.rg_serve.specs.Trails.{Downloads};
 
 use crate::naming::Naming;
-use rg_admin::Admin;
+use rg_admin::{Admin, Recorder};
 use rg_base::{NoMemory, Steps};
 use rg_publish::Publisher;
 use rg_session::{Bell, Refresher};
@@ -19,15 +19,15 @@ use std::sync::{Mutex, Wait};
 
 /// The refresher, with its seat. Contracts see nothing of it but the names of its type.
 #[derive(Drop)]
-pub(crate) struct Following<J: Naming, R: Wait + Drop> {
+pub(crate) struct Following<J: Naming, P: Recorder, R: Wait + Drop> {
     refresher: Refresher<R>,
-    seat: Seat<Admin>,
+    seat: Seat<Admin<P>>,
     /// Whether a refresh met want of memory.
     is_short: bool,
     of: PhantomData<J>,
 }
 
-impl<J: Naming, R: Wait + Drop> Model for Following<J, R> {
+impl<J: Naming, P: Recorder, R: Wait + Drop> Model for Following<J, P, R> {
     ghost use Rattle.rg_serve.specs.Held.{IsFollowing};
 
     ghost Value = { Unit {0} };
@@ -37,8 +37,8 @@ impl<J: Naming, R: Wait + Drop> Model for Following<J, R> {
     ghost invariant = { λ f. IsFollowing J.turn J.opening.book J.before J.published f.seat f.refresher.service f.refresher.publisher f.is_short };
 }
 
-impl<J: Naming, R: Wait + Drop> Following<J, R> {
-    pub fn new(refresher: Refresher<R>, seat: Seat<Admin>) -> Following<J, R>
+impl<J: Naming, P: Recorder, R: Wait + Drop> Following<J, P, R> {
+    pub fn new(refresher: Refresher<R>, seat: Seat<Admin<P>>) -> Following<J, P, R>
         requires { IsFollowing J.turn J.opening.book J.before J.published seat refresher.service refresher.publisher false }
     {
         Following {
@@ -50,7 +50,7 @@ impl<J: Naming, R: Wait + Drop> Following<J, R> {
     }
 
     /// Refreshes. Want of memory is noted.
-    fn refresh<W: Wait>(&mut self, rt: &W, alloc: Global, turn: &Turn<Admin>)
+    fn refresh<W: Wait>(&mut self, rt: &W, alloc: Global, turn: &Turn<Admin<P>>)
         requires { (turn.now.turn ≡ J.turn) × IsStart turn.now.start }
     {
         turn.knows(&self.seat);
@@ -70,8 +70,8 @@ impl<J: Naming, R: Wait + Drop> Following<J, R> {
         self,
         rt: &W,
         alloc: Global,
-        turn: &Turn<Admin>,
-    ) -> Result<(Publisher<R>, Seat<Admin>, u64), NoMemory>
+        turn: &Turn<Admin<P>>,
+    ) -> Result<(Publisher<R>, Seat<Admin<P>>, u64), NoMemory>
         requires { (turn.now.turn ≡ J.turn) × IsStart turn.now.start }
         ensures same { IfOk result (λ t. (t.1.turn ≡ J.turn) × (t.0.book ≡ J.opening.book)) }
         ensures right { IfOk result (λ t. AreRightFor turn.now.start t.1.history t.0.list) }
@@ -108,14 +108,14 @@ impl<J: Naming, R: Wait + Drop> Following<J, R> {
 
 /// Refreshes after each ring of the bell, until the bell is shut.
 #[derive(Drop)]
-pub(crate) struct Follower<'t, 'b, 'f, J: Naming, R: Wait + Drop> {
+pub(crate) struct Follower<'t, 'b, 'f, J: Naming, P: Recorder, R: Wait + Drop> {
     pub alloc: Global,
-    pub turn: &'t Turn<Admin>,
+    pub turn: &'t Turn<Admin<P>>,
     pub bell: &'b Bell,
-    pub following: &'f Mutex<Following<J, R>>,
+    pub following: &'f Mutex<Following<J, P, R>>,
 }
 
-impl<'t, 'b, 'f, J: Naming, R: Wait + Drop> Watcher for Follower<'t, 'b, 'f, J, R> {
+impl<'t, 'b, 'f, J: Naming, P: Recorder, R: Wait + Drop> Watcher for Follower<'t, 'b, 'f, J, P, R> {
     ghost use Rattle.std.specs.Prelude.{◌≡◌};
     ghost use Rattle.rg_admin_laws.specs.Starts.{IsStart};
 

@@ -5,6 +5,7 @@ ghost use Rattle.std.specs.Str.{chars};
 use crate::naming::Naming;
 use crate::places::Place;
 use crate::sessions::Sessions;
+use rg_admin::Recorder;
 use rg_hook::RequestHooks;
 use rg_ports::{Clock, Gate, Link};
 use rg_threads::{Queue, Waiting};
@@ -31,12 +32,12 @@ pub(crate) struct Counted<J: Naming> {
 
 impl<J: Naming> Given<J> {
     /// Puts one link more into the queue. Where the queue is closed the link is served with the things of the worker.
-    pub fn hand<T: Link + Drop, C: Clock, G: Gate, H: RequestHooks, R: Wait + Sync>(
+    pub fn hand<P: Recorder, T: Link + Drop, C: Clock, G: Gate, H: RequestHooks, R: Wait + Sync>(
         &mut self,
         rt: &R,
-        sessions: &Sessions<J, C, G>,
+        sessions: &Sessions<J, P, C, G>,
         queue: &Queue<J, T>,
-        first: (&Place<J>, &Mutex<H>),
+        first: (&Place<J, P>, &Mutex<H>),
         link: T,
     )
         requires turn { sessions.now.turn.now.turn ≡ J.turn }

@@ -4,33 +4,36 @@ ghost use Rattle.rg_admin.specs.Starting.{start_fault};
 ghost use Rattle.rg_admin_laws.specs.Starts.{IsStart};
 ghost use Rattle.rg_serve.specs.Opened.{IsAsked, IsRefreshed, opened, opened_unless};
 
-use rg_admin::{Admin, StartFault};
+use rg_admin::{Admin, Recorder, StartFault, Unkept};
 use rg_base::{NoMemory, Steps};
 use rg_cmd::{AdminReply, Ask, Config};
 use rg_publish::Pass;
 use rg_session::{
     Refresh, Refresher, Service, downloaded_lists_stay, open, right_lists_stay_right,
 };
+use rg_threads::Halt;
 use rg_turn::laws::one_more_entry;
 use rg_turn::{Seat, Turn};
 use std::alloc::Global;
 use std::marker::Model;
-use std::sync::Wait;
+use std::sync::{Arc, Wait};
 
 /// An administration with its plugin, and workers that serve no links yet. It is asked through a seat of its own, the refresher's.
 /// Contracts see the history and the publications, and how many of the entries are known to be its own calls.
 #[derive(Drop)]
-pub struct Opened<R: Wait + Drop> {
-    pub(crate) turn: Turn<Admin>,
+pub struct Opened<R: Wait + Drop, P: Recorder = Unkept> {
+    pub(crate) turn: Turn<Admin<P>>,
     /// The refresher's.
-    pub(crate) seat: Seat<Admin>,
+    pub(crate) seat: Seat<Admin<P>>,
     pub(crate) refresher: Refresher<R>,
     /// Those of the workers, as many as passes.
-    pub(crate) seats: Vec<Seat<Admin>>,
+    pub(crate) seats: Vec<Seat<Admin<P>>>,
     pub(crate) passes: Vec<Pass>,
+    /// Why links break off, where changes aren't taken any more.
+    pub(crate) halt: Arc<Halt>,
 }
 
-impl<R: Wait + Drop> Model for Opened<R> {
+impl<R: Wait + Drop, P: Recorder> Model for Opened<R, P> {
     ghost use Rattle.rg_serve.specs.Held.{IsHeld, held};
     ghost use Rattle.rg_serve.specs.Opened as the;
 
@@ -60,9 +63,16 @@ impl<R: Wait + Drop> Opened<R> {
             Err(StartFault::NoMemory) => Err(NoMemory),
         }
     }
+}
 
+impl<R: Wait + Drop, P: Recorder> Opened<R, P> {
     /// The administration, with its plugin's view as publication 1, for 1 to 64 workers. Where memory is refused all is let go.
-    pub fn over(rt: R, alloc: Global, admin: Admin, workers: u32) -> Result<Opened<R>, NoMemory>
+    pub fn over(
+        rt: R,
+        alloc: Global,
+        admin: Admin<P>,
+        workers: u32,
+    ) -> Result<Opened<R, P>, NoMemory>
         requires start { IsStart admin }
         requires workers { (1 ≤ workers) × (workers ≤ 64) }
         ensures opened { IfOk result (λ o. opened workers admin ≡ Some o) }
@@ -78,13 +88,37 @@ impl<R: Wait + Drop> Opened<R> {
         let Some(seat) = seats.pop() else {
             return Err(NoMemory);
         };
+        let halt = Arc::new(alloc, Halt::new())?;
         Ok(Opened {
             turn,
             seat,
             refresher,
             seats,
             passes,
+            halt,
         })
+    }
+
+    /// Once this is set, a link that breaks off for want of memory is told that no more changes are taken.
+    pub fn halted_by(self, halt: Arc<Halt>) -> Opened<R, P>
+        ensures { result ≡ self }
+    {
+        let Opened {
+            turn,
+            seat,
+            refresher,
+            seats,
+            passes,
+            halt: _,
+        } = self;
+        Opened {
+            turn,
+            seat,
+            refresher,
+            seats,
+            passes,
+            halt,
+        }
     }
 
     /// Asks the administration. It waits for its turn.
@@ -103,7 +137,11 @@ impl<R: Wait + Drop> Opened<R> {
     /// Downloads what the plugin lacks, and publishes what it sees then, unless its versions are current. Want of memory is also
     /// answered where an entry of another caller came before the download, which no clause of a seat excludes, though nobody else
     /// has one. Where memory is refused all is let go.
-    pub fn refresh<W: Wait>(self, rt: &W, alloc: Global) -> Result<(Opened<R>, Refresh), NoMemory>
+    pub fn refresh<W: Wait>(
+        self,
+        rt: &W,
+        alloc: Global,
+    ) -> Result<(Opened<R, P>, Refresh), NoMemory>
         ensures { IfOk result (λ t. IsRefreshed self t.1 t.0) }
     {
         let Opened {
@@ -112,6 +150,7 @@ impl<R: Wait + Drop> Opened<R> {
             mut refresher,
             seats,
             passes,
+            halt,
         } = self;
         let calls = seat.calls();
         let mut steps = Steps::silent();
@@ -126,6 +165,7 @@ impl<R: Wait + Drop> Opened<R> {
                     refresher,
                     seats,
                     passes,
+                    halt,
                 };
                 return Ok((opened, refresh));
             }

@@ -7,7 +7,7 @@ ghost use Rattle.rg_serve.specs.Held.{Trail};
 
 use crate::naming::Naming;
 use crate::sessions::Sessions;
-use rg_admin::Admin;
+use rg_admin::{Admin, Recorder};
 use rg_base::NoMemory;
 use rg_hook::RequestHooks;
 use rg_ports::{Clock, Gate, Link};
@@ -21,8 +21,8 @@ use std::sync::{Mutex, Wait};
 
 /// The seat and the pass of a worker. Contracts see nothing of it but the names of its type; it keeps what its sessions did.
 #[derive(Drop)]
-pub(crate) struct Parts<J: Naming> {
-    seat: Seat<Admin>,
+pub(crate) struct Parts<J: Naming, P: Recorder> {
+    seat: Seat<Admin<P>>,
     pass: Pass,
     /// As much as links that it was given.
     share: Share<J>,
@@ -33,7 +33,7 @@ pub(crate) struct Parts<J: Naming> {
     of: PhantomData<J>,
 }
 
-impl<J: Naming> Model for Parts<J> {
+impl<J: Naming, P: Recorder> Model for Parts<J, P> {
     ghost use Rattle.rg_serve.specs.Held.{IsAtWork};
 
     ghost Value = { Unit {0} };
@@ -44,10 +44,10 @@ impl<J: Naming> Model for Parts<J> {
 }
 
 /// Where they lie.
-pub(crate) type Place<J> = Mutex<Parts<J>>;
+pub(crate) type Place<J, P> = Mutex<Parts<J, P>>;
 
-impl<J: Naming> Parts<J> {
-    fn new(seat: Seat<Admin>, pass: Pass, share: Share<J>, number: u32) -> Parts<J>
+impl<J: Naming, P: Recorder> Parts<J, P> {
+    fn new(seat: Seat<Admin<P>>, pass: Pass, share: Share<J>, number: u32) -> Parts<J, P>
         requires new { (seat ≡ new_seat J.turn) × (pass ≡ new_pass J.opening) }
         requires share { (share.parts ≡ 1) × (share.amount ≡ 0) }
     {
@@ -65,7 +65,7 @@ impl<J: Naming> Parts<J> {
     pub fn serve<T: Link + Drop, C: Clock, G: Gate, H: RequestHooks, R: Wait + Sync>(
         &mut self,
         rt: &R,
-        sessions: &Sessions<J, C, G>,
+        sessions: &Sessions<J, P, C, G>,
         hooks: &mut H,
         link: T,
         mine: &mut Share<J>,
@@ -86,7 +86,7 @@ impl<J: Naming> Parts<J> {
     pub fn serve_next<T: Link + Drop, C: Clock, G: Gate, H: RequestHooks, R: Wait + Sync>(
         &mut self,
         rt: &R,
-        sessions: &Sessions<J, C, G>,
+        sessions: &Sessions<J, P, C, G>,
         hooks: &mut H,
         queue: &Queue<J, T>,
     ) -> bool
@@ -106,7 +106,7 @@ impl<J: Naming> Parts<J> {
     pub fn serve_left<T: Link + Drop, C: Clock, G: Gate, H: RequestHooks, R: Wait + Sync>(
         &mut self,
         rt: &R,
-        sessions: &Sessions<J, C, G>,
+        sessions: &Sessions<J, P, C, G>,
         hooks: &mut H,
         left: &mut Waiting<J, T>,
     ) -> bool
@@ -124,7 +124,7 @@ impl<J: Naming> Parts<J> {
     }
 
     /// The seat, the pass and the share. Refused where a link met want of memory.
-    pub fn into_all(self) -> Result<(Seat<Admin>, Pass, Share<J>), NoMemory>
+    pub fn into_all(self) -> Result<(Seat<Admin<P>>, Pass, Share<J>), NoMemory>
         ensures seated { IfOk result (λ t. (t.0.turn ≡ J.turn) × (t.1.book ≡ J.opening.book)) }
         ensures part { IfOk result (λ t. t.2.parts ≡ 1) }
         ensures trail { IfOk result (λ t. Trail J.turn J.opening J.plugin t.0 t.1 t.2.amount) }
@@ -155,12 +155,12 @@ pub(crate) fn add<T: Drop>(all: &mut Vec<T>, x: T) -> Result<(), NoMemory>
 }
 
 /// A place for each seat, with a pass and a part of the share. The last comes first.
-pub(crate) fn places_of<J: Naming>(
+pub(crate) fn places_of<J: Naming, P: Recorder>(
     alloc: Global,
-    seats: Vec<Seat<Admin>>,
+    seats: Vec<Seat<Admin<P>>>,
     passes: Vec<Pass>,
     share: &mut Share<J>,
-) -> Result<Vec<Place<J>>, NoMemory>
+) -> Result<Vec<Place<J, P>>, NoMemory>
     requires seats { All (λ s. s ≡ new_seat J.turn) seats.items }
     requires passes { All (λ p. p ≡ new_pass J.opening) passes.items }
     requires few { length seats.items ≤ 64 }

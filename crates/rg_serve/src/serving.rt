@@ -18,13 +18,13 @@ use crate::opened::Opened;
 use crate::places::{Place, places_of, under_locks};
 use crate::sessions::Sessions;
 use crate::threads::{serve_links, serve_rest};
-use rg_admin::Admin;
+use rg_admin::{Admin, Recorder};
 use rg_base::{Failed, NoMemory, Text, TryCopy};
 use rg_hook::RequestHooks;
 use rg_ports::{Clock, Gate, Listener};
 use rg_publish::Pass;
 use rg_session::{Bell, Refresher, Totals};
-use rg_threads::Queue;
+use rg_threads::{Halt, Queue};
 use rg_turn::{Seat, Turn};
 use std::alloc::Global;
 use std::marker::{Brand, PhantomData};
@@ -66,6 +66,7 @@ impl From<Failed> for ServeFault {
 /// Gives how many links were given.
 fn attend<
     J: Naming + Send + Sync,
+    P: Recorder + Send,
     N: Listener,
     C: Clock,
     G: Gate,
@@ -75,15 +76,16 @@ fn attend<
 >(
     rt: &R,
     alloc: Global,
-    turn: &Turn<Admin>,
-    following: &Mutex<Following<J, Q>>,
-    places: &[Place<J>],
+    turn: &Turn<Admin<P>>,
+    following: &Mutex<Following<J, P, Q>>,
+    places: &[Place<J, P>],
     hooks: &[Mutex<H>],
     queue: Queue<J, N::Link>,
     given: Given<J>,
     net: &mut N,
     clock: &Mutex<&mut C>,
     gate: &G,
+    halt: &Halt,
     plugin: &str,
     most: u64,
 ) -> (Result<u64, Failed>, Counted<J>)
@@ -98,12 +100,13 @@ fn attend<
     ensures failed { OnErr result.0 (N.faults net.old < N.faults net.new) }
 {
     let bell = Bell::new();
-    let sessions: Sessions<J, C, G> = Sessions {
+    let sessions: Sessions<J, P, C, G> = Sessions {
         alloc,
         turn,
         clock,
         gate,
         bell: &bell,
+        halt,
         plugin,
         of: PhantomData,
     };
@@ -124,6 +127,7 @@ fn attend<
 /// The same from start to end, under names for the turn and the publisher that no type of a parameter has.
 fn serve_named<
     J: Naming + Send + Sync,
+    P: Recorder + Send,
     N: Listener,
     C: Clock,
     G: Gate,
@@ -134,18 +138,19 @@ fn serve_named<
     rt: &R,
     alloc: Global,
     blank: Blank,
-    turn: Turn<Admin>,
-    seat: Seat<Admin>,
+    turn: Turn<Admin<P>>,
+    seat: Seat<Admin<P>>,
     refresher: Refresher<Q>,
-    seats: Vec<Seat<Admin>>,
+    seats: Vec<Seat<Admin<P>>>,
     passes: Vec<Pass>,
     hooks: Vec<H>,
     net: &mut N,
     address: &Text,
     clock: &mut C,
     gate: &G,
+    halt: &Halt,
     most: u64,
-) -> Result<Served, ServeFault>
+) -> Result<Served<P>, ServeFault>
     requires ledger { (blank.name ≡ J.name) × (blank.parts ≡ J.parts) × (J.parts ≡ length seats.items + 2) }
     requires names { (turn.turn ≡ J.turn) × (J.opening ≡ begun refresher.publisher) × (refresher.service ≡ J.plugin) }
     requires before { (seat ≡ J.before) × (refresher.publisher.list ≡ J.published) }
@@ -175,7 +180,7 @@ fn serve_named<
     let waiting = mine.split_off(1, 0);
     let queue = Queue::new(alloc, waiting)?;
     let plugin = refresher.service.try_copy(alloc)?;
-    let places = places_of::<J>(alloc, seats, passes, &mut mine)?;
+    let places = places_of::<J, P>(alloc, seats, passes, &mut mine)?;
     let own = under_locks(alloc, hooks)?;
     net.listen(address.as_str())?;
     let following = Mutex::new(Following::new(refresher, seat));
@@ -192,6 +197,7 @@ fn serve_named<
         net,
         &clock,
         gate,
+        halt,
         plugin.as_str(),
         most,
     );
@@ -209,6 +215,7 @@ fn serve_named<
 /// others, or by the calling thread. Want of memory is answered too where a pass has seen more than was published, or an entry came
 /// after the last download: neither should ever come, but no clause excludes it.
 pub fn serve<
+    P: Recorder + Send,
     N: Listener,
     C: Clock,
     G: Gate,
@@ -218,14 +225,14 @@ pub fn serve<
 >(
     rt: &R,
     alloc: Global,
-    opened: Opened<Q>,
+    opened: Opened<Q, P>,
     hooks: Vec<H>,
     net: &mut N,
     address: &Text,
     clock: &mut C,
     gate: &G,
     most: u64,
-) -> Result<Served, ServeFault>
+) -> Result<Served<P>, ServeFault>
     requires { length hooks.items ≡ opened.workers }
     // The links are those that the listener gave, and they are as many as were asked for, or the listener has ended.
     ensures given { IfOk result (λ s. N.given net.new ≡ N.given net.old + s.links) }
@@ -257,9 +264,10 @@ pub fn serve<
         refresher,
         seats,
         passes,
+        halt,
     } = opened;
     let parts = seats.len() as u64 + 2;
-    match serve_named::<Brand, N, C, G, H, Q, R>(
+    match serve_named::<Brand, P, N, C, G, H, Q, R>(
         rt,
         alloc,
         Blank::new(parts),
@@ -273,6 +281,7 @@ pub fn serve<
         address,
         clock,
         gate,
+        &halt,
         most,
     ) {
         Ok(served) => return Ok(served),

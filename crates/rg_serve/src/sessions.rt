@@ -4,13 +4,14 @@ ghost use Rattle.std.specs.Str.{chars};
 ghost use Rattle.rg_serve.specs.Trails.{IsSession};
 
 use crate::naming::Naming;
-use rg_admin::Admin;
+use rg_admin::{Admin, Recorder};
 use rg_hook::RequestHooks;
-use rg_link::{LinkFault, serve_link};
+use rg_http::{Response, bytes_of};
+use rg_link::{LinkFault, send, serve_link};
 use rg_ports::{Clock, Gate, Link};
 use rg_publish::Pass;
 use rg_session::Bell;
-use rg_threads::SharedClock;
+use rg_threads::{Halt, HaltCause, SharedClock};
 use rg_turn::{Seat, Turn};
 use std::alloc::Global;
 use std::marker::PhantomData;
@@ -18,33 +19,38 @@ use std::sync::{Mutex, Wait};
 
 /// What the workers share.
 #[derive(Drop)]
-pub(crate) struct Sessions<'t, 'k, 'c, 'g, 'b, 'p, J: Naming, C, G> {
+pub(crate) struct Sessions<'t, 'k, 'c, 'g, 'b, 'h, 'p, J: Naming, P: Recorder, C, G> {
     pub alloc: Global,
-    pub turn: &'t Turn<Admin>,
+    pub turn: &'t Turn<Admin<P>>,
     pub clock: &'k Mutex<&'c mut C>,
     pub gate: &'g G,
     pub bell: &'b Bell,
+    /// Why a link breaks off, where changes aren't taken any more.
+    pub halt: &'h Halt,
     /// The plugin's service.
     pub plugin: &'p str,
     pub of: PhantomData<J>,
 }
 
-impl<'t, 'k, 'c, 'g, 'b, 'p, J: Naming, C: Clock, G: Gate> Sessions<
+impl<'t, 'k, 'c, 'g, 'b, 'h, 'p, J: Naming, P: Recorder, C: Clock, G: Gate> Sessions<
     't,
     'k,
     'c,
     'g,
     'b,
+    'h,
     'p,
     J,
+    P,
     C,
     G,
 > {
-    /// Serves a link, and says whether it met want of memory. A fault of the link ends that link alone.
+    /// Serves a link, and says whether it met want of memory, which is also what a change meets that isn't taken any more. A fault of
+    /// the link ends that link alone.
     pub fn serve<T: Link + Drop, H: RequestHooks, R: Wait + Sync>(
         &self,
         rt: &R,
-        seat: &mut Seat<Admin>,
+        seat: &mut Seat<Admin<P>>,
         pass: &mut Pass,
         hooks: &mut H,
         number: u32,
@@ -72,7 +78,35 @@ impl<'t, 'k, 'c, 'g, 'b, 'p, J: Naming, C: Clock, G: Gate> Sessions<
         ) {
             Ok(_) => return false,
             Err(LinkFault::Failed) => return false,
-            Err(LinkFault::NoMemory) => return true,
+            Err(LinkFault::NoMemory) => {
+                tell_halt(self.alloc, self.halt, &mut link);
+                return true;
+            }
         }
     }
+}
+
+/// What is said of it.
+fn told(cause: HaltCause) -> &'static [u8] {
+    match cause {
+        HaltCause::Failed => b"{\"error\":\"keeper\"}",
+        HaltCause::Full => b"{\"error\":\"full\"}",
+    }
+}
+
+/// Says why a link broke off, where no more changes are taken: 503, and the link is let go. Where memory is refused, or the link
+/// fails, it isn't said.
+fn tell_halt<T: Link>(alloc: Global, halt: &Halt, link: &mut T) {
+    let Some(cause) = halt.cause() else {
+        return;
+    };
+    let Ok(body) = bytes_of(alloc, told(cause)) else {
+        return;
+    };
+    let response = Response {
+        status: 503,
+        body,
+        close: true,
+    };
+    let _told = send(alloc, link, &response);
 }

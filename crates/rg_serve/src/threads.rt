@@ -6,6 +6,7 @@ use crate::given::Given;
 use crate::naming::Naming;
 use crate::places::Place;
 use crate::sessions::Sessions;
+use rg_admin::Recorder;
 use rg_base::Failed;
 use rg_hook::RequestHooks;
 use rg_ports::{Clock, Gate, Link, Listener};
@@ -20,13 +21,15 @@ fn given_back<N>(net: &mut N)
 {}
 
 /// Serves links from the queue with the things of one worker, which it keeps until the queue is closed and has none.
-fn serve_queue<J: Naming, T: Link + Drop, C: Clock, G: Gate, H: RequestHooks, R: Wait + Sync>(
-    rt: &R,
-    sessions: &Sessions<J, C, G>,
-    queue: &Queue<J, T>,
-    place: &Place<J>,
-    own: &Mutex<H>,
-)
+fn serve_queue<
+    J: Naming,
+    P: Recorder,
+    T: Link + Drop,
+    C: Clock,
+    G: Gate,
+    H: RequestHooks,
+    R: Wait + Sync,
+>(rt: &R, sessions: &Sessions<J, P, C, G>, queue: &Queue<J, T>, place: &Place<J, P>, own: &Mutex<H>)
     requires turn { sessions.now.turn.now.turn ≡ J.turn }
     requires plugin { chars sessions.now.plugin.now ≡ J.plugin }
 {
@@ -40,13 +43,21 @@ fn serve_queue<J: Naming, T: Link + Drop, C: Clock, G: Gate, H: RequestHooks, R:
 }
 
 /// Hands up to so many links to the workers, and says how many were given.
-fn accept_all<J: Naming, N: Listener, C: Clock, G: Gate, H: RequestHooks, R: Wait + Sync>(
+fn accept_all<
+    J: Naming,
+    P: Recorder,
+    N: Listener,
+    C: Clock,
+    G: Gate,
+    H: RequestHooks,
+    R: Wait + Sync,
+>(
     rt: &R,
-    sessions: &Sessions<J, C, G>,
+    sessions: &Sessions<J, P, C, G>,
     net: &mut N,
     most: u64,
     queue: &Queue<J, N::Link>,
-    first: (&Place<J>, &Mutex<H>),
+    first: (&Place<J, P>, &Mutex<H>),
     given: &mut Given<J>,
 ) -> Result<u64, Failed>
     requires turn { sessions.now.turn.now.turn ≡ J.turn }
@@ -74,6 +85,7 @@ fn accept_all<J: Naming, N: Listener, C: Clock, G: Gate, H: RequestHooks, R: Wai
 /// the first worker.
 fn with_workers<
     J: Naming + Send + Sync,
+    P: Recorder + Send,
     N: Listener,
     C: Clock,
     G: Gate,
@@ -84,9 +96,9 @@ fn with_workers<
     net: &mut N,
     most: u64,
     queue: &Queue<J, N::Link>,
-    sessions: &Sessions<J, C, G>,
-    first: (&Place<J>, &Mutex<H>),
-    places: &[Place<J>],
+    sessions: &Sessions<J, P, C, G>,
+    first: (&Place<J, P>, &Mutex<H>),
+    places: &[Place<J, P>],
     own: &[Mutex<H>],
     given: Given<J>,
 ) -> (Result<u64, Failed>, Given<J>)
@@ -141,6 +153,7 @@ fn with_workers<
 /// calling thread does; only the watcher's is then left undone.
 pub(crate) fn serve_links<
     J: Naming + Send + Sync,
+    P: Recorder + Send,
     N: Listener,
     C: Clock,
     G: Gate,
@@ -152,8 +165,8 @@ pub(crate) fn serve_links<
     net: &mut N,
     most: u64,
     queue: &Queue<J, N::Link>,
-    sessions: &Sessions<J, C, G>,
-    places: &[Place<J>],
+    sessions: &Sessions<J, P, C, G>,
+    places: &[Place<J, P>],
     own: &[Mutex<H>],
     watcher: &V,
     given: Given<J>,
@@ -201,12 +214,19 @@ pub(crate) fn serve_links<
 /// Serves the links that are left in the queue.
 pub(crate) fn serve_rest<
     J: Naming,
+    P: Recorder,
     T: Link + Drop,
     C: Clock,
     G: Gate,
     H: RequestHooks,
     R: Wait + Sync,
->(rt: &R, sessions: &Sessions<J, C, G>, left: &mut Waiting<J, T>, place: &Place<J>, own: &Mutex<H>)
+>(
+    rt: &R,
+    sessions: &Sessions<J, P, C, G>,
+    left: &mut Waiting<J, T>,
+    place: &Place<J, P>,
+    own: &Mutex<H>,
+)
     requires turn { sessions.now.turn.now.turn ≡ J.turn }
     requires plugin { chars sessions.now.plugin.now ≡ J.plugin }
     ensures { left.new.share.amount ≡ 0 }

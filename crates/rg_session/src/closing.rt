@@ -10,7 +10,7 @@ ghost use Rattle.rg_session.specs.Right.{AreRightFor};
 
 use crate::laws::right_lists_stay_right;
 use crate::settling::{Ahead, decisions_of, first_ahead, settle_all};
-use rg_admin::Admin;
+use rg_admin::{Admin, Recorder, Unkept};
 use rg_base::NoMemory;
 use rg_publish::{Pass, Publications, Publisher};
 use rg_turn::{Past, Seat, Turn};
@@ -19,10 +19,10 @@ use std::sync::Wait;
 
 /// What is left of a service.
 #[derive(Drop)]
-pub struct Totals {
+pub struct Totals<P: Recorder = Unkept> {
     /// The administration after the whole history.
-    pub admin: Admin,
-    pub past: Past<Admin>,
+    pub admin: Admin<P>,
+    pub past: Past<Admin<P>>,
     /// All that was published.
     pub published: Publications,
     /// How many publications there were.
@@ -54,13 +54,13 @@ fn compare<R: Wait + Drop>(
 /// Ends the turn, the publisher and the passes, given all of the turn's seats. It waits for readers that are inside. Where
 /// memory is refused the publisher is ended too, and all else is let go. A pass that has seen no more than the publisher has
 /// is one of the publisher's.
-pub fn close<R: Wait + Drop>(
+pub fn close<P: Recorder, R: Wait + Drop>(
     alloc: Global,
     publisher: Publisher<R>,
     passes: Vec<Pass>,
-    turn: Turn<Admin>,
-    seats: Vec<Seat<Admin>>,
-) -> Result<Totals, NoMemory>
+    turn: Turn<Admin<P>>,
+    seats: Vec<Seat<Admin<P>>>,
+) -> Result<Totals<P>, NoMemory>
     requires seats { All (λ s. s.turn ≡ turn.turn) seats.items }
     requires all { length seats.items ≡ turn.seats }
     requires passes { All (IsOwn publisher) passes.items }

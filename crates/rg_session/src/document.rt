@@ -13,7 +13,7 @@ ghost use Rattle.rg_session.specs.Refreshing.{is_partial};
 ghost use Rattle.rg_session.specs.Right.{AreRightFor};
 
 use crate::laws::{documents_come, documents_lead, right_lists_stay_right};
-use rg_admin::Admin;
+use rg_admin::{Admin, Recorder};
 use rg_base::{NoMemory, Text, TryCopy};
 use rg_cmd::{AdminCommand, AdminReply, Ask, Download, PolicyPart, RolePart, TagPart};
 use rg_publish::{Engine, Publisher};
@@ -54,11 +54,11 @@ fn download_ask(alloc: Global, engine: &Engine, service: &Text) -> Result<Ask, N
 }
 
 /// One call of the seat: the plugin's download by the empty actor.
-fn download<R: Wait>(
+fn download<P: Recorder, R: Wait>(
     rt: &R,
     alloc: Global,
-    turn: &Turn<Admin>,
-    seat: &mut Seat<Admin>,
+    turn: &Turn<Admin<P>>,
+    seat: &mut Seat<Admin<P>>,
     engine: &Engine,
     service: &Text,
 ) -> Result<AdminReply, NoMemory>
@@ -90,12 +90,12 @@ fn document_in(reply: AdminReply) -> Download
 }
 
 /// The document of the plugin's download from the versions of the newest publication.
-pub(crate) fn document<P: Wait + Drop, R: Wait>(
+pub(crate) fn document<P: Recorder, Q: Wait + Drop, R: Wait>(
     rt: &R,
     alloc: Global,
-    turn: &Turn<Admin>,
-    seat: &mut Seat<Admin>,
-    publisher: &Publisher<P>,
+    turn: &Turn<Admin<P>>,
+    seat: &mut Seat<Admin<P>>,
+    publisher: &Publisher<Q>,
     service: &Text,
 ) -> Result<Download, NoMemory>
     requires turn { seat.old.turn ≡ turn.now.turn }

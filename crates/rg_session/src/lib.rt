@@ -17,5 +17,5 @@ pub use laws::{documents_lead, downloaded_lists_stay, first_is_right, right_list
 pub use leading::{lead, lead_facts};
 pub use opening::{Service, open};
 pub use refresher::{Refresh, Refresher};
-pub use rg_admin::{Admin, StartFault};
+pub use rg_admin::{Admin, Recorder, StartFault, Unkept};
 pub use settling::Ahead;

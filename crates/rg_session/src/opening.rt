@@ -13,7 +13,7 @@ ghost use Rattle.rg_session.specs.Right.{AreRightFor};
 
 use crate::laws::first_is_right;
 use crate::refresher::Refresher;
-use rg_admin::Admin;
+use rg_admin::{Admin, Recorder, Unkept};
 use rg_admin_laws::views_are_sound;
 use rg_base::{Ledger, NoMemory, Steps, TryCopy};
 use rg_publish::{Engine, Pass, begin};
@@ -23,17 +23,17 @@ use std::sync::Wait;
 
 /// A service that is open: its one history, the publications that follow it, and the passes that decide by them.
 #[derive(Drop)]
-pub struct Service<R: Wait + Drop> {
-    pub turn: Turn<Admin>,
-    pub seats: Vec<Seat<Admin>>,
+pub struct Service<R: Wait + Drop, P: Recorder = Unkept> {
+    pub turn: Turn<Admin<P>>,
+    pub seats: Vec<Seat<Admin<P>>>,
     pub refresher: Refresher<R>,
     pub passes: Vec<Pass>,
 }
 
 /// An engine over what the plugin sees.
-fn first_engine<L: Ledger>(
+fn first_engine<P: Recorder, L: Ledger>(
     alloc: Global,
-    admin: &Admin,
+    admin: &Admin<P>,
     steps: &mut Steps<L>,
 ) -> Result<Engine, NoMemory>
     requires { IsStart admin.now }
@@ -47,10 +47,10 @@ fn first_engine<L: Ledger>(
 }
 
 /// A publisher that follows an administration from its start, and its passes. What the plugin sees is serial 1, with seq 0.
-fn first_refresher<R: Wait + Drop, L: Ledger>(
+fn first_refresher<P: Recorder, R: Wait + Drop, L: Ledger>(
     rt: R,
     alloc: Global,
-    admin: &Admin,
+    admin: &Admin<P>,
     passes: u32,
     steps: &mut Steps<L>,
 ) -> Result<(Refresher<R>, Vec<Pass>), NoMemory>
@@ -83,14 +83,14 @@ fn first_refresher<R: Wait + Drop, L: Ledger>(
 
 /// Opens a service over an administration that starts, with 1 to 65 seats and 1 to 64 passes. What the plugin sees is the first
 /// publication, of serial 1 and seq 0. Where memory is refused all is let go.
-pub fn open<R: Wait + Drop, L: Ledger>(
+pub fn open<P: Recorder, R: Wait + Drop, L: Ledger>(
     rt: R,
     alloc: Global,
-    admin: Admin,
+    admin: Admin<P>,
     seats: u32,
     passes: u32,
     steps: &mut Steps<L>,
-) -> Result<Service<R>, NoMemory>
+) -> Result<Service<R, P>, NoMemory>
     requires start { IsStart admin }
     requires seats { (1 ≤ seats) × (seats ≤ 65) }
     requires passes { (1 ≤ passes) × (passes ≤ 64) }

@@ -11,7 +11,7 @@ ghost use Rattle.rg_session.specs.Right.{AreDownloadedFor, AreRightFor};
 use crate::document::{document, is_unchanged};
 use crate::laws::{downloaded_lists_stay, one_more_is_right};
 use crate::leading::lead;
-use rg_admin::Admin;
+use rg_admin::{Admin, Recorder};
 use rg_base::{Ledger, NoMemory, Serial, Steps, Text};
 use rg_cmd::Download;
 use rg_publish::Publisher;
@@ -70,12 +70,12 @@ impl<R: Wait + Drop> Refresher<R> {
     /// Downloads what the plugin lacks, by the empty actor, and publishes what it sees then, unless the three versions are
     /// current. It waits for its turn, and for readers of an older publication. Where memory is refused nothing is published;
     /// the download may stand in the history.
-    pub fn refresh<W: Wait, L: Ledger>(
+    pub fn refresh<P: Recorder, W: Wait, L: Ledger>(
         &mut self,
         rt: &W,
         alloc: Global,
-        turn: &Turn<Admin>,
-        seat: &mut Seat<Admin>,
+        turn: &Turn<Admin<P>>,
+        seat: &mut Seat<Admin<P>>,
         steps: &mut Steps<L>,
     ) -> Result<Refresh, NoMemory>
         requires turn { seat.old.turn ≡ turn.now.turn }

@@ -4,4 +4,4 @@ use Rattle.rg_admin_laws.specs.Logs.{Administration}
 use Rattle.rg_admin.proofs.admin.Admin.counts.Goals as goal
 
 pub returns : goal.returns
-returns c = subst (λ (a : Administration). IsCounted c.self.inside.counts a.state.policies.items) c.self.view_is c.self.invariant.1
+returns g c = subst (λ (a : Administration). IsCounted c.self.inside.counts a.state.policies.items) c.self.view_is c.self.invariant.1

@@ -10,4 +10,5 @@ pub invariant_of-result : goal.invariant_of-result
 invariant_of-result c = (
   reached_start (administration_of c.args.state c.args.logs.items) c.requires.starts c.requires.packed,
   subst (λ (l : Listed Policy). IsCounted c.args.counts l.items) (sym c.requires.starts.policies) c.requires.counted,
+  tt,
 )

@@ -10,7 +10,7 @@ use Rattle.rg_admin.proofs.Reaching.{reached_viewed}
 use Rattle.rg_admin.proofs.admin.Admin.view.Goals as goal
 
 pub unreachable-requires : goal.unreachable-requires
-unreachable-requires c =
+unreachable-requires g c =
     let none : view (administration_in c.self.inside.held) (chars c.args.service.now) ≡ None = search rules in
     let there = subst (λ (a : Administration). list_any (is_service (chars c.args.service.now)) a.state.services.items ≡ true) (sym c.self.view_is) c.requires in
     let seen = reached_viewed (administration_in c.self.inside.held) c.self.invariant.0 (chars c.args.service.now) there in
