@@ -11,9 +11,9 @@ use Rattle.rg_run_script.proofs.Hooks.{audited_none}
 use Rattle.rg_run_script.proofs.Runs.{completes, in_limits}
 use Rattle.rg_run_script.specs.Follow.{worked}
 use Rattle.rg_run_script.specs.Hooked.{Hooked, Hooks, hooked, hooks_of, with_enrichers}
-use Rattle.rg_run_replay.specs.Grants.{State, grants, grants_step}
+use Rattle.rg_run_grants.specs.Grants.{State, grants, grants_step}
 use Rattle.rg_run_replay.specs.Replay.{replayed_with}
-use Rattle.rg_run_replay.specs.Report.{reported}
+use Rattle.rg_run_report.specs.Report.{reported}
 use Rattle.rg_run_serve.specs.Serve.{Door, door}
 use Rattle.rg_run_serve.specs.Serves.{ServesLinks}
 use Rattle.rg_run_keep.specs.Custody.{ByRecords, Keeps, Shelf, shelf}

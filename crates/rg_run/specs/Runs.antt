@@ -11,9 +11,9 @@ use Rattle.rg_run_script.specs.Hooked.{Hooks, hooks_of}
 use Rattle.rg_run_script.specs.Ports.{Ports}
 use Rattle.rg_run_script.specs.Runs.{IsRun, OfStatus, Stands, StandsHooked}
 use Rattle.rg_run_script.specs.Streams.{Wrote, WrotePrefix}
-use Rattle.rg_run_replay.specs.Grants.{grants}
+use Rattle.rg_run_grants.specs.Grants.{grants}
 use Rattle.rg_run_replay.specs.Replay.{replayed_with}
-use Rattle.rg_run_replay.specs.Report.{reported}
+use Rattle.rg_run_report.specs.Report.{reported}
 use Rattle.rg_run_serve.specs.Serve.{Door}
 use Rattle.rg_run_serve.specs.Serves.{ServesLinks}
 use Rattle.rg_run_keep.specs.Custody.{Keeps, Shelf, shelf}

@@ -11,7 +11,7 @@ use Rattle.rg_publish.specs.Bounds.{bound_on}
 use Rattle.rg_drill.specs.Workload.{request_of, requests_of}
 use Rattle.rg_publish.specs.Passes.{Ends}
 use Rattle.rg_publish.specs.declared.history.Publication.{Publication}
-use Rattle.rg_running.specs.Running.{Running, newest}
+use Rattle.rg_run_replay.specs.Running.{Running, newest}
 use Rattle.rg_run_drill.specs.declared.answers.Answers.{Answers}
 use Rattle.rg_run_drill.specs.Drill.{answers_to, with_answer}
 use Rattle.rg_run_drill.proofs.Counting.{one_more_answer}

@@ -8,7 +8,7 @@ use Rattle.rg_policy.specs.declared.request.AccessRequest.{AccessRequest}
 use Rattle.rg_publish.specs.Bounds.{bound_on}
 use Rattle.rg_drill.specs.Workload.{policies_of, requests_of}
 use Rattle.rg_publish.specs.declared.history.Publication.{Publication}
-use Rattle.rg_running.specs.Running.{Running, newest}
+use Rattle.rg_run_replay.specs.Running.{Running, newest}
 use Rattle.rg_run_drill.specs.declared.answers.Answers.{Answers}
 use Rattle.rg_run_drill.specs.declared.totals.Totals.{Totals}
 use Rattle.rg_run_drill.specs.Drill.{IsCarriedFrom, IsTotal, answers_to, drawn_requests, prepared}

@@ -6,7 +6,7 @@ use Rattle.rg_policy.specs.declared.policy.Policy.{Policy}
 use Rattle.rg_cmd.specs.declared.ask.Ask.{Ask}
 use Rattle.rg_drill.specs.Workload.{policies_of, policy_of}
 use Rattle.rg_publish.specs.Passes.{Ends}
-use Rattle.rg_running.specs.Running.{IsRefreshed, Running, asked, refreshed}
+use Rattle.rg_run_replay.specs.Running.{IsRefreshed, Running, asked, refreshed}
 use Rattle.rg_run_drill.specs.Drill.{created, creation, is_due, prepared, refreshed_newest}
 
 module _ (due : Bool) (old then_asked : Running) (p : Policy) (ask : Ask) (is : ask ≡ creation p) (after : then_asked ≡ asked old ask) where

@@ -14,9 +14,9 @@ use Rattle.rg_cmd.specs.declared.ask.Ask.{Ask}
 use Rattle.rg_publish.specs.Bounds.{bound_on}
 use Rattle.rg_drill.specs.Hive.{drill_config}
 use Rattle.rg_drill.specs.Workload.{policies_of, policy_of, requests_of}
-use Rattle.rg_running.specs.Starting.{start_fault}
+use Rattle.rg_run_replay.specs.Starting.{start_fault}
 use Rattle.rg_publish.specs.declared.history.Publication.{Publication}
-use Rattle.rg_running.specs.Running.{Running, asked, newest, opened_unless, refreshed}
+use Rattle.rg_run_replay.specs.Running.{Running, asked, newest, opened_unless, refreshed}
 use Rattle.rg_run_drill.specs.declared.answers.Answers.{Answers}
 use Rattle.rg_run_drill.specs.declared.totals.Totals.{Totals}
 

@@ -6,13 +6,13 @@ ghost use Rattle.rg_publish.specs.Passes.{Ends};
 ghost use Rattle.rg_publish.specs.declared.history.Publication.{Publication};
 ghost use Rattle.rg_drill.specs.Workload.{request_of, requests_of};
 ghost use Rattle.rg_facts.specs.Flow.{eval};
-ghost use Rattle.rg_running.specs.Running.{newest};
+ghost use Rattle.rg_run_replay.specs.Running.{newest};
 ghost use Rattle.rg_run_drill.specs.Drill.{answered, answers_to, none_answered, with_answer};
 
 use rg_base::{Ledger, NoMemory, Steps};
 use rg_drill::Generator;
 use rg_facts::Access;
-use rg_running::Running;
+use rg_run_replay::Running;
 use std::alloc::Global;
 use std::sync::Wait;
 

@@ -7,7 +7,7 @@ use crate::preparing::{PUBLISHED_AT_ONCE, prepare};
 use crate::totals::Totals;
 use rg_base::{Counted, NoMemory, Steps};
 use rg_drill::{Generator, drill_config};
-use rg_running::Running;
+use rg_run_replay::Running;
 use std::alloc::Global;
 use std::sync::Wait;
 

@@ -7,7 +7,7 @@ use rg_base::{Ledger, NoMemory, Steps, Text};
 use rg_cmd::{AdminCommand, AdminReply, Ask};
 use rg_drill::Generator;
 use rg_policy::Policy;
-use rg_running::Running;
+use rg_run_replay::Running;
 use std::alloc::Global;
 use std::sync::Wait;
 

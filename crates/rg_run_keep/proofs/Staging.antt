@@ -6,9 +6,9 @@ use Rattle.rg_hook.specs.Enriching.{EnricherState, Enriching}
 use Rattle.rg_cmd.specs.declared.ask.AdminReply.{AdminReply}
 use Rattle.rg_cmd.specs.declared.ask.Ask.{Ask}
 use Rattle.rg_cmd.specs.declared.config.Config.{Config}
-use Rattle.rg_keeping.specs.Laws.{is_refused}
-use Rattle.rg_keeping.specs.Logs.{Administration}
-use Rattle.rg_keeping.specs.Current.{decision_now}
+use Rattle.rg_keep.specs.Laws.{is_refused}
+use Rattle.rg_keep.specs.Logs.{Administration}
+use Rattle.rg_run_script.specs.Current.{decision_now}
 use Rattle.rg_ask_wire.specs.Asks.{ask_text}
 use Rattle.rg_ask_wire.specs.Keeping.{is_keeping}
 use Rattle.rg_record_store.specs.declared.keeper.KeeperFault.{KeeperFault}
@@ -21,10 +21,10 @@ use Rattle.rg_keep.specs.declared.kept_admin.KeptReply.TheVariants as reply
 use Rattle.rg_keep.specs.declared.reopen.ReopenCause.{ReopenCause}
 use Rattle.rg_keep.specs.declared.reopen.ReopenCause.TheVariants as cause
 use Rattle.rg_keep.proofs.Stepping.{room_within}
-use Rattle.rg_keeping.specs.Lines.{keep_line_of}
-use Rattle.rg_keeping.specs.Opened.{IsLaterCause}
-use Rattle.rg_keeping.specs.declared.line.KeepLine.{KeepLine}
-use Rattle.rg_keeping.specs.declared.line.KeepLine.TheVariants as line
+use Rattle.rg_run_keep.specs.Lines.{keep_line_of}
+use Rattle.rg_run_keep.specs.Opened.{IsLaterCause}
+use Rattle.rg_run_keep.specs.declared.line.KeepLine.{KeepLine}
+use Rattle.rg_run_keep.specs.declared.line.KeepLine.TheVariants as line
 use Rattle.rg_run_script.specs.Follow.{IsWorked, Work}
 use Rattle.rg_run_script.specs.Hooked.{AreAudited, Hooked, Hooks, IsAudited, IsJudged, carrying, decided_as, hooked}
 use Rattle.rg_run_script.specs.Printed.{quiet, reply_line}

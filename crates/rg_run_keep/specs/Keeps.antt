@@ -6,15 +6,15 @@ use Rattle.rg_policy.specs.declared.request.AccessRequest.{AccessRequest}
 use Rattle.rg_cmd.specs.declared.ask.Ask.{Ask}
 use Rattle.rg_cmd.specs.declared.config.Config.{Config}
 use Rattle.rg_cmd.specs.declared.rule.Rule.{Rule}
-use Rattle.rg_keeping.specs.Logs.{Administration}
-use Rattle.rg_keeping.specs.Starting.{start_fault}
-use Rattle.rg_keeping.specs.Current.{decision_now}
+use Rattle.rg_keep.specs.Logs.{Administration}
+use Rattle.rg_keep.specs.Starting.{start_fault}
+use Rattle.rg_run_script.specs.Current.{decision_now}
 use Rattle.rg_ask_wire.specs.Asks.{ask_text}
 use Rattle.rg_keep.specs.Keeping.{added_if, is_past}
 use Rattle.rg_keep.specs.Replay.{first_bad, is_kept, replayed, stepped}
-use Rattle.rg_keeping.specs.Lines.{keep_line_of}
-use Rattle.rg_keeping.specs.declared.line.KeepLine.{KeepLine}
-use Rattle.rg_keeping.specs.declared.line.KeepLine.TheVariants as line
+use Rattle.rg_run_keep.specs.Lines.{keep_line_of}
+use Rattle.rg_run_keep.specs.declared.line.KeepLine.{KeepLine}
+use Rattle.rg_run_keep.specs.declared.line.KeepLine.TheVariants as line
 use Rattle.rg_hook.specs.Enriching.{EnricherState}
 use Rattle.rg_run_script.specs.Follow.{Output, Work, worked}
 use Rattle.rg_run_script.specs.Hooked.{Hooked, carrying, hooked, judged, with_enrichers}

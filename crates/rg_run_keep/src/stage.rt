@@ -5,11 +5,12 @@ ghost use Rattle.rg_run_keep.specs.Keeps.{ask_work, config_work, full_line, judg
 ghost use Rattle.rg_run_keep.specs.Stages.{Goes, GoesOn, IsLeft, Stops, StopsAt, keeper_of, kept_reply_line, line_step, opened_of, stop_of_cause, stop_of_fault};
 ghost use Rattle.rg_run_script.specs.Hooked.{hooks_of};
 
+use crate::keeping::Keeping;
+use crate::line::{KeepLine, read_keep_line};
 use rg_base::{Moment, NoMemory};
 use rg_cmd::{Ask, Config};
 use rg_hook::RequestHooks;
 use rg_keep::{KeptReply, ReopenCause};
-use rg_keeping::{KeepLine, Keeping, read_keep_line};
 use rg_policy::AccessRequest;
 use rg_record_store::{Keeper, KeeperFault};
 use rg_run_script::{LineFault, add_reply, judge};

@@ -1,5 +1,5 @@
 -- What the lines of an administration come to.
-use Rattle.std.proofs.Common.{◌≡◌, ◌∙◌, ◌++◌, ℕ, Bool, true, false, not, if◌then◌else◌, List, Option, None, Result, Ok, Err, OnOk, Some, option_map, append-nil, ap, refl, sym, subst}
+use Rattle.std.proofs.Common.{◌≡◌, ◌∙◌, ◌++◌, ℕ, Bool, true, false, not, if◌then◌else◌, List, Option, None, Some, option_map, append-nil, ap, refl, sym, subst}
 use Rattle.std.proofs.lemmas.Option.{same_Some}
 use Rattle.rg_base.specs.declared.numbers.Serial.{Serial}
 use Rattle.rg_policy.specs.declared.request.AccessRequest.{AccessRequest}
@@ -10,32 +10,21 @@ use Rattle.rg_cmd.specs.declared.ask.AdminReply.{AdminReply}
 use Rattle.rg_cmd.specs.declared.ask.Ask.{Ask}
 use Rattle.rg_admin_laws.specs.Steps.{step}
 use Rattle.rg_publish.specs.Passes.{Ends, decision_of}
-use Rattle.rg_admin_laws.specs.Logs.{Administration}
-use Rattle.rg_running.specs.Running.{IsRefreshed, Running, asked, newest}
-use Rattle.rg_granting.specs.Steps.{granted}
-use Rattle.rg_granting.specs.GrantAsk.{GrantAsk}
+use Rattle.rg_run_replay.specs.Running.{IsRefreshed, Running, asked, newest}
 use Rattle.rg_run_replay.specs.declared.replay.Stage.TheVariants as state
 use Rattle.rg_run_script.specs.Follow.{IsWorked}
-use Rattle.rg_run_replay.specs.Grants.{ask_work}
 use Rattle.rg_run_replay.specs.Replay.{State, admin_work, judge_work, line_work_with, prepare_work, published_facts, refresh_line, refresh_work, refreshed_from, request_in}
 use Rattle.rg_hook.specs.Enriching.{EnricherState}
 use Rattle.rg_script.specs.declared.line.Line.{Line}
 use Rattle.rg_script.specs.declared.line.Line.TheVariants as line
 use Rattle.rg_run_script.specs.Hooked.{Hooks, IsAudited, carrying, hooked}
 use Rattle.rg_run_script.specs.Printed.{reply_line}
-use Rattle.rg_run_script.proofs.Hooks.{carried, carried_silent, carries_bad, carries_hooks, judged_audited, judged_worked}
+use Rattle.rg_run_script.proofs.Hooks.{carried, carries_hooks}
 
 pub asked_work : (r later : Running) (ask : Ask) (reply : AdminReply) (text text' : List ℕ) → later ≡ asked r ask → reply ≡ (step r.admin ask).1 → text' ≡ text ++ reply_line reply
     → IsWorked (admin_work (state.Config r) ask) (state.Config later) text text'
 unfolding admin_work
 asked_work r later ask reply text text' now answers printed = (ap state.Config now, printed ∙ ap (λ a. text ++ reply_line a) answers)
-
--- the same of an administration with grants
-pub granted_work : (a later : Administration) (ask : GrantAsk) (reply : AdminReply) (text text' : List ℕ) → (later, reply) ≡ granted a ask → text' ≡ text ++ reply_line reply
-    → IsWorked (ask_work (Some a) ask) (Some later) text text'
-unfolding ask_work
-granted_work a later ask reply text text' is printed =
-    (ap (λ (r : Administration × AdminReply). Some r.0) is, printed ∙ ap (λ (r : Administration × AdminReply). text ++ reply_line r.1) is)
 
 pub refreshed_work : (r later : Running) (serial : Option Serial) (text text' : List ℕ) → Ends r.published (λ p. IsRefreshed r p serial later)
     → text' ≡ text ++ refresh_line serial → IsWorked (refresh_work (state.Config r)) (state.Config later) text text'
@@ -47,17 +36,6 @@ refreshed_work r later serial text text' (p, last, is) printed =
 -- a decision by the newest publication
 pub decided_last : (r : Running) (q : AccessRequest) (d : Decision) → Ends r.published (λ p. d ≡ decision_of p q) → Some d ≡ option_map (λ p. decision_of p q) (newest r)
 decided_last r q d (p, last, is) = subst (λ o. Some d ≡ option_map (λ p. decision_of p q) o) (sym last) (ap Some is)
-
--- a request that was judged
-pub ruleset judging = (judged_worked, judged_audited)
-
--- a line that decides nothing, with hooks
-pub ruleset undecided = (carried, carried_silent, carries_hooks, carries_bad)
-
--- what holds where the line is written
-pub written_so : {A E : Type 0} (result : Result A E) (P Q : Type 0) → (P → Q) → OnOk result P → OnOk result Q
-written_so (Ok x) P Q so p = so p
-written_so (Err e) P Q so p = tt
 
 -- ---- facts that are published
 

@@ -1,5 +1,5 @@
-pub mod Grants
+pub mod Held
 pub mod Replay
-pub mod Report
+pub mod Running
 -- of the crates below, for those above
-pub use Rattle.rg_running.specs.Running
+pub use Rattle.rg_session.specs.Starting

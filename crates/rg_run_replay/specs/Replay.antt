@@ -1,5 +1,5 @@
 -- The command `replay`: a script of facts, or of an administration and its plugin.
-use Rattle.std.specs.Prelude.{ℕ, ◌++◌, List, [], codes, decimal, Option, Some, None, option_map, if◌then◌else◌}
+use Rattle.std.specs.Prelude.{◌≡◌, ℕ, ◌++◌, true, List, [], codes, decimal, Option, Some, None, option_map, if◌then◌else◌}
 use Rattle.rg_base.specs.declared.numbers.Moment.{Moment}
 use Rattle.rg_base.specs.declared.numbers.Serial.{Serial}
 use Rattle.rg_policy.specs.declared.request.AccessRequest.{AccessRequest}
@@ -9,11 +9,11 @@ use Rattle.rg_facts.specs.Sound.{sound}
 use Rattle.rg_cmd.specs.declared.ask.Ask.{Ask}
 use Rattle.rg_cmd.specs.declared.config.Config.{Config}
 use Rattle.rg_admin_laws.specs.Steps.{step}
-use Rattle.rg_running.specs.Starting.{start_fault}
+use Rattle.rg_session.specs.Starting.{start_fault}
 use Rattle.rg_publish.specs.Passes.{decision_of}
 use Rattle.rg_publish.specs.Publications.{publication}
 use Rattle.rg_publish.specs.declared.history.Publication.{Publication}
-use Rattle.rg_running.specs.Running.{Running, asked, newest, opened_unless, refresh_publishes, refreshed, serial_of}
+use Rattle.rg_run_replay.specs.Running.{Running, asked, newest, opened_unless, refresh_publishes, refreshed, serial_of}
 use Rattle.rg_script.specs.declared.line.Line.{Line}
 use Rattle.rg_script.specs.declared.line.Line.TheVariants as line
 use Rattle.rg_script.specs.Line.{line_of}
@@ -42,6 +42,11 @@ prints text r = record { text = text; state = state.Config r; decided = [] }
 -- a script may begin with facts, which are sound
 unfoldable pub published_facts : Facts → Option Facts
 published_facts facts = if sound facts then Some facts else None
+
+-- those that are published are sound
+abbrev pub AreSound : Option Facts → Type 0
+AreSound None = Unit {0}
+AreSound (Some facts) = sound facts ≡ true
 
 unfoldable pub facts_work : State → Facts → Option (Work State)
 facts_work state.Empty facts = option_map (λ f. quiet (state.Facts f)) (published_facts facts)

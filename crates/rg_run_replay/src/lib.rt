@@ -1,10 +1,8 @@
-// The commands that do no more than work a script: `replay`, `grants` and `report`.
+// The command `replay`: a script of facts, or of an administration that is running with its publications and one pass.
 #![tactic(auto)]
 
-mod grants;
 mod replay;
-mod report;
+mod running;
 
-pub use grants::Grants;
-pub use replay::{Replay, Stage};
-pub use report::Reports;
+pub use replay::{Published, Replay, Stage, publish};
+pub use running::Running;

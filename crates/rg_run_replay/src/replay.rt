@@ -1,13 +1,14 @@
 // The command `replay`: a script of facts, or of an administration and its plugin.
 ghost use Rattle.std.specs.Prelude.{◌≡◌, ◌++◌, [], Err, None, Some, true, IfOk, OnErr, OnOk, option_map, string_bytes};
 ghost use Rattle.rg_facts.specs.Sound.{sound};
-ghost use Rattle.rg_running.specs.Starting.{start_fault};
-ghost use Rattle.rg_running.specs.Running.{opened_unless};
+ghost use Rattle.rg_session.specs.Starting.{start_fault};
+ghost use Rattle.rg_run_replay.specs.Running.{opened_unless};
 ghost use Rattle.rg_run_script.specs.Follow.{IsWorked};
 ghost use Rattle.rg_run_script.specs.Hooked.{HaveRunOn, IsAudited, hooked, hooks_of};
 ghost use Rattle.rg_run_replay.specs.Replay.{admin_work, config_work, decision_by_newest, facts_work, judge_work, newest_of, prepare_work, published_facts, refresh_line, refresh_work, request_in};
-ghost use Rattle.rg_run_replay.specs.Report.{AreSound};
+ghost use Rattle.rg_run_replay.specs.Replay.{AreSound};
 
+use crate::running::Running;
 use rg_base::{Moment, NoMemory, Serial, Steps, Text, TryCopy};
 use rg_cmd::{Ask, Config};
 use rg_facts::{Decision, Facts};
@@ -15,7 +16,6 @@ use rg_hook::RequestHooks;
 use rg_policy::AccessRequest;
 use rg_publish::{Engine, numbered};
 use rg_run_script::{Decider, HookedWorker, add_reply, judge};
-use rg_running::Running;
 use rg_script::{Line, LineFault, facts_fault, read_line};
 use std::alloc::Global;
 use std::marker::Model;
@@ -43,7 +43,7 @@ impl Model for Published {
 
 impl Published {
     /// The engine, by which reports are made too.
-    pub(crate) fn engine(&self) -> &Engine
+    pub fn engine(&self) -> &Engine
         ensures { result.now ≡ self.now }
     {
         &self.engine
@@ -78,7 +78,7 @@ pub(crate) struct Administered<'a, R: Wait> {
 
 impl<'a, R: Wait> Model for Administered<'a, R> {
     ghost use Rattle.std.specs.Box.{box_value};
-    ghost use Rattle.rg_running.specs.Running as the;
+    ghost use Rattle.rg_run_replay.specs.Running as the;
 
     ghost Value = { the.Running };
 
@@ -88,7 +88,7 @@ impl<'a, R: Wait> Model for Administered<'a, R> {
 impl<'a, R: Wait> Decider for Administered<'a, R> {
     ghost use Rattle.std.specs.Prelude.{option_map};
     ghost use Rattle.rg_publish.specs.Passes.{decision_of};
-    ghost use Rattle.rg_running.specs.Running.{newest};
+    ghost use Rattle.rg_run_replay.specs.Running.{newest};
 
     ghost served = { λ r. r.plugin };
 
@@ -164,7 +164,7 @@ fn build(alloc: Global, facts: Facts) -> Result<Option<Published>, NoMemory>
 }
 
 /// The engine over facts that are sound; None for facts that aren't.
-pub(crate) fn publish(alloc: Global, facts: Facts) -> Result<Option<Published>, NoMemory>
+pub fn publish(alloc: Global, facts: Facts) -> Result<Option<Published>, NoMemory>
     ensures made { IfOk result (λ engine. engine ≡ published_facts facts) }
     ensures sound { IfOk result (λ engine. AreSound engine) }
 {
@@ -393,7 +393,7 @@ impl<'a, R: Wait> Replay<'a, R> {
     }
 
     /// Decides the request by what is published last, prints the decision, and audits it.
-    #[tactic(auto, using(crate::proofs::Working::judging), unfolding(crate::specs::Replay::judge_work))]
+    #[tactic(auto, using(rg_run_script::proofs::Hooks::judges), unfolding(crate::specs::Replay::judge_work))]
     fn decide<H: RequestHooks>(
         &mut self,
         alloc: Global,

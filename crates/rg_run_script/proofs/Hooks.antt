@@ -192,3 +192,11 @@ module _ {S : Type 0} (s : S) (service : List ℕ) (decide : AccessRequest → O
     lines = subst (λ r. AreGiven (audit_lines (decided_as service q r is.decision ∷ [])) h.sinks k.sinks) (sym same_request) is.given;
     enriched = (refl, same_enrichers);
   })
+
+-- ---- what commands rest on
+
+-- a request that was judged
+pub ruleset judges = (judged_worked, judged_audited)
+
+-- a line that decides nothing, with hooks
+pub ruleset carries = (carried, carried_silent, carries_hooks, carries_bad)

@@ -1,3 +1,4 @@
+pub mod Current
 pub mod Follow
 pub mod Hooked
 pub mod Limits

@@ -2,6 +2,7 @@
 #![tactic(auto)]
 
 mod auditing;
+mod current;
 mod hooked;
 mod judging;
 mod lines;
@@ -12,6 +13,7 @@ mod status;
 mod work;
 mod writing;
 
+pub use current::decide_now;
 pub use hooked::{HookedWorker, follow_hooked};
 pub use judging::{Decider, judge};
 pub use lines::{Worked, Worker, follow, name_bad_line};

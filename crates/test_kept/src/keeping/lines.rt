@@ -1,7 +1,7 @@
 // Lines of a script of a kept administration.
 use rg_ask_wire::print_ask;
 use rg_base::Moment;
-use rg_keeping::{KeepLine, read_keep_line};
+use rg_run_keep::{KeepLine, read_keep_line};
 use rg_script::LineFault;
 use std::alloc::{AllocError, Global};
 

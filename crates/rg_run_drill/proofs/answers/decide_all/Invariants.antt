@@ -3,7 +3,7 @@ use Rattle.std.specs.List.{sum_by}
 use Rattle.rg_publish.specs.Bounds.{bound_on}
 use Rattle.rg_drill.specs.Workload.{requests_of}
 use Rattle.rg_publish.specs.declared.history.Publication.{Publication}
-use Rattle.rg_running.specs.Running.{newest}
+use Rattle.rg_run_replay.specs.Running.{newest}
 use Rattle.rg_run_drill.specs.Drill.{answered, answers_to}
 use Rattle.rg_run_drill.proofs.answers.decide_all.Given as goal
 

@@ -1,7 +1,8 @@
 use Rattle.std.proofs.Common.{◌∙◌, ap, string_bytes}
 use Rattle.rg_admin_laws.specs.Steps.{step}
-use Rattle.rg_running.specs.Running.{Running, asked}
-use Rattle.rg_run_replay.proofs.Working.{asked_work, written_so}
+use Rattle.rg_run_replay.specs.Running.{Running, asked}
+use Rattle.rg_run_replay.proofs.Working.{asked_work}
+use Rattle.rg_run_script.proofs.Written.{written_so}
 use Rattle.rg_run_replay.proofs.replay.ask_and_print.Goals as goal
 
 pub returns : goal.returns

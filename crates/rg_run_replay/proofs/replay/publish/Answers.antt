@@ -1,7 +1,7 @@
 use Rattle.std.proofs.Common.{◌∙◌, sym, subst}
 use Rattle.std.proofs.lemmas.Result.{IfOk-weaker}
 use Rattle.rg_facts.specs.Sound.{sound}
-use Rattle.rg_run_replay.specs.Report.{AreSound}
+use Rattle.rg_run_replay.specs.Replay.{AreSound}
 use Rattle.rg_run_replay.proofs.Working.{published, unpublished, with_fault, without_fault}
 use Rattle.rg_run_replay.proofs.replay.publish.Goals as goal
 

@@ -1,7 +1,8 @@
 use Rattle.std.proofs.Common.{◌∙◌, string_bytes, subst}
 use Rattle.rg_publish.specs.Passes.{Ends}
-use Rattle.rg_running.specs.Running.{IsRefreshed, Running}
-use Rattle.rg_run_replay.proofs.Working.{refreshed_work, written_so}
+use Rattle.rg_run_replay.specs.Running.{IsRefreshed, Running}
+use Rattle.rg_run_replay.proofs.Working.{refreshed_work}
+use Rattle.rg_run_script.proofs.Written.{written_so}
 use Rattle.rg_run_replay.proofs.replay.refresh_and_print.Goals as goal
 
 pub returns : goal.returns

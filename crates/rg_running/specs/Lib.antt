@@ -1,4 +1,0 @@
-pub mod Held
-pub mod Running
--- of the crates below, for those above
-pub use Rattle.rg_session.specs.Starting
