@@ -200,4 +200,5 @@ def safe_link(link):
         return ""
 
 
-main()
+if __name__ == "__main__":
+    main()
