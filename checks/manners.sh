@@ -1,7 +1,7 @@
 #!/usr/bin/env bash
 # Looks at what bin/rangerd says besides what the program prints: help without a build, the address of `serve`, what is said after status 2,
 # and the statuses, which are the program's own or 125. What it prints on standard output is compared with what the program prints. The same
-# of the words of bin/rangerd-explain, bin/rangerd-test and bin/rangerd-view.
+# of the words of bin/rangerd-explain, bin/rangerd-test, bin/rangerd-view and bin/rangerd-plugin.
 # usage: checks/manners.sh [PROGRAM [EXPLAINER [TESTER [VIEWER]]]]      (the built ones where not given)
 set -u
 cd "$(dirname "$0")/.." || exit 1
@@ -10,7 +10,7 @@ explainer=$(readlink -m "${2:-crates/rangerd_explain/out/rangerd_explain}") test
 viewer=$(readlink -m "${4:-crates/rangerd_view/out/rangerd_view}")
 room=$(mktemp -d)
 trap 'rm -rf "$room"' EXIT
-mkdir "$room/bin" && cp bin/rangerd bin/rangerd-explain bin/rangerd-test bin/rangerd-view "$room/bin" || exit 1
+mkdir "$room/bin" && cp bin/rangerd bin/rangerd-explain bin/rangerd-test bin/rangerd-view bin/rangerd-plugin "$room/bin" || exit 1
 passed=0 failed=0
 
 # What bin/built is here: it prints where the program lies, or isn't there and says so.
@@ -66,6 +66,9 @@ done
 for words in '' 127.0.0.1:1 '127.0.0.1:1 hive1 root more'; do
   run_wrong rangerd-view "^usage: rangerd-view " $words
 done
+for words in '' '127.0.0.1:1 hive1 cache 127.0.0.1:0' '127.0.0.1:1 hive1 cache 127.0.0.1:0 1 audit more'; do
+  run_wrong rangerd-plugin "^usage: rangerd-plugin " $words
+done
 run_wrong rangerd-explain "No such file" ./nowhere
 run_wrong rangerd-test "No such file" --junit ./nowhere
 
@@ -90,6 +93,8 @@ for name in rangerd-explain rangerd-test; do
 done
 "$room/bin/rangerd-view" 127.0.0.1:1 hive1 > "$room/printed" 2> /dev/null
 judge "rangerd-view isn't built" "$? $(wc -c < "$room/printed")" "125 0"
+"$room/bin/rangerd-plugin" 127.0.0.1:1 hive1 "$room/cache" 127.0.0.1:0 1 > "$room/printed" 2> /dev/null
+judge "rangerd-plugin isn't built" "$? $(wc -c < "$room/printed")" "125 0"
 build_as "echo '$program'"
 
 # A service on a port that the system chooses is named once it listens, and ended by what ends bin/rangerd.
