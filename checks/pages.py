@@ -44,6 +44,9 @@ STARTS = re.compile(r"^bin/rangerd serve [^&\n]*\n\Z", re.MULTILINE)
 LEFT_OUT = [
     ("README.md", ".ci/run", "it is the gate, which this is a part of"),
     ("CONTRIBUTING.md", "rt check", "it proves for minutes, and the gate does so already"),
+    ("README.md", "bin/rangerd-plugin", "it runs until it is ended; checks/plugin.py runs plugins"),
+    ("docs/PLUGIN.md", "bin/rangerd-plugin", "it runs until it is ended; checks/plugin.py runs plugins"),
+    ("docs/PLUGIN.md", "curl", "it asks a plugin, as checks/plugin.py does"),
 ]
 # Blocks that are no commands, by their language.
 NO_COMMANDS = {
