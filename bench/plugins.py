@@ -199,12 +199,14 @@ def run(given, served, cache, plugins):
     time.sleep(3)
     size = cache.stat().st_size
     idle = spent(process, 20)
-    link = http.client.HTTPConnection("127.0.0.1", port, timeout=60)
     numbers = iter(range(1, given.policies + 1))
 
     def change():
+        # (a connection that was silent for half a minute is closed)
+        link = http.client.HTTPConnection("127.0.0.1", port, timeout=60)
         number = next(numbers)
         ask(link, "PUT", f"{API}/policy/{number}", {**policy(number, "bob"), "id": number})
+        link.close()
 
     busy = spent(process, 20, change)
     arrivals = sorted(arrival(given, port, listens, number) for number in range(1, 12))

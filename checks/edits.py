@@ -20,6 +20,8 @@ def fault(edit, crate):
                 return f"there is no {file}"
             texts.setdefault(file, path.read_text())
         elif key == "old":
+            if file is None:
+                return "no line before its first `old:` names a file"
             old = rest
             if texts[file].count(old) != 1:
                 return f"stands {texts[file].count(old)} times in {file}: {old.strip()}"
