@@ -16,9 +16,11 @@ use Rattle.rg_trie.specs.declared.pair.Pair.{Pair}
 use Rattle.rg_trie.specs.Blocks.{IsSized, pairs_of}
 use Rattle.rg_trie.specs.Hashed.{IsFrom, entries_at, entries_beyond, entries_from}
 use Rattle.rg_trie.specs.Keyed.{entries_of_key}
-use Rattle.rg_trie.specs.Sought.{IsWalking, before}
+use Rattle.rg_trie.specs.Pairs.{Below}
+use Rattle.rg_trie.specs.Sought.{IsWalking, before, is_past}
 use Rattle.rg_trie.proofs.Keys.{first_gives, first_other}
-use Rattle.rg_trie.proofs.Orders.{equal_from_eq}
+use Rattle.rg_trie.proofs.Orders.{before_early, equal_from_eq, from_not}
+use Rattle.rg_trie.proofs.Rise.{all_fail}
 
 -- ---- what was found for one prefix
 
@@ -41,6 +43,14 @@ found_some tree key hash pairs h e = ap (λ o. entries_of_key key (unwrap_or o [
 -- the pairs from the first on that doesn't come before a key
 pub from_start : (text key : List ℕ) (back : List Pair) (after : List Held) → text ≡ key → IsWalking back after → All (λ p. before text Start p ≡ false) (back ++ pairs_of after) → IsFrom key back after
 from_start text key back after e w a = subst (λ k. IsFrom k back after) e (record { walking = w; from = a })
+
+-- where the first pair doesn't come before a key, none does
+pub from_first : (key : List ℕ) (back : List Pair) (after : List Held) → IsWalking back after → is_past key back ≡ true → IsFrom key back after
+from_first key [] after w t = cc
+from_first key (p ∷ ps) after w t = record {
+  walking = w;
+  from = all_fail Below (before key Start) (before_early key Start) ((p ∷ ps) ++ pairs_of after) w.rising 0 (λ d l. from_not (before key Start p) t);
+}
 
 pub rest_fits : (whole passed rest : List Pair) (total : ℕ) → whole ≡ passed ++ rest → total ≡ length whole → total < 2 ^ 64 → length rest < 2 ^ 64
 rest_fits whole passed rest total e t l = omega (arith, ap length e, length-append passed rest, t, l)

@@ -26,6 +26,11 @@ abbrev pub first_is : Pair → List Pair → Bool
 first_is p [] = false
 first_is p (q ∷ qs) = is_eq (pair_order q p)
 
+-- the first pair doesn't come before those with the key
+abbrev pub is_past : List ℕ → List Pair → Bool
+is_past key [] = false
+is_past key (p ∷ ps) = not (before key Start p)
+
 -- all pairs, cut where p stands or would stand: whole blocks, both parts of one block, and whole blocks
 pub record IsCut (p : Pair) (all : List Pair) (first : List Held) (front back : List Pair) (last : List Held) : Type 0 where
   pub whole : all ≡ (pairs_of first ++ front) ++ (back ++ pairs_of last)

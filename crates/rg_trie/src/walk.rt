@@ -8,12 +8,12 @@ ghost use Rattle.rg_trie.specs.Blocks.{pairs_of};
 ghost use Rattle.rg_trie.specs.Hashed.{Covers, IsFrom, entries_at, entries_from, entries_left};
 ghost use Rattle.rg_trie.specs.Keyed.{entries_of_key};
 ghost use Rattle.rg_trie.specs.Pairs.{folded};
-ghost use Rattle.rg_trie.specs.Sought.{IsWalking, before};
+ghost use Rattle.rg_trie.specs.Sought.{IsWalking, before, is_past};
 
 use crate::blocks::total_of;
 use crate::bucket::Bucket;
 use crate::lengths::Lengths;
-use crate::order::Mark;
+use crate::order::{Mark, is_before};
 use crate::pair::{Filed, Held, Pair};
 use crate::prefix::Prefix;
 use crate::seek::{ends_before, find, place_of};
@@ -85,7 +85,18 @@ fn nothing<'a>() -> Rest<'a>
     }
 }
 
-/// The pairs of the bucket from the first on of which the key is the prefix or comes after it.
+/// Whether the first pair doesn't come before those of the prefix, so that none does.
+fn is_past(pairs: &[Pair], prefix: &Prefix<'_>) -> bool
+    ensures { result ≡ is_past prefix.now.seen pairs.now }
+{
+    match pairs.first() {
+        Some(pair) => !is_before(pair, prefix.seen, prefix.fold, Mark::Start),
+        None => false,
+    }
+}
+
+/// The pairs of the bucket from the first on of which the key is the prefix or comes after it. Nearly always that is its first pair,
+/// since its keys have one hash.
 fn from_key<'a>(bucket: &'a Bucket, prefix: &Prefix<'_>) -> Rest<'a>
     ensures from { IsFrom prefix.now.seen result.back.now result.after.now }
     ensures fits { length (result.back.now ++ pairs_of result.after.now) < 2 ^ 64 }
@@ -93,6 +104,10 @@ fn from_key<'a>(bucket: &'a Bucket, prefix: &Prefix<'_>) -> Rest<'a>
 {
     let blocks = bucket.blocks.as_slice();
     let total = total_of(blocks);
+    let whole = opened(&[], blocks);
+    if is_past(whole.back, prefix) {
+        return whole;
+    }
     advance(&[], blocks, prefix.seen, prefix.fold, Mark::Start)
 }
 
