@@ -6,18 +6,20 @@ use Rattle.rg_base.specs.declared.numbers.Moment.{Moment}
 use Rattle.rg_http.specs.declared.message.Message.{Message}
 use Rattle.rg_http.specs.declared.message.Response.{Response}
 use Rattle.rg_http.specs.declared.message.End.{End}
-use Rattle.rg_http.specs.declared.message.End.TheVariants.{Ended, Cut, Bad, Full}
-use Rattle.rg_http.specs.Framing.{HasMessage, HasBad}
+use Rattle.rg_http.specs.declared.message.End.TheVariants.{Ended, Full}
+use Rattle.rg_http.specs.Framing.{HasMessage}
 use Rattle.rg_http.specs.Answers.{IsRead, Wrote}
 use Rattle.rg_http.specs.Messages.{Messages, Stops}
 use Rattle.rg_http.specs.Print.{response_text}
 use Rattle.rg_link.specs.Answers.{Answers, end_text, texts}
 use Rattle.rg_link.specs.Audits.{AreAudited}
+use Rattle.rg_link.specs.Coming.{BreaksOff}
 use Rattle.rg_link.specs.Loop.{Going, IsAnswered, IsServed, IsUnanswered, StayOpen, Unserved}
 use Rattle.rg_link.specs.Sessions.{Broken, Fronts, IsCause, IsTail, MayHaveRun, Served, Wire, message_limit}
 use Rattle.rg_link.specs.Workers.{Leads, Worker}
 use Rattle.rg_http.proofs.Sparing.{read_more, read_none}
 use Rattle.rg_http.proofs.Written.{wrote_more, wrote_none}
+use Rattle.rg_link.proofs.Unwritten.{off_at_once}
 use Rattle.rg_link.proofs.Steps.{answers_more, answers_pubs, audited_none, audited_trans, begins_append, begins_refl, enriched_trans, leads_refl, leads_trans, texts_more}
 
 -- ---- bytes read
@@ -184,20 +186,9 @@ module _ (plugin : List ℕ) (a b : Worker) (old mid : Wire) (kept : List ℕ) (
     audited = g.audited;
   }
 
-  wrote_nothing : (held : Option (List ℕ)) → held ≡ mid.held → Wrote mid.held held []
-  wrote_nothing held e = subst (λ k. Wrote mid.held k []) (sym e) (wrote_none mid.held)
-
-  pub served_ended : (new : Wire) (more : List ℕ) → IsRead mid.left more new.left → kept ++ more ≡ [] → new.ended ≡ true → new.held ≡ mid.held → count < message_limit → Served plugin a b old new Ended count
-  served_ended new more r e ended held l =
-      stopped new more Ended r (messages_stop (g.read ++ more) g.messages (kept ++ more) Ended (fronts_now more) g.stay (below l) e) (inl ended) (wrote_nothing new.held held)
-
-  pub served_cut : (new : Wire) (more : List ℕ) → IsRead mid.left more new.left → Stops (kept ++ more) Cut → new.ended ≡ true → new.held ≡ mid.held → count < message_limit → Served plugin a b old new Cut count
-  served_cut new more r s ended held l =
-      stopped new more Cut r (messages_stop (g.read ++ more) g.messages (kept ++ more) Cut (fronts_now more) g.stay (below l) s) ended (wrote_nothing new.held held)
-
-  pub served_bad : (new : Wire) (more : List ℕ) (status : ℕ) → IsRead mid.left more new.left → HasBad (kept ++ more) status → Wrote mid.held new.held (end_text (Bad status)) → count < message_limit → Served plugin a b old new (Bad status) count
-  served_bad new more status r bad w l =
-      stopped new more (Bad status) r (messages_stop (g.read ++ more) g.messages (kept ++ more) (Bad status) (fronts_now more) g.stay (below l) bad) (tt {0}) w
+  pub served_over : (new : Wire) (more : List ℕ) (end : End) → IsRead mid.left more new.left → Stops (kept ++ more) end → ((ms : List Message) → IsCause end new.ended ms) → Wrote mid.held new.held (end_text end) → count < message_limit → Served plugin a b old new end count
+  served_over new more end r stops cause w l =
+      stopped new more end r (messages_stop (g.read ++ more) g.messages (kept ++ more) end (fronts_now more) g.stay (below l) stops) (cause g.messages) w
 
   pub served_full : count ≡ message_limit → Served plugin a b old mid Full count
   served_full l =
@@ -237,14 +228,9 @@ module _ (plugin : List ℕ) (a b : Worker) (old mid : Wire) (kept : List ℕ) (
     lines = subst (AreAudited plugin g.decided a.sinks) (sym sinks) g.audited;
   }
 
-  -- nothing was done since but that so much was read
-  pub broken_here : (new : Wire) (more : List ℕ) → IsRead mid.left more new.left → new.held ≡ mid.held → Broken plugin a b old new
-  broken_here new more r held =
-      broken_idle b new more (kept ++ more) [] [] [] (fronts_now more) r (leads_refl b) (omega arith) (inl refl) (wrote_nothing new.held held) (begins_refl []) (inl refl) refl
-
-  pub broken_bad : (new : Wire) (more : List ℕ) (status : ℕ) (part : List ℕ) → IsRead mid.left more new.left → HasBad (kept ++ more) status → Wrote mid.held new.held part → IsPrefix part (end_text (Bad status)) → Broken plugin a b old new
-  broken_bad new more status part r bad w begun =
-      broken_idle b new more (kept ++ more) [] (end_text (Bad status)) part (fronts_now more) r (leads_refl b) (omega arith) (inr (status, refl, refl, bad)) w begun (inl refl) refl
+  pub broken_off : (new : Wire) (more : List ℕ) → IsRead mid.left more new.left → BreaksOff (kept ++ more) mid.held new.held → Broken plugin a b old new
+  broken_off new more r x =
+      broken_idle b new more (kept ++ more) [] x.0 x.1 (fronts_now more) r (leads_refl b) (omega arith) x.2 x.3 x.4 (inl refl) refl
 
   -- the message has no answer
   broken_unanswered : (c : Worker) (new : Wire) (more rest : List ℕ) (m : Message) → IsRead mid.left more new.left → HasMessage (kept ++ more) m rest → IsUnanswered b c → Wrote mid.held new.held [] → c.sinks ≡ b.sinks → Broken plugin a c old new
@@ -286,4 +272,4 @@ module _ (plugin : List ℕ) (a b : Worker) (old mid : Wire) (kept : List ℕ) (
   broken_unserved c new more rest m r h u = elim (u.1) [ inl x ↦ broken_unanswered c new more rest m r h x.0 x.1 u.0 | inr x ↦ broken_within c new more rest m x.0 x.1 r h x.2 x.3 x.4 u.0 ]
 
 pub never_began : (plugin : List ℕ) (law : Law) (a : Worker) (wire : Wire) → Broken plugin a a wire wire
-never_began plugin law a wire = broken_here plugin a a wire wire [] 0 (going_start plugin a wire) law wire [] (read_none wire.left) refl
+never_began plugin law a wire = broken_off plugin a a wire wire [] 0 (going_start plugin a wire) law wire [] (read_none wire.left) (off_at_once [] wire.held wire.held refl)

@@ -5,3 +5,4 @@ pub mod Faults
 pub mod Held
 pub mod Once
 pub mod Steps
+pub mod Unwritten

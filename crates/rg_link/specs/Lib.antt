@@ -1,5 +1,6 @@
 pub mod Answers
 pub mod Audits
+pub mod Coming
 pub mod Loop
 pub mod Sessions
 pub mod Workers

@@ -13,14 +13,15 @@ ghost use Rattle.rg_http.specs.Answers.{Wrote};
 ghost use Rattle.rg_link.specs.Sessions.{Counts};
 
 use crate::report::LinkFault;
+use crate::setting::Setting;
 use crate::writing::send;
 use rg_base::{NoMemory, Text};
 use rg_cmd::{AdminCommand, AdminReply, Ask, Part};
 use rg_http::{Message, Response};
-use rg_ports::Link;
+use rg_ports::{Gate, Link};
 use rg_rest::{Call, response_of};
 use rg_session::{Admin, Bell, Recorder};
-use rg_turn::{Seat, Turn};
+use rg_turn::Seat;
 use std::alloc::Global;
 use std::str;
 use std::sync::Wait;
@@ -58,20 +59,22 @@ fn answered_alike(alloc: Global, command: &AdminCommand, part: Part) -> Call
 }
 
 /// Asks the turn's administration what the message's user commands.
-fn call_turn<P: Recorder, R: Wait>(
-    rt: &R,
-    alloc: Global,
-    turn: &Turn<Admin<P>>,
+fn call_turn<P: Recorder, G: Gate, R: Wait>(
+    setting: &Setting<P, G, R>,
     seat: &mut Seat<Admin<P>>,
     message: &Message,
     command: AdminCommand,
 ) -> Result<AdminReply, NoMemory>
-    requires { seat.old.turn ≡ turn.now.turn }
+    requires { seat.old.turn ≡ setting.now.turn.now.turn }
     ensures same { (seat.new.turn ≡ seat.old.turn) × IsPrefix seat.old.history seat.new.history }
     ensures called { MatchResult result (λ reply. IsCalled seat.old (ask_of message.now command) reply seat.new) (λ _. seat.new.calls ≡ seat.old.calls) }
 {
+    let alloc = setting.alloc();
     match actor_of(alloc, message) {
-        Ok(actor) => match turn.call(rt, alloc, seat, Ask { actor, command }) {
+        Ok(actor) => match setting
+            .turn
+            .call(setting.rt, alloc, seat, Ask { actor, command })
+        {
             Ok(reply) => return Ok(reply),
             Err(refused) => return Err(refused),
         },
@@ -115,26 +118,24 @@ fn respond(
 }
 
 /// Calls the administration, and makes the answer. The bell is rung where something was changed that a plugin may see.
-fn administer<P: Recorder, R: Wait>(
-    rt: &R,
-    alloc: Global,
-    turn: &Turn<Admin<P>>,
+fn administer<P: Recorder, G: Gate, R: Wait>(
+    setting: &Setting<P, G, R>,
     seat: &mut Seat<Admin<P>>,
-    bell: &Bell,
     message: &Message,
     command: AdminCommand,
     part: Part,
 ) -> Result<Response, NoMemory>
-    requires { seat.old.turn ≡ turn.now.turn }
+    requires { seat.old.turn ≡ setting.now.turn.now.turn }
     ensures called { IfOk result (IsCall seat.old seat.new message.now command part) }
     ensures status { IfOk result (λ r. IsStatusCode r.status) }
     ensures uncalled { OnErr result (IsUncalled seat.old seat.new ⊎ ((r : Response) × IsCall seat.old seat.new message.now command part r)) }
 {
+    let alloc = setting.alloc();
     let answered = answered_alike(alloc, &command, part);
     let for_views = is_for_views(&command);
-    match call_turn(rt, alloc, turn, seat, message, command) {
+    match call_turn(setting, seat, message, command) {
         Ok(reply) => {
-            ring_for(rt, bell, for_views, &reply);
+            ring_for(setting.rt, setting.bell, for_views, &reply);
             match respond(alloc, answered, reply, message.close) {
                 Ok(response) => return Ok(response),
                 Err(refused) => return Err(refused),
@@ -148,29 +149,26 @@ fn administer<P: Recorder, R: Wait>(
 }
 
 /// Calls the administration, and writes the answer.
-pub(crate) fn serve_call<P: Recorder, T: Link, R: Wait>(
-    rt: &R,
-    alloc: Global,
+pub(crate) fn serve_call<P: Recorder, T: Link, G: Gate, R: Wait>(
+    setting: &Setting<P, G, R>,
     link: &mut T,
-    turn: &Turn<Admin<P>>,
     seat: &mut Seat<Admin<P>>,
-    bell: &Bell,
     message: &Message,
     command: AdminCommand,
     part: Part,
 ) -> Result<(), LinkFault>
-    requires { seat.old.turn ≡ turn.now.turn }
+    requires { seat.old.turn ≡ setting.now.turn.now.turn }
     ensures served { OnOk result ((r : Response) × IsCall seat.old seat.new message.now command part r × Wrote (T.held link.old) (T.held link.new) (response_text r)) }
     ensures unserved { OnErr result ((IsUncalled seat.old seat.new × Wrote (T.held link.old) (T.held link.new) [])
         ⊎ ((r : Response) × (begun : List ℕ) × IsCall seat.old seat.new message.now command part r × Wrote (T.held link.old) (T.held link.new) begun × IsPrefix begun (response_text r))) }
     ensures faults { MatchResult result (λ _. T.faults link.new ≡ T.faults link.old) (λ f. Counts f (T.faults link.old) (T.faults link.new)) }
     ensures unread { (T.left link.new ≡ T.left link.old) × (T.ended link.new ≡ T.ended link.old) }
 {
-    let response = match administer(rt, alloc, turn, seat, bell, message, command, part) {
+    let response = match administer(setting, seat, message, command, part) {
         Ok(response) => response,
         Err(_) => return Err(LinkFault::NoMemory),
     };
-    match send(alloc, link, &response) {
+    match send(setting.alloc(), link, &response) {
         Ok(()) => Ok(()),
         Err(fault) => Err(fault),
     }

@@ -3,15 +3,19 @@
 
 mod audit;
 mod calls;
+mod coming;
 mod decisions;
 mod laws;
 mod link;
 mod message;
 mod report;
+mod setting;
 mod writing;
 
+pub use coming::{Coming, next_message};
 pub use decisions::serve_decision;
 pub use laws::{answers_are_one, lines_are_held};
 pub use link::serve_link;
 pub use report::{LinkFault, Report};
+pub use setting::Deciding;
 pub use writing::{refuse, send};

@@ -7,11 +7,12 @@ ghost use Rattle.rg_turn.specs.History.{IsLegal};
 ghost use Rattle.rg_link.specs.Sessions.{Broken, Counts, Served, wire};
 ghost use Rattle.rg_link.specs.Workers.{worker_of};
 
+use crate::coming::{Coming, next_message};
 use crate::message::serve_one;
 use crate::report::{LinkFault, Report};
-use crate::writing::refuse;
+use crate::setting::{Deciding, Setting};
 use rg_hook::RequestHooks;
-use rg_http::{End, Framer, Next, judged_stays_judged};
+use rg_http::{End, Framer, judged_stays_judged};
 use rg_ports::{Clock, Gate, Link};
 use rg_publish::Pass;
 use rg_rest::Router;
@@ -26,81 +27,46 @@ const MESSAGE_LIMIT: u32 = 10000;
 /// Answers the messages of a link, one after another, up to the link's end, a message that asks to close, a bad place, or the
 /// 10,000th message.
 fn serve_messages<P: Recorder, T: Link, C: Clock, H: RequestHooks, G: Gate, R: Wait>(
-    rt: &R,
-    alloc: Global,
+    setting: &Setting<P, G, R>,
     link: &mut T,
-    turn: &Turn<Admin<P>>,
     seat: &mut Seat<Admin<P>>,
     pass: &mut Pass,
     clock: &mut C,
     hooks: &mut H,
-    gate: &G,
-    bell: &Bell,
-    plugin: &str,
-    worker: u32,
 ) -> Result<Report, LinkFault>
-    requires { seat.old.turn ≡ turn.now.turn }
-    ensures served { IfOk result (λ report. Served (chars plugin.now)
+    requires { seat.old.turn ≡ setting.now.turn.now.turn }
+    ensures served { IfOk result (λ report. Served (chars setting.now.deciding.plugin.now)
         (worker_of seat.old pass.old (C.given clock.old) (H.sinks hooks.old) (H.enrichers hooks.old))
         (worker_of seat.new pass.new (C.given clock.new) (H.sinks hooks.new) (H.enrichers hooks.new))
         (wire (T.left link.old) (T.held link.old) (T.ended link.old)) (wire (T.left link.new) (T.held link.new) (T.ended link.new)) report.end report.messages) }
-    ensures broken { OnErr result (Broken (chars plugin.now)
+    ensures broken { OnErr result (Broken (chars setting.now.deciding.plugin.now)
         (worker_of seat.old pass.old (C.given clock.old) (H.sinks hooks.old) (H.enrichers hooks.old))
         (worker_of seat.new pass.new (C.given clock.new) (H.sinks hooks.new) (H.enrichers hooks.new))
         (wire (T.left link.old) (T.held link.old) (T.ended link.old)) (wire (T.left link.new) (T.held link.new) (T.ended link.new))) }
     ensures faults { MatchResult result (λ _. T.faults link.new ≡ T.faults link.old) (λ f. Counts f (T.faults link.old) (T.faults link.new)) }
 {
     judged_stays_judged();
-    let Ok(router) = Router::new(alloc) else {
-        return Err(LinkFault::NoMemory);
-    };
+    let alloc = setting.alloc();
     let Ok(mut framer) = Framer::new(alloc) else {
         return Err(LinkFault::NoMemory);
     };
     let mut messages: u32 = 0;
     while messages < MESSAGE_LIMIT {
-        let next = match framer.next(alloc, link) {
-            Ok(next) => next,
-            Err(fault) => return Err(LinkFault::from(fault)),
+        let message = match next_message(alloc, &mut framer, link) {
+            Ok(Coming::Message(message)) => message,
+            Ok(Coming::Over(end)) => return Ok(Report { end, messages }),
+            Err(fault) => return Err(fault),
         };
-        match next {
-            Next::Ended => {
-                return Ok(Report {
-                    end: End::Ended,
-                    messages,
-                });
-            }
-            Next::Cut => {
-                return Ok(Report {
-                    end: End::Cut,
-                    messages,
-                });
-            }
-            Next::Bad(status) => match refuse(alloc, link, status) {
-                Ok(()) => {
-                    return Ok(Report {
-                        end: End::Bad(status),
-                        messages,
-                    });
-                }
-                Err(fault) => return Err(fault),
-            },
-            Next::Message(message) => {
-                match serve_one(
-                    rt, alloc, link, turn, seat, pass, clock, hooks, gate, bell, plugin, worker,
-                    &router, &message,
-                ) {
-                    Ok(()) => {}
-                    Err(fault) => return Err(fault),
-                }
-                messages += 1;
-                if message.close {
-                    return Ok(Report {
-                        end: End::Ended,
-                        messages,
-                    });
-                }
-            }
+        match serve_one(setting, link, seat, pass, clock, hooks, &message) {
+            Ok(()) => {}
+            Err(fault) => return Err(fault),
+        }
+        messages += 1;
+        if message.close {
+            return Ok(Report {
+                end: End::Ended,
+                messages,
+            });
         }
     }
     Ok(Report {
@@ -143,9 +109,24 @@ pub fn serve_link<P: Recorder, T: Link, C: Clock, H: RequestHooks, G: Gate, R: W
     ensures legal { IsLegal step turn.now.start seat.new.history }
     ensures faults { MatchResult result (λ _. T.faults link.new ≡ T.faults link.old) (λ f. Counts f (T.faults link.old) (T.faults link.new)) }
 {
-    match serve_messages(
-        rt, alloc, link, turn, seat, pass, clock, hooks, gate, bell, plugin, worker,
-    ) {
+    judged_stays_judged();
+    let Ok(router) = Router::new(alloc) else {
+        turn.knows(seat);
+        return Err(LinkFault::NoMemory);
+    };
+    let setting = Setting {
+        rt,
+        turn,
+        bell,
+        router: &router,
+        deciding: Deciding {
+            alloc,
+            gate,
+            plugin,
+            worker,
+        },
+    };
+    match serve_messages(&setting, link, seat, pass, clock, hooks) {
         Ok(report) => {
             turn.knows(seat);
             return Ok(report);

@@ -6,7 +6,7 @@ use rg_base::{Failed, Moment, NoMemory, Text};
 use rg_cache::Cache;
 use rg_health::Cause;
 use rg_hook::RequestHooks;
-use rg_plugin_link::Desk;
+use rg_plugin_link::{Deciding, Desk};
 use rg_ports::{Clock, FreeGate, Listener};
 use rg_publish::Pass;
 use rg_remote::Remote;
@@ -176,12 +176,15 @@ fn with_workers<
         for (number, worker) in workers.iter().enumerate() {
             let started = scope.spawn(move || {
                 let standing = BoardReader { board, rt };
-                let desk = Desk {
+                let deciding = Deciding {
                     alloc,
                     gate: &FreeGate,
-                    standing: &standing,
                     plugin: service,
                     worker: u32::try_from(number).unwrap_or(u32::MAX),
+                };
+                let desk = Desk {
+                    standing: &standing,
+                    deciding,
                 };
                 serve_links(rt, &desk, net, clock, worker);
             });

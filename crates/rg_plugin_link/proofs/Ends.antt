@@ -1,5 +1,5 @@
 -- Where the loop of a session stands, from its start to its ends.
-use Rattle.std.proofs.Common.{◌≡◌, ◌≤◌, ◌<◌, ◌+◌, inl, inr, ℕ, List, [], ◌∷◌, ◌++◌, length, Option, true, false, refl, sym, ◌∙◌, ap, subst, arith, append-nil, length-append}
+use Rattle.std.proofs.Common.{◌≡◌, ◌≤◌, ◌<◌, ◌+◌, inl, inr, ℕ, List, [], ◌∷◌, ◌++◌, length, true, false, refl, sym, ◌∙◌, ap, subst, arith, append-nil, length-append}
 use Rattle.std.proofs.lemmas.List.{length-map}
 use Rattle.std.proofs.lemmas.List.Elements.{All-nil}
 use mathlib.Core.List.{IsPrefix}
@@ -15,12 +15,14 @@ use Rattle.rg_http.proofs.Sparing.{read_more, read_none}
 use Rattle.rg_http.proofs.Written.{wrote_more, wrote_none}
 use Rattle.rg_link.specs.Answers.{end_text, texts}
 use Rattle.rg_link.specs.Audits.{AreAudited, AreEnriched}
+use Rattle.rg_link.specs.Coming.{BreaksOff}
 use Rattle.rg_link.specs.Loop.{StayOpen}
 use Rattle.rg_link.specs.Sessions.{Fronts, IsCause, IsTail, MayHaveRun, Wire, message_limit}
+use Rattle.rg_link.proofs.Unwritten.{off_at_once}
 use Rattle.rg_link.proofs.Ends.{Law, fronts_grow, fronts_more, messages_close, messages_full, messages_stop, stay_more}
 use Rattle.rg_link.proofs.Steps.{audited_none, audited_trans, begins_append, begins_refl, enriched_trans}
 use Rattle.rg_plugin_link.specs.Exchanges.{AreRight, Decider, Exchange, IsRight, Leads, decided, messages, moments, responses}
-use Rattle.rg_plugin_link.specs.Loop.{BreaksOff, Going, IsExchanged, IsServed, IsUnanswered, Unserved}
+use Rattle.rg_plugin_link.specs.Loop.{Going, IsExchanged, IsServed, IsUnanswered, Unserved}
 use Rattle.rg_plugin_link.specs.Sessions.{Broken, Served}
 use Rattle.rg_plugin_link.proofs.Exchanges.{all_stay, decided_one, leads_more, leads_refl, leads_unused, messages_more, responses_text, right_more}
 
@@ -38,13 +40,6 @@ going_start plugin a wire = record {
   enriched = refl;
   audited = audited_none plugin a.sinks a.sinks refl;
 }
-
-pub nothing_written : (before after : Option (List ℕ)) → after ≡ before → Wrote before after []
-nothing_written before after e = subst (λ k. Wrote before k []) (sym e) (wrote_none before)
-
--- there was no bad place, and nothing was written
-pub off_at_once : (bytes : List ℕ) (before after : Option (List ℕ)) → after ≡ before → BreaksOff bytes before after
-off_at_once bytes before after e = ([], [], inl refl, nothing_written before after e, begins_refl [])
 
 -- behind these exchanges comes none
 by_itself : (P : List Exchange → Type 0) (xs : List Exchange) → P xs → P (xs ++ [])

@@ -1,25 +1,21 @@
 -- One message of a session, and where its loop stands. Only proofs and the functions below the session need it.
-use Rattle.std.specs.Prelude.{◌≡◌, ◌⊎◌, ℕ, List, [], ◌∷◌, length, true, false, Option}
+use Rattle.std.specs.Prelude.{◌≡◌, ◌⊎◌, ℕ, List, [], ◌∷◌, length, false, Option}
 use mathlib.Core.List.{IsPrefix}
 use Rattle.rg_base.specs.declared.numbers.Moment.{Moment}
 use Rattle.http.specs.StatusCode.{IsStatusCode}
 use Rattle.rg_http.specs.declared.message.Message.{Message}
 use Rattle.rg_http.specs.declared.message.Response.{Response}
-use Rattle.rg_http.specs.Answers.{Framed, IsRead, Wrote}
-use Rattle.rg_http.specs.Framing.{HasMessage}
-use Rattle.rg_http.specs.Messages.{Stops}
+use Rattle.rg_http.specs.Answers.{IsRead, Wrote}
 use Rattle.rg_http.specs.Print.{response_text}
 use Rattle.rg_publish.specs.declared.history.Publication.{Publication}
 use Rattle.rg_rest.specs.declared.call.Call.TheVariants.{Decide}
 use Rattle.rg_rest.specs.Routes.{call_of}
-use Rattle.rg_link.specs.Answers.{end_text, texts}
+use Rattle.rg_link.specs.Answers.{texts}
 use Rattle.rg_link.specs.Audits.{AreAudited, AreEnriched}
 use Rattle.rg_link.specs.Loop.{StayOpen}
-use Rattle.rg_link.specs.Sessions.{Fronts, IsCause, IsTail, MayHaveRun, Wire}
+use Rattle.rg_link.specs.Sessions.{Fronts, MayHaveRun, Wire}
 use Rattle.rg_plugin_link.specs.declared.asks.Asked.{Asked}
 use Rattle.rg_plugin_link.specs.declared.asks.Asked.TheVariants as asked
-use Rattle.rg_plugin_link.specs.declared.coming.Coming.{Coming}
-use Rattle.rg_plugin_link.specs.declared.coming.Coming.TheVariants as coming
 use Rattle.rg_plugin_link.specs.Asks.{asks_health}
 use Rattle.rg_plugin_link.specs.Exchanges.{AreRight, Decider, Exchange, IsRight, Leads, decided, messages, moments, responses}
 
@@ -63,15 +59,6 @@ Unserved plugin a b before after m =
     ⊎ ((x : Exchange) × (part : List ℕ) × IsExchanged plugin a b m x × Wrote before after part × IsPrefix part (response_text x.response)))
 
 -- ---- the loop
-
--- what comes of the bytes read so far: a message, behind which the framer keeps the rest, or an end, which has been answered
-abbrev pub Comes : List ℕ → Wire → Wire → Framed → Coming → Type 0
-Comes bytes old new left (coming.Message m) = HasMessage bytes m left.bytes × (left.live ≡ true) × (new.held ≡ old.held)
-Comes bytes old new left (coming.Over end) = Stops bytes end × ((ms : List Message) → IsCause end new.ended ms) × Wrote old.held new.held (end_text end)
-
--- what a fault leaves: of the answer to a bad place there a part may have been written
-abbrev pub BreaksOff : List ℕ → Option (List ℕ) → Option (List ℕ) → Type 0
-BreaksOff bytes before after = (tail : List ℕ) × (part : List ℕ) × IsTail [] bytes tail × Wrote before after part × IsPrefix part tail
 
 -- where the loop stands: these messages were answered whole, none of them asked to close, and the framer keeps what was read behind them
 pub record Going (plugin : List ℕ) (a b : Decider) (old new : Wire) (kept : List ℕ) (count : ℕ) : Type 0 where

@@ -47,14 +47,14 @@ pub(crate) fn read_asked<G, S: Standing>(
     message: &Message,
     now: Moment,
 ) -> Result<Asked, NoMemory>
-    ensures { IfOk result (IsAsked (chars desk.now.plugin.now) message.now now) }
+    ensures { IfOk result (IsAsked (chars desk.now.deciding.plugin.now) message.now now) }
 {
-    let alloc = desk.alloc;
+    let alloc = desk.deciding.alloc;
     if asks_health(message) {
         let response = health_answer(alloc, desk.standing.health(now), message.close)?;
         return Ok(Asked::Response(response));
     }
-    match router.read_call(alloc, message, desk.plugin, now)? {
+    match router.read_call(alloc, message, desk.deciding.plugin, now)? {
         Call::Decide(request) => Ok(Asked::Decision(request)),
         Call::Answer(response) => Ok(Asked::Response(response)),
         Call::Admin(_, _) => Ok(Asked::Response(no_path(alloc, message.close)?)),

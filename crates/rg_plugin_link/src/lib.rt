@@ -2,10 +2,10 @@
 #![tactic(auto)]
 
 mod asks;
-mod coming;
 mod link;
 mod message;
 mod standing;
 
 pub use link::Desk;
+pub use rg_link::Deciding;
 pub use standing::Standing;

@@ -6,16 +6,14 @@ ghost use Rattle.rg_link.specs.Sessions.{Counts, wire};
 ghost use Rattle.rg_plugin_link.specs.Exchanges.{decider_of};
 ghost use Rattle.rg_plugin_link.specs.Sessions.{Broken, Served};
 
-use crate::coming::{Coming, next_message};
 use crate::message::serve_one;
 use crate::standing::Standing;
 use rg_hook::RequestHooks;
 use rg_http::{End, Framer, judged_stays_judged};
-use rg_link::{LinkFault, Report};
+use rg_link::{Coming, Deciding, LinkFault, Report, next_message};
 use rg_ports::{Clock, Gate, Link};
 use rg_publish::Pass;
 use rg_rest::Router;
-use std::alloc::Global;
 
 /// The most messages of a session.
 const MESSAGE_LIMIT: u32 = 10000;
@@ -23,13 +21,8 @@ const MESSAGE_LIMIT: u32 = 10000;
 /// What a worker's links share.
 #[derive(Drop)]
 pub struct Desk<'g, 's, 'p, G, S> {
-    pub alloc: Global,
-    pub gate: &'g G,
     pub standing: &'s S,
-    /// The plugin's service.
-    pub plugin: &'p str,
-    /// The worker's number, from 0 on.
-    pub worker: u32,
+    pub deciding: Deciding<'g, 'p, G>,
 }
 
 impl<'g, 's, 'p, G: Gate, S: Standing> Desk<'g, 's, 'p, G, S> {
@@ -46,11 +39,11 @@ impl<'g, 's, 'p, G: Gate, S: Standing> Desk<'g, 's, 'p, G, S> {
         clock: &mut C,
         hooks: &mut H,
     ) -> Result<Report, LinkFault>
-        ensures served { IfOk result (λ report. Served (chars self.now.plugin.now)
+        ensures served { IfOk result (λ report. Served (chars self.now.deciding.plugin.now)
             (decider_of pass.old (C.given clock.old) (H.sinks hooks.old) (H.enrichers hooks.old))
             (decider_of pass.new (C.given clock.new) (H.sinks hooks.new) (H.enrichers hooks.new))
             (wire (T.left link.old) (T.held link.old) (T.ended link.old)) (wire (T.left link.new) (T.held link.new) (T.ended link.new)) report.end report.messages) }
-        ensures broken { OnErr result (Broken (chars self.now.plugin.now)
+        ensures broken { OnErr result (Broken (chars self.now.deciding.plugin.now)
             (decider_of pass.old (C.given clock.old) (H.sinks hooks.old) (H.enrichers hooks.old))
             (decider_of pass.new (C.given clock.new) (H.sinks hooks.new) (H.enrichers hooks.new))
             (wire (T.left link.old) (T.held link.old) (T.ended link.old)) (wire (T.left link.new) (T.held link.new) (T.ended link.new))) }
@@ -58,15 +51,16 @@ impl<'g, 's, 'p, G: Gate, S: Standing> Desk<'g, 's, 'p, G, S> {
         ensures faults { MatchResult result (λ _. T.faults link.new ≡ T.faults link.old) (λ f. Counts f (T.faults link.old) (T.faults link.new)) }
     {
         judged_stays_judged();
-        let Ok(router) = Router::new(self.alloc) else {
+        let alloc = self.deciding.alloc;
+        let Ok(router) = Router::new(alloc) else {
             return Err(LinkFault::NoMemory);
         };
-        let Ok(mut framer) = Framer::new(self.alloc) else {
+        let Ok(mut framer) = Framer::new(alloc) else {
             return Err(LinkFault::NoMemory);
         };
         let mut messages: u32 = 0;
         while messages < MESSAGE_LIMIT {
-            let message = match next_message(self.alloc, &mut framer, link) {
+            let message = match next_message(alloc, &mut framer, link) {
                 Ok(Coming::Message(message)) => message,
                 Ok(Coming::Over(end)) => return Ok(Report { end, messages }),
                 Err(fault) => return Err(fault),

@@ -25,11 +25,11 @@ pub(crate) fn serve_one<T: Link, C: Clock, H: RequestHooks, G: Gate, S: Standing
     hooks: &mut H,
     message: &Message,
 ) -> Result<(), LinkFault>
-    ensures served { OnOk result (IsServed (chars desk.now.plugin.now)
+    ensures served { OnOk result (IsServed (chars desk.now.deciding.plugin.now)
         (decider_of pass.old (C.given clock.old) (H.sinks hooks.old) (H.enrichers hooks.old))
         (decider_of pass.new (C.given clock.new) (H.sinks hooks.new) (H.enrichers hooks.new))
         (T.held link.old) (T.held link.new) message.now) }
-    ensures unserved { OnErr result (Unserved (chars desk.now.plugin.now)
+    ensures unserved { OnErr result (Unserved (chars desk.now.deciding.plugin.now)
         (decider_of pass.old (C.given clock.old) (H.sinks hooks.old) (H.enrichers hooks.old))
         (decider_of pass.new (C.given clock.new) (H.sinks hooks.new) (H.enrichers hooks.new))
         (T.held link.old) (T.held link.new) message.now) }
@@ -38,19 +38,16 @@ pub(crate) fn serve_one<T: Link, C: Clock, H: RequestHooks, G: Gate, S: Standing
 {
     let now = clock.now();
     match read_asked(desk, router, message, now) {
-        Ok(Asked::Response(response)) => match send(desk.alloc, link, &response) {
+        Ok(Asked::Response(response)) => match send(desk.deciding.alloc, link, &response) {
             Ok(()) => return Ok(()),
             Err(fault) => return Err(fault),
         },
         Ok(Asked::Decision(mut request)) => {
             match serve_decision(
-                desk.alloc,
+                &desk.deciding,
                 link,
                 pass,
                 hooks,
-                desk.gate,
-                desk.plugin,
-                desk.worker,
                 &mut request,
                 message.close,
             ) {

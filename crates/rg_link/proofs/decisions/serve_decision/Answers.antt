@@ -42,7 +42,7 @@ returns-in-Ok-audit-clause-served g c =
       d,
       (subst (λ es. IsJudged c.args.pass.now c.judge.new.pass (g.H.RequestHooks.enrichers c.args.hooks.now) es c.args.request.now d) (sym c.audit.ensures.kept) c.in-Ok.ensures.judged),
       (subst (λ r. Wrote (g.T.Link.held c.args.link.now) (g.T.Link.held c.send.new.link) (response_text r)) c.in-Ok-decision_response.ensures.answer c.in-Ok-send.ensures.ok),
-      (subst (λ s. AreAudited (chars c.args.plugin.now) (d ∷ []) s (g.H.RequestHooks.sinks c.audit.new.hooks)) c.judge.ensures.unheard (c.in-Ok-audit.ensures.ok c.args.request.now n)),
+      (subst (λ s. AreAudited (chars c.args.deciding.now.plugin.now) (d ∷ []) s (g.H.RequestHooks.sinks c.audit.new.hooks)) c.judge.ensures.unheard (c.in-Ok-audit.ensures.ok c.args.request.now n)),
     )
 
 pub returns-in-Err-audit-clause-unserved : goal.returns-in-Err-audit-clause-unserved

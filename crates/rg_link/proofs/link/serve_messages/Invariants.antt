@@ -10,7 +10,7 @@ invariant-loop-messages g l = record {
   live : l.framer.live ≡ true;
   faults : g.T.Link.faults l.link ≡ g.T.Link.faults l.fn.link;
   within : l.messages ≤ message_limit;
-  going : Going (chars l.plugin)
+  going : Going (chars l.setting.deciding.plugin.now)
       (worker_of l.fn.seat l.fn.pass (g.C.Clock.given l.fn.clock) (g.H.RequestHooks.sinks l.fn.hooks) (g.H.RequestHooks.enrichers l.fn.hooks))
       (worker_of l.seat l.pass (g.C.Clock.given l.clock) (g.H.RequestHooks.sinks l.hooks) (g.H.RequestHooks.enrichers l.hooks))
       (wire (g.T.Link.left l.fn.link) (g.T.Link.held l.fn.link) (g.T.Link.ended l.fn.link))

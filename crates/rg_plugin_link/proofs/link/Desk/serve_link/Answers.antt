@@ -29,7 +29,7 @@ loop-messages-init g c =
       live = ap (λ (f : Framed). f.live) c.in-Ok-new.ensures;
       faults = refl;
       within = omega arith;
-      going = subst (λ (f : Framed). Going (chars c.args.self.now.plugin.now) a a w w f.bytes 0) (sym c.in-Ok-new.ensures) (going_start (chars c.args.self.now.plugin.now) a w);
+      going = subst (λ (f : Framed). Going (chars c.args.self.now.deciding.plugin.now) a a w w f.bytes 0) (sym c.in-Ok-new.ensures) (going_start (chars c.args.self.now.deciding.plugin.now) a w);
     }
 
 pub next_message-requires-after_bounds : goal.next_message-requires-after_bounds
@@ -62,7 +62,7 @@ returns-in-Err-serve_one-clause-broken g c =
     let n = c.serve_one.new in
     let a = decider_of l.pass (g.C.Clock.given l.clock) (g.H.RequestHooks.sinks l.hooks) (g.H.RequestHooks.enrichers l.hooks) in
     let b = decider_of n.pass (g.C.Clock.given n.clock) (g.H.RequestHooks.sinks n.hooks) (g.H.RequestHooks.enrichers n.hooks) in
-    let u = subst (λ k. Unserved (chars c.args.self.now.plugin.now) a b k (g.T.Link.held n.link) c.in-Ok-Message.message) x.2.2 c.in-Err-serve_one.ensures.unserved in
+    let u = subst (λ k. Unserved (chars c.args.self.now.deciding.plugin.now) a b k (g.T.Link.held n.link) c.in-Ok-Message.message) x.2.2 c.in-Err-serve_one.ensures.unserved in
     broken_unserved _ _ _ _ _ _ _ l.invariant.going c.judged_stays_judged.ensures.message b _ x.0 _ c.in-Ok-Message.message r x.2.0 u
 
 pub returns-in-Err-serve_one-clause-same : goal.returns-in-Err-serve_one-clause-same
@@ -76,7 +76,7 @@ returns-then-message-clause-served g c =
     let n = c.serve_one.new in
     let a = decider_of l.pass (g.C.Clock.given l.clock) (g.H.RequestHooks.sinks l.hooks) (g.H.RequestHooks.enrichers l.hooks) in
     let b = decider_of n.pass (g.C.Clock.given n.clock) (g.H.RequestHooks.sinks n.hooks) (g.H.RequestHooks.enrichers n.hooks) in
-    let s = subst (λ k. IsServed (chars c.args.self.now.plugin.now) a b k (g.T.Link.held n.link) c.in-Ok-Message.message) x.2.2 c.in-Ok-serve_one.ensures.served in
+    let s = subst (λ k. IsServed (chars c.args.self.now.deciding.plugin.now) a b k (g.T.Link.held n.link) c.in-Ok-Message.message) x.2.2 c.in-Ok-serve_one.ensures.served in
     served_close _ _ _ _ _ _ _ l.invariant.going c.judged_stays_judged.ensures.message b _ x.0 _ c.in-Ok-Message.message r x.2.0 s c.if-message.true c.loop-messages-test.true
 
 pub returns-then-message-clause-same : goal.returns-then-message-clause-same
@@ -90,7 +90,7 @@ loop-messages-preserved g c =
     let n = c.serve_one.new in
     let a = decider_of l.pass (g.C.Clock.given l.clock) (g.H.RequestHooks.sinks l.hooks) (g.H.RequestHooks.enrichers l.hooks) in
     let b = decider_of n.pass (g.C.Clock.given n.clock) (g.H.RequestHooks.sinks n.hooks) (g.H.RequestHooks.enrichers n.hooks) in
-    let s = subst (λ k. IsServed (chars c.args.self.now.plugin.now) a b k (g.T.Link.held n.link) c.in-Ok-Message.message) x.2.2 c.in-Ok-serve_one.ensures.served in
+    let s = subst (λ k. IsServed (chars c.args.self.now.deciding.plugin.now) a b k (g.T.Link.held n.link) c.in-Ok-Message.message) x.2.2 c.in-Ok-serve_one.ensures.served in
     record {
       live = x.2.1;
       faults = c.in-Ok-serve_one.ensures.faults ∙ c.in-Ok-Message.ensures.faults ∙ l.invariant.faults;

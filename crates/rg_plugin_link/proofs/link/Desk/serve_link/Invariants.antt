@@ -10,7 +10,7 @@ invariant-loop-messages g l = record {
   live : l.framer.live ≡ true;
   faults : g.T.Link.faults l.link ≡ g.T.Link.faults l.fn.link;
   within : l.messages ≤ message_limit;
-  going : Going (chars l.self.plugin.now)
+  going : Going (chars l.self.deciding.plugin.now)
       (decider_of l.fn.pass (g.C.Clock.given l.fn.clock) (g.H.RequestHooks.sinks l.fn.hooks) (g.H.RequestHooks.enrichers l.fn.hooks))
       (decider_of l.pass (g.C.Clock.given l.clock) (g.H.RequestHooks.sinks l.hooks) (g.H.RequestHooks.enrichers l.hooks))
       (wire (g.T.Link.left l.fn.link) (g.T.Link.held l.fn.link) (g.T.Link.ended l.fn.link))

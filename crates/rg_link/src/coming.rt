@@ -2,23 +2,24 @@
 ghost use Rattle.std.specs.Prelude.{◌≡◌, ◌++◌, List, ℕ, true, MatchResult};
 ghost use Rattle.rg_http.specs.Answers.{IsRead};
 ghost use Rattle.rg_link.specs.Sessions.{Counts, wire};
-ghost use Rattle.rg_plugin_link.specs.Loop.{BreaksOff, Comes};
+ghost use Rattle.rg_link.specs.Coming.{BreaksOff, Comes};
 
+use crate::report::LinkFault;
+use crate::writing::refuse;
 use rg_http::{End, Framer, Message, Next};
-use rg_link::{LinkFault, refuse};
 use rg_ports::Link;
 use std::alloc::Global;
 
 /// What comes next of a link.
 #[derive(Drop)]
-pub(crate) enum Coming {
+pub enum Coming {
     Message(Message),
     /// The end, which has been answered where it is a bad place.
     Over(End),
 }
 
 /// Reads the next message, or how the session ends; a bad place is answered.
-pub(crate) fn next_message<T: Link>(
+pub fn next_message<T: Link>(
     alloc: Global,
     framer: &mut Framer,
     link: &mut T,

@@ -3,8 +3,8 @@ use Rattle.rg_http.specs.declared.message.End.TheVariants.{Bad}
 use Rattle.rg_http.specs.Answers.{IsRead, Wrote}
 use Rattle.rg_link.specs.Answers.{end_text}
 use Rattle.rg_link.proofs.Faults.{counts_as, refusal_code}
-use Rattle.rg_plugin_link.proofs.Ends.{nothing_written, off_at_once}
-use Rattle.rg_plugin_link.proofs.coming.next_message.Goals as goal
+use Rattle.rg_link.proofs.Unwritten.{nothing_written, off_at_once}
+use Rattle.rg_link.proofs.coming.next_message.Goals as goal
 
 pub returns-in-Err-clause-comes : goal.returns-in-Err-clause-comes
 returns-in-Err-clause-comes g c =
