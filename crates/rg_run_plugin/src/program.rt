@@ -169,6 +169,30 @@ fn pause_of(rt: &HostRuntime, seconds: u64) -> Duration {
     Duration::from_millis(seconds.saturating_mul(1000).saturating_add(more))
 }
 
+/// The plugin as it begins, over its file, and a pass for each worker.
+fn open<'f, 'w, 't, A: Administration, R: Threads + Wait + Sync + rt::Clock>(
+    rt: &'f HostRuntime,
+    threads: &'t R,
+    administration: &A,
+    words: &Words<'w>,
+    now: Moment,
+) -> Result<(Start<FileCache<'f, 'w, HostRuntime>, &'t R>, Vec<Pass>), Status>
+    ensures { IfErr result (λ status. (status ≡ Status.NetFault) ⊎ (status ≡ Status.NoMemory)) }
+{
+    let alloc = rt.alloc();
+    let Ok(mut cache) = FileCache::new(alloc, rt, words.cache) else {
+        return Err(Status::NoMemory);
+    };
+    let Beginning { facts, settled } = first(alloc, administration, &mut cache, words, now)?;
+    let Ok(service) = Text::copy_of(alloc, words.service) else {
+        return Err(Status::NoMemory);
+    };
+    match Plugin::open(threads, alloc, cache, service, facts, WORKERS) {
+        Ok((plugin, passes)) => Ok((Start { plugin, settled }, passes)),
+        Err(NoMemory) => Err(Status::NoMemory),
+    }
+}
+
 /// Begins, listens and runs. It returns where it can't begin, and else never.
 fn serve<R: Threads + Wait + Sync + rt::Clock>(
     rt: &HostRuntime,
@@ -177,43 +201,26 @@ fn serve<R: Threads + Wait + Sync + rt::Clock>(
 ) -> Result<(), Status>
     ensures { IfErr result (λ status. (status ≡ Status.WriteFault) ⊎ ((status ≡ Status.NetFault) ⊎ (status ≡ Status.NoMemory))) }
 {
-    let alloc = rt.alloc();
-    let Ok(mut cache) = FileCache::new(alloc, rt, words.cache) else {
-        return Err(Status::NoMemory);
-    };
     let administration = TcpAdministration {
         net: rt,
         address: words.administration,
         patience: PATIENCE,
     };
     let mut clock = WallClock(*rt);
-    let Beginning { facts, settled } = first(
-        alloc,
-        &administration,
-        &mut cache,
-        words,
-        clock.now(),
-    )?;
-    let Ok(service) = Text::copy_of(alloc, words.service) else {
-        return Err(Status::NoMemory);
-    };
-    let Ok((plugin, passes)) = Plugin::open(threads, alloc, cache, service, facts, WORKERS) else {
-        return Err(Status::NoMemory);
-    };
+    let (start, passes) = open(rt, threads, &administration, words, clock.now())?;
     let workers = workers_of(rt, passes, words)?;
     let mut net = TcpNet::new(*rt);
     let Ok(()) = net.listen(words.address) else {
         return Err(Status::NetFault);
     };
     let post = Post {
-        alloc,
+        alloc: rt.alloc(),
         administration: &administration,
         service: words.service,
         host: words.administration,
         user: USER,
         pause: pause_of(rt, words.seconds),
     };
-    let start = Start { plugin, settled };
     match run(
         threads,
         &post,
