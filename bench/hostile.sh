@@ -133,6 +133,9 @@ SCRIPTS = {
     "2,000 policies of 200 values": [config()] + created(2000, values=200),
     "a user and a zone of 115,000 groups, then a policy": [config(), asked("putUser", user={"name": "u", "groups": numbered("g", 115000)}),
         zone("z", ["s"], adminUserGroups=numbered("h", 115000)), administered("p", ["zz"], zoneName="z"), asked("getPolicy", actor="u", id=1)],
+    "a user of 115,000 groups and 5,000 delegating policies": [config(), asked("putUser", user={"name": "u", "groups": numbered("g", 115000)})]
+    + [administered("p%d" % n, ["v%d" % n], items=[{"groups": ["h%d" % n], "accesses": SELECT, "delegateAdmin": True}]) for n in range(5000)]
+    + [asked("createPolicy", actor="u", policy={"service": "s", "name": "q", "resources": at("w")})],
     "two zones of 20,000 services": [config(services=many(20000)), zone("a", numbered("s", 20000)), zone("b", numbered("s", 20000))],
     "12,000 services that share a tag policy": [config(TAGGED, many(12000, tagService="t") + [{"name": "t", "type": "tag"}]), TAG_POLICY],
     "5,000 delegating policies, listed by the delegate": [config()] + created(5000, delegate="dan") + [asked("listPolicies", actor="dan", service="s")],

@@ -12,6 +12,7 @@ use rg_cmd::{CREATED, PolicyChange};
 use rg_engine::Engine;
 use rg_facts::Verdict;
 use rg_policy::AccessRequest;
+use rg_shared::Shared;
 use rg_wire::{access_word, read_policy, read_request};
 use std::alloc::{AllocError, Global};
 use std::thread;
@@ -84,7 +85,7 @@ fn main(rt: HostRuntime) -> Result<()> {
     let change = PolicyChange {
         change_type: CREATED,
         tag: false,
-        policy,
+        policy: Shared::new(alloc, policy).map_err(Fault::from)?,
     };
     let next = changed(alloc, &engine, change)?;
     ask(&rt, &next)

@@ -8,6 +8,7 @@ use rg_base::{NoMemory, Text, TryCopy, same_text};
 use rg_facts::Facts;
 use rg_policy::{Item, Policy, item_lists};
 use rg_roles::RoleRow;
+use rg_shared::Shared;
 use std::alloc::Global;
 
 /// Users or groups.
@@ -101,7 +102,7 @@ fn add_of_policy(
 fn add_of_policies(
     alloc: Global,
     listing: Listing,
-    policies: &[Policy],
+    policies: &[Shared<Policy>],
     found: &mut Vec<Text>,
 ) -> Result<(), NoMemory>
     ensures { OnOk result (found.new.items ≡ found.old.items ++ named_by_policies listing policies.now) }

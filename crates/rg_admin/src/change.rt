@@ -130,7 +130,7 @@ pub fn change(alloc: Global, state: &mut State, command: AdminCommand) -> Result
             delete_service(alloc, state, &name);
             Ok(())
         }
-        AdminCommand::CreatePolicy { policy } => create_policy(state, policy),
+        AdminCommand::CreatePolicy { policy } => create_policy(alloc, state, policy),
         AdminCommand::UpdatePolicy { policy } => update_policy(alloc, state, policy),
         AdminCommand::DeletePolicy { id } => {
             delete_policy(alloc, state, id);

@@ -8,6 +8,7 @@ use rg_base::{Text, find_named, is_empty, same_text};
 use rg_cmd::{AdminCommand, ServiceRow, State};
 use rg_defs::tag_name;
 use rg_policy::Policy;
+use rg_shared::Shared;
 use rg_tags::TagRow;
 use rg_validate::policy_at;
 
@@ -94,7 +95,10 @@ pub(crate) fn tag_row_at(state: &State, id: i64) -> Option<&TagRow>
 }
 
 /// The policy that the command updates or deletes.
-pub(crate) fn policy_named<'a>(state: &'a State, command: &AdminCommand) -> Option<&'a Policy>
+pub(crate) fn policy_named<'a>(
+    state: &'a State,
+    command: &AdminCommand,
+) -> Option<&'a Shared<Policy>>
     requires { IsValid state.now }
     ensures { option_map (λ p. p.now) result ≡ policy_named state.now command.now }
 {

@@ -13,12 +13,13 @@ use crate::lists::{append, put_at, take_away};
 use rg_base::{NoMemory, PolicyId, Seq, Version};
 use rg_cmd::State;
 use rg_policy::Policy;
+use rg_shared::Shared;
 use rg_tags::TagRow;
 use rg_validate::place_of_policy;
 use std::alloc::Global;
 
 /// The place of the policy of this id.
-fn place_of(policies: &Seq<Policy>, id: PolicyId) -> Option<usize>
+fn place_of(policies: &Seq<Shared<Policy>>, id: PolicyId) -> Option<usize>
     requires { all_distinct (λ (p q : Policy). int_eq p.id.0 q.id.0) policies.now.items ≡ true }
     ensures first { result ≡ position (has_id id.0) policies.now.items }
     ensures within { IfSome result (λ p. p < length policies.now.items) }
@@ -37,19 +38,23 @@ fn created(policy: Policy, id: i64) -> Policy
 }
 
 /// Adds the policy under the next id.
-pub(crate) fn create_policy(state: &mut State, policy: Policy) -> Result<(), NoMemory>
+pub(crate) fn create_policy(
+    alloc: Global,
+    state: &mut State,
+    policy: Policy,
+) -> Result<(), NoMemory>
     requires { state.old.policies.spare ≡ 0 }
     ensures ok { OnOk result (state.new ≡ after_command state.old (CreatePolicy policy)) }
     ensures err { OnErr result (state.new ≡ state.old) }
 {
-    let policy = created(policy, state.next_id);
-    append(&mut state.policies, policy)?;
+    let stored = Shared::new(alloc, created(policy, state.next_id))?;
+    append(&mut state.policies, stored)?;
     state.next_id = state.next_id.saturating_add(1);
     Ok(())
 }
 
 /// One more than the version of the policy at the place, where one is given.
-fn version_after(policies: &Seq<Policy>, place: Option<usize>) -> Version
+fn version_after(policies: &Seq<Shared<Policy>>, place: Option<usize>) -> Version
     requires { IfSome place (λ p. p < length policies.now.items) }
     ensures { result ≡ version_after (option_and_then (slice_get policies.now.items) place) }
 {
@@ -80,7 +85,8 @@ pub(crate) fn update_policy(
 {
     let place = place_of(&state.policies, policy.id);
     let version = version_after(&state.policies, place);
-    put_at(alloc, &mut state.policies, place, updated(policy, version))
+    let stored = Shared::new(alloc, updated(policy, version))?;
+    put_at(alloc, &mut state.policies, place, stored)
 }
 
 /// Takes the policy away.

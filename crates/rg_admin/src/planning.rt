@@ -4,14 +4,15 @@ ghost use Rattle.rg_admin_laws.specs.Logs.{is_log_of, logs_after, new_log, touch
 ghost use Rattle.rg_validate.specs.Valid.{IsValid};
 ghost use Rattle.rg_admin.specs.Due.{HasRoom, done};
 ghost use Rattle.rg_admin.specs.Held.{Planned, logs_of, plan_for, settled, unplanned};
-ghost use Rattle.rg_admin.specs.Planning.{policy_named, tag_row_named};
+ghost use Rattle.rg_admin.specs.Planning.{noted_policy, tag_row_named};
 
 use crate::logs::ServiceLog;
-use crate::lookups::{policy_named, service_near, tag_row_named};
-use crate::touches::{policy_touch, tag_touch};
+use crate::lookups::{service_near, tag_row_named};
+use crate::touches::{noted_policy, policy_touch, tag_touch};
 use rg_base::{NoMemory, Text, TryCopy, same_text};
 use rg_cmd::{AdminCommand, State};
 use rg_policy::Policy;
+use rg_shared::Shared;
 use rg_tags::TagRow;
 use std::alloc::Global;
 
@@ -26,30 +27,30 @@ pub(crate) enum Due {
     Loses(Text),
 }
 
-/// Makes the copies of the change for one log, which has this place, and room for it. What the command names is given.
+/// Makes the copies of the change for one log, which has this place, and room for it. What is noted of the command is given.
 fn plan_one(
     alloc: Global,
     state: &State,
     command: &AdminCommand,
-    policy: Option<&Policy>,
+    noted: Option<&Shared<Policy>>,
     tag_row: Option<&TagRow>,
     place: usize,
     log: &mut ServiceLog,
 ) -> Result<(), NoMemory>
     requires valid { IsValid state.now }
-    requires policy { option_map (λ p. p.now) policy ≡ policy_named state.now command.now }
+    requires noted { option_map (λ p. p.now) noted ≡ noted_policy state.now command.now }
     requires tag_row { option_map (λ r. r.now) tag_row ≡ tag_row_named state.now command.now }
     ensures log { log.new.log ≡ log.old.log }
     ensures ok { OnOk result (log.new ≡ plan_for state.now command.now log.old) }
 {
     let row = service_near(state, place, log.service());
-    let policies = policy_touch(alloc, state, command, policy, row, log.service())?;
+    let policies = policy_touch(alloc, state, command, noted, row, log.service())?;
     let tags = tag_touch(alloc, state, command, tag_row, log.service())?;
     log.plan(policies, tags)
 }
 
-/// Makes the copies of the change, and room for it in each log that it touches. What the command names is looked up once, and
-/// each log's service stands at the log's own place.
+/// Makes the copies of the change, and room for it in each log that it touches. What is noted of the command is
+/// looked up and copied once, and each log's service stands at the log's own place.
 fn plan_each(
     alloc: Global,
     state: &State,
@@ -60,11 +61,12 @@ fn plan_each(
     ensures logs { logs_of logs.new.items ≡ logs_of logs.old.items }
     ensures ok { OnOk result (logs.new.items ≡ map (plan_for state.now command.now) logs.old.items) }
 {
-    let policy = policy_named(state, command);
+    let policy = noted_policy(alloc, state, command)?;
+    let noted = policy.as_ref();
     let tag_row = tag_row_named(state, command);
     let mut place: usize = 0;
     for log in logs.iter_mut() {
-        plan_one(alloc, state, command, policy, tag_row, place, log)?;
+        plan_one(alloc, state, command, noted, tag_row, place, log)?;
         place = place.saturating_add(1);
     }
     Ok(())

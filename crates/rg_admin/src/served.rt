@@ -15,6 +15,7 @@ use rg_cmd::{PolicyWhole, RoleWhole, ServiceRow, State, TagWhole};
 use rg_defs::ServiceDef;
 use rg_facts::Facts;
 use rg_policy::Policy;
+use rg_shared::Shared;
 use rg_tags::TagRow;
 use std::alloc::Global;
 use std::marker::Model;
@@ -84,7 +85,11 @@ fn tag_def_of<'a>(state: &'a State, service: &str) -> Option<&'a ServiceDef>
 }
 
 /// Copies of the policies of the service.
-fn policies_of(alloc: Global, policies: &[Policy], service: &str) -> Result<Seq<Policy>, NoMemory>
+fn policies_of(
+    alloc: Global,
+    policies: &[Shared<Policy>],
+    service: &str,
+) -> Result<Seq<Shared<Policy>>, NoMemory>
     ensures { IfOk result (λ list. list ≡ listed (filter (is_of (chars service.now)) policies.now)) }
 {
     let mut list = Seq::new(alloc);
@@ -97,7 +102,11 @@ fn policies_of(alloc: Global, policies: &[Policy], service: &str) -> Result<Seq<
 }
 
 /// Copies of the policies of the service's tag service.
-fn tag_policies_of(alloc: Global, state: &State, service: &str) -> Result<Seq<Policy>, NoMemory>
+fn tag_policies_of(
+    alloc: Global,
+    state: &State,
+    service: &str,
+) -> Result<Seq<Shared<Policy>>, NoMemory>
     ensures { IfOk result (λ list. list ≡ listed (tag_policies_of state.now (chars service.now))) }
 {
     match tag_service_of(state, service) {
@@ -152,7 +161,10 @@ impl<'a> Served<'a> {
         Ok((def, tag_def))
     }
 
-    fn copy_policies(&self, alloc: Global) -> Result<(Seq<Policy>, Seq<Policy>), NoMemory>
+    fn copy_policies(
+        &self,
+        alloc: Global,
+    ) -> Result<(Seq<Shared<Policy>>, Seq<Shared<Policy>>), NoMemory>
         ensures { IfOk result (λ lists. (lists.0 ≡ self.now.facts.policies) × (lists.1 ≡ self.now.facts.tag_policies)) }
     {
         let policies = policies_of(alloc, self.state.policies.as_slice(), self.name)?;

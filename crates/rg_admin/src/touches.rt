@@ -4,9 +4,9 @@ ghost use Rattle.rg_cmd.specs.Lookups.{service_at, tag_service_in};
 ghost use Rattle.rg_cmd.specs.declared.changes.LogEntry.TheVariants.{Policy as OfPolicy};
 ghost use Rattle.rg_delta.specs.declared.touch.Touch.TheVariants.{Notes};
 ghost use Rattle.rg_admin_laws.specs.Changes.{stored_row, version_after};
-ghost use Rattle.rg_admin_laws.specs.Touches.{policy_touch, put_type, restarts_if, row_touch_of, row_touch_of_old, tag_touch, touch_of, touch_of_old};
+ghost use Rattle.rg_admin_laws.specs.Touches.{policy_touch, put_type, restarts_if, row_touch_of, row_touch_of_old, tag_touch};
 ghost use Rattle.rg_validate.specs.Valid.{IsValid};
-ghost use Rattle.rg_admin.specs.Planning.{policy_named, tag_row_named};
+ghost use Rattle.rg_admin.specs.Planning.{noted_policy, tag_row_named, touch_of_noted};
 
 use crate::lookups::{has_tag_service, uses_def};
 use rg_base::{NoMemory, PolicyId, Text, TryCopy, Version, same_text};
@@ -15,54 +15,13 @@ use rg_cmd::{
 };
 use rg_delta::Touch;
 use rg_policy::Policy;
+use rg_shared::Shared;
 use rg_tags::TagRow;
-use rg_validate::tag_row_exists;
+use rg_validate::{policy_at, tag_row_exists};
 use std::alloc::Global;
 
-/// A note of the policy, with this id and version.
-fn noted(
-    alloc: Global,
-    change_type: u8,
-    tag: bool,
-    policy: &Policy,
-    id: PolicyId,
-    version: Version,
-) -> Result<Touch<LogEntry>, NoMemory>
-    ensures { IfOk result (λ t. t ≡ Notes (OfPolicy (record { change_type = change_type; tag = tag; policy = record policy.now { id = id; version = version } }))) }
-{
-    let mut policy = policy.try_copy(alloc)?;
-    policy.id = id;
-    policy.version = version;
-    Ok(Touch::Notes(LogEntry::Policy(PolicyChange {
-        change_type,
-        tag,
-        policy,
-    })))
-}
-
-/// What a change of the policy, with this id and version, does to the policy log of the service of this row.
-fn touch_of(
-    alloc: Global,
-    change_type: u8,
-    policy: &Policy,
-    id: PolicyId,
-    version: Version,
-    row: Option<&ServiceRow>,
-    service: &Text,
-) -> Result<Touch<LogEntry>, NoMemory>
-    ensures { IfOk result (λ t. t ≡ touch_of change_type (record policy.now { id = id; version = version }) service.now (option_and_then tag_service_in (option_map (λ r. r.now) row.entry))) }
-{
-    if same_text(policy.service.as_str(), service.as_str()) {
-        return noted(alloc, change_type, false, policy, id, version);
-    }
-    if has_tag_service(row, &policy.service) {
-        return noted(alloc, change_type, true, policy, id, version);
-    }
-    Ok(Touch::Leaves)
-}
-
 /// One version more than that of the policy.
-pub(crate) fn version_after(prior: Option<&Policy>) -> Version
+pub(crate) fn version_after(prior: Option<&Shared<Policy>>) -> Version
     ensures { result ≡ version_after (option_map (λ p. p.now) prior.entry) }
 {
     match prior {
@@ -71,18 +30,85 @@ pub(crate) fn version_after(prior: Option<&Policy>) -> Version
     }
 }
 
-fn touch_of_old(
+/// A copy of the policy with this id and version, to be shared.
+fn stored(
     alloc: Global,
-    prior: Option<&Policy>,
+    policy: &Policy,
+    id: PolicyId,
+    version: Version,
+) -> Result<Shared<Policy>, NoMemory>
+    ensures { IfOk result (λ p. p ≡ record policy.now { id = id; version = version }) }
+{
+    let mut policy = policy.try_copy(alloc)?;
+    policy.id = id;
+    policy.version = version;
+    Shared::new(alloc, policy)
+}
+
+/// The policy that logs note of the command, once accepted: as it is stored then, or as it was before it is deleted. However
+/// many logs note it, it is copied once.
+pub(crate) fn noted_policy(
+    alloc: Global,
+    state: &State,
+    command: &AdminCommand,
+) -> Result<Option<Shared<Policy>>, NoMemory>
+    requires { IsValid state.now }
+    ensures { IfOk result (λ noted. noted ≡ noted_policy state.now command.now) }
+{
+    match command {
+        AdminCommand::CreatePolicy { policy } => {
+            let id = PolicyId(state.next_id);
+            Ok(Some(stored(alloc, policy, id, Version(1))?))
+        }
+        AdminCommand::UpdatePolicy { policy } => {
+            let version = version_after(policy_at(state, policy.id));
+            Ok(Some(stored(alloc, policy, policy.id, version)?))
+        }
+        AdminCommand::DeletePolicy { id } => match policy_at(state, *id) {
+            Some(old) => Ok(Some(old.try_copy(alloc)?)),
+            None => Ok(None),
+        },
+        _ => Ok(None),
+    }
+}
+
+/// A note of the policy, which the log shares.
+fn note_of(
+    alloc: Global,
+    change_type: u8,
+    tag: bool,
+    policy: &Shared<Policy>,
+) -> Result<Touch<LogEntry>, NoMemory>
+    ensures { IfOk result (λ t. t ≡ Notes (OfPolicy (record { change_type = change_type; tag = tag; policy = policy.now }))) }
+{
+    let policy = policy.try_copy(alloc)?;
+    Ok(Touch::Notes(LogEntry::Policy(PolicyChange {
+        change_type,
+        tag,
+        policy,
+    })))
+}
+
+/// What a change of the policy, if there is one, does to the policy log of the service of this row.
+fn touch_of(
+    alloc: Global,
+    change_type: u8,
+    noted: Option<&Shared<Policy>>,
     row: Option<&ServiceRow>,
     service: &Text,
 ) -> Result<Touch<LogEntry>, NoMemory>
-    ensures { IfOk result (λ t. t ≡ touch_of_old (option_map (λ p. p.now) prior.entry) service.now (option_and_then tag_service_in (option_map (λ r. r.now) row.entry))) }
+    ensures { IfOk result (λ t. t ≡ touch_of_noted change_type (option_map (λ p. p.now) noted.entry) service.now (option_and_then tag_service_in (option_map (λ r. r.now) row.entry))) }
 {
-    match prior {
-        Some(old) => touch_of(alloc, DELETED, old, old.id, old.version, row, service),
-        None => Ok(Touch::Leaves),
+    let Some(policy) = noted else {
+        return Ok(Touch::Leaves);
+    };
+    if same_text(policy.service.as_str(), service.as_str()) {
+        return note_of(alloc, change_type, false, policy);
     }
+    if has_tag_service(row, &policy.service) {
+        return note_of(alloc, change_type, true, policy);
+    }
+    Ok(Touch::Leaves)
 }
 
 fn restarts_if<C>(restarts: bool) -> Touch<C>
@@ -95,18 +121,18 @@ fn restarts_if<C>(restarts: bool) -> Touch<C>
     }
 }
 
-/// What the command, once accepted, does to the policy log of the service. The policy that it names and the service's row
-/// are given, so that neither is looked up for each log.
+/// What the command, once accepted, does to the policy log of the service. The policy that logs note of it and the service's
+/// row are given, so that neither is looked up for each log.
 pub(crate) fn policy_touch(
     alloc: Global,
     state: &State,
     command: &AdminCommand,
-    prior: Option<&Policy>,
+    noted: Option<&Shared<Policy>>,
     row: Option<&ServiceRow>,
     service: &Text,
 ) -> Result<Touch<LogEntry>, NoMemory>
     requires valid { IsValid state.now }
-    requires named { option_map (λ p. p.now) prior ≡ policy_named state.now command.now }
+    requires noted { option_map (λ p. p.now) noted ≡ noted_policy state.now command.now }
     requires service { option_map (λ r. r.now) row ≡ service_at state.now service.now }
     ensures { IfOk result (λ t. t ≡ policy_touch state.now command.now service.now) }
 {
@@ -116,15 +142,9 @@ pub(crate) fn policy_touch(
             same_text(changed.name.as_str(), service.as_str())
                 || has_tag_service(row, &changed.name),
         )),
-        AdminCommand::CreatePolicy { policy } => {
-            let id = PolicyId(state.next_id);
-            touch_of(alloc, CREATED, policy, id, Version(1), row, service)
-        }
-        AdminCommand::UpdatePolicy { policy } => {
-            let version = version_after(prior);
-            touch_of(alloc, UPDATED, policy, policy.id, version, row, service)
-        }
-        AdminCommand::DeletePolicy { id: _ } => touch_of_old(alloc, prior, row, service),
+        AdminCommand::CreatePolicy { policy: _ } => touch_of(alloc, CREATED, noted, row, service),
+        AdminCommand::UpdatePolicy { policy: _ } => touch_of(alloc, UPDATED, noted, row, service),
+        AdminCommand::DeletePolicy { id: _ } => touch_of(alloc, DELETED, noted, row, service),
         AdminCommand::PutZone { .. } | AdminCommand::DeleteZone { .. } => {
             Ok(Touch::Notes(LogEntry::Zones))
         }

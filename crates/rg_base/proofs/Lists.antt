@@ -1,7 +1,7 @@
 -- Tests of all elements and of some, and what a list contains.
 use Rattle.std.proofs.Common.{◌≡◌, ◌⊎◌, ◌&&◌, ◌||◌, ◌<◌, ◌+◌, ◌++◌, ℕ, zero, suc, Bool, true, false, not, cond, List, [], ◌∷◌, Some, Contains, length, map, filter, take, drop, get_or, slice_get, refl, sym, ap, subst, ◌∙◌, inl, inr, arith, add-one}
 use Rattle.std.proofs.Math.Seq.{drop-cons}
-use Rattle.std.proofs.lemmas.Bool.{and_parts}
+use Rattle.std.proofs.lemmas.Bool.{and_parts, true≢false}
 use Rattle.std.proofs.lemmas.List.{get_or_default, take_more}
 use Rattle.std.proofs.lemmas.List.Elements.{All-contains, All-contains_itself, All-filter, Contains-append_cases, Contains-append_left, Contains-append_right, Contains-get_or, filter_passes}
 use Rattle.std.proofs.lemmas.List.Folds.{Any-from_list_any, list_any-from_Any}
@@ -136,6 +136,21 @@ among_holds text texts e = let a = any_holds (λ t. bytes_eq t text) texts e in 
 
 pub among_from : (text : List ℕ) (texts : List (List ℕ)) → Contains texts text → is_among text texts ≡ true
 among_from text texts h = any_from (λ t. bytes_eq t text) texts text h ((bytes_eq-Decides text text).1 refl)
+
+pub same_truth : (a b : Bool) → (a ≡ true → b ≡ true) → (b ≡ true → a ≡ true) → a ≡ b
+same_truth true true f g = refl
+same_truth true false f g = absurd (true≢false (sym (f refl)))
+same_truth false true f g = absurd (true≢false (sym (g refl)))
+same_truth false false f g = refl
+
+-- one of the first is among the second where one of the second is among the first
+any_among_turned : (xs ys : List (List ℕ)) → list_any (λ n. is_among n ys) xs ≡ true → list_any (λ n. is_among n xs) ys ≡ true
+any_among_turned xs ys e =
+    let a = any_holds (λ n. is_among n ys) xs e in
+    any_from (λ n. is_among n xs) ys a.0 (among_holds a.0 ys a.2) (among_from a.0 xs a.1)
+
+pub any_among_either : (xs ys : List (List ℕ)) → list_any (λ n. is_among n ys) xs ≡ list_any (λ n. is_among n xs) ys
+any_among_either xs ys = same_truth (list_any (λ n. is_among n ys) xs) (list_any (λ n. is_among n xs) ys) (any_among_turned xs ys) (any_among_turned ys xs)
 
 -- ---- a list as a loop goes over it
 

@@ -1,6 +1,7 @@
 // What every other crate stands on: numbers with names, text, lists that may run out of memory, and counted work.
 #![tactic(auto)]
 
+mod among;
 mod copies;
 mod name_index;
 mod named;
@@ -11,6 +12,7 @@ mod steps;
 mod tally;
 mod text;
 
+pub use among::any_among;
 pub use copies::TryCopy;
 pub use name_index::NameIndex;
 pub use named::{Named, all_names_distinct, find_named, is_named, names_distinct, place_named};

@@ -1,5 +1,6 @@
 // Names looked up in a sorted map.
 ghost use Rattle.std.specs.Prelude.{◌≡◌, ◌<◌, ◌^◌, ◌∷◌, ◌++◌, ℕ, List, [], length, map, position, IfOk, OnOk, None};
+ghost use Rattle.std.specs.List.{list_any};
 ghost use Rattle.std.specs.Str.{bytes_eq, chars};
 ghost use Rattle.rg_base.specs.Names.{first_repeat};
 ghost use Rattle.rg_base.specs.Places.{IsIndex, place_in};
@@ -111,6 +112,19 @@ impl NameIndex {
         ensures { result ≡ is_among (chars name.now) self.now }
     {
         place_at(&self.places, name).is_some()
+    }
+
+    fn contains_any(&self, names: &[Text]) -> bool
+        ensures { result ≡ list_any (λ n. is_among n self.now) names.now }
+    {
+        names.iter().any(|name| self.contains(name.as_str()))
+    }
+
+    /// Whether one of its names is among these, each of which is looked up. It takes no memory.
+    pub fn any_among(&self, names: &[Text]) -> bool
+        ensures { result ≡ list_any (λ n. is_among n names.now) self.now }
+    {
+        self.contains_any(names)
     }
 
     /// The first place of a name that stands before it too, None where no two names are the same. It looks up each name,

@@ -50,6 +50,11 @@ impl Text {
         Text { held }
     }
 
+    /// The allocator that the text's bytes are of.
+    pub(crate) fn allocator(&self) -> Global {
+        *self.held.allocator()
+    }
+
     /// Adds a character at the end.
     pub fn push(&mut self, c: char) -> Result<(), NoMemory>
         ensures ok { OnOk result (self.new ≡ self.old ++ c ∷ []) }

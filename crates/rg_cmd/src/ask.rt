@@ -6,6 +6,7 @@ use rg_base::{NoMemory, PolicyId, Seq, Text, TryCopy, Version};
 use rg_defs::ServiceDef;
 use rg_policy::Policy;
 use rg_roles::RoleRow;
+use rg_shared::Shared;
 use rg_tags::TagRow;
 use rg_zone_rules::ZoneRow;
 use std::alloc::Global;
@@ -90,8 +91,8 @@ pub enum AdminReply {
     Done,
     /// The policy that was created or updated, with the version that it has now.
     Kept { id: PolicyId, version: Version },
-    Found(Policy),
-    Listed(Seq<Policy>),
+    Found(Shared<Policy>),
+    Listed(Seq<Shared<Policy>>),
     Downloaded(Download),
     /// The first rule that the command breaks. It changed nothing.
     Refused(Rule),

@@ -1,6 +1,7 @@
 // Changes, and the log of a service that notes them.
 use rg_base::{Named, NoMemory, Seq, Text, TryCopy, Version};
 use rg_policy::Policy;
+use rg_shared::Shared;
 use rg_tags::TagRow;
 use std::alloc::Global;
 
@@ -21,7 +22,7 @@ pub struct PolicyChange {
     /// Whether it is a policy of the tag service.
     pub tag: bool,
     /// The policy as it is now, or was before it was deleted.
-    pub policy: Policy,
+    pub policy: Shared<Policy>,
 }
 
 /// A tag row that was created, updated or deleted.

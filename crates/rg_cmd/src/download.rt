@@ -6,6 +6,7 @@ use rg_base::{NoMemory, Seq, TryCopy, Version};
 use rg_defs::ServiceDef;
 use rg_policy::{Policy, TimeZoneRow};
 use rg_roles::RoleRow;
+use rg_shared::Shared;
 use rg_tags::TagRow;
 use rg_zone_rules::ZoneRow;
 use std::alloc::Global;
@@ -64,8 +65,8 @@ pub struct PolicyWhole {
     pub def: ServiceDef,
     /// The definition of the tag service, where the service has one.
     pub tag_def: Option<ServiceDef>,
-    pub policies: Seq<Policy>,
-    pub tag_policies: Seq<Policy>,
+    pub policies: Seq<Shared<Policy>>,
+    pub tag_policies: Seq<Shared<Policy>>,
     pub zones: Seq<ZoneRow>,
     pub time_zones: Seq<TimeZoneRow>,
 }
@@ -158,7 +159,10 @@ fn copy_defs(
     Ok((def, tag_def))
 }
 
-fn copy_policies(alloc: Global, whole: &PolicyWhole) -> Result<(Seq<Policy>, Seq<Policy>), NoMemory>
+fn copy_policies(
+    alloc: Global,
+    whole: &PolicyWhole,
+) -> Result<(Seq<Shared<Policy>>, Seq<Shared<Policy>>), NoMemory>
     ensures { IfOk result (λ lists. (lists.0 ≡ whole.now.policies) × (lists.1 ≡ whole.now.tag_policies)) }
 {
     let policies = whole.policies.try_copy(alloc)?;

@@ -5,6 +5,7 @@ use rg_base::{Named, NoMemory, Seq, Text, TryCopy, Version};
 use rg_defs::ServiceDef;
 use rg_policy::{Policy, TimeZoneRow};
 use rg_roles::RoleRow;
+use rg_shared::Shared;
 use rg_tags::TagRow;
 use rg_zone_rules::ZoneRow;
 use std::alloc::Global;
@@ -46,7 +47,7 @@ pub struct State {
     pub time_zones: Seq<TimeZoneRow>,
     pub defs: Seq<ServiceDef>,
     pub services: Seq<ServiceRow>,
-    pub policies: Seq<Policy>,
+    pub policies: Seq<Shared<Policy>>,
     pub zones: Seq<ZoneRow>,
     pub roles: Seq<RoleRow>,
     pub tag_rows: Seq<TagRow>,
@@ -130,7 +131,10 @@ fn copy_services(
     Ok((defs, services, time_zones))
 }
 
-fn copy_policies(alloc: Global, state: &State) -> Result<(Seq<Policy>, Seq<TagRow>), NoMemory>
+fn copy_policies(
+    alloc: Global,
+    state: &State,
+) -> Result<(Seq<Shared<Policy>>, Seq<TagRow>), NoMemory>
     ensures { IfOk result (λ lists. (lists.0 ≡ state.now.policies) × (lists.1 ≡ state.now.tag_rows)) }
 {
     let policies = state.policies.try_copy(alloc)?;

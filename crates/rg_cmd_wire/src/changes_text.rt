@@ -4,11 +4,12 @@ use rg_base::NoMemory;
 use rg_cmd::{PolicyChange, PolicyDelta, PolicyWhole, RoleWhole, TagChange, TagDelta, TagWhole};
 use rg_json::{ToJson, put};
 use rg_policy::Policy;
+use rg_shared::Shared;
 use rg_wire::Key;
 use serde_json::{Map, Value};
 use std::alloc::Global;
 
-impl ToJson<ReplyKey> for Policy {
+impl ToJson<ReplyKey> for Shared<Policy> {
     ghost use Rattle.rg_wire.specs.Printing.{policy_data};
 
     ghost printing = { policy_data };

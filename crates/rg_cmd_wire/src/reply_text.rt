@@ -10,6 +10,7 @@ use rg_base::{NoMemory, PolicyId, Seq, Text, Version};
 use rg_cmd::{AdminReply, Download, Rule};
 use rg_json::{ToJson, put, text_of};
 use rg_policy::Policy;
+use rg_shared::Shared;
 use rg_wire::Key;
 use serde_json::{Map, Value};
 use std::alloc::Global;
@@ -50,10 +51,10 @@ fn kept_json(alloc: Global, id: PolicyId, version: Version) -> Result<Value, NoM
     Ok(Value::Object(members))
 }
 
-fn policies_json(alloc: Global, policies: &Seq<Policy>) -> Result<Value, NoMemory>
+fn policies_json(alloc: Global, policies: &Seq<Shared<Policy>>) -> Result<Value, NoMemory>
     ensures { IfOk result (λ v. view v ≡ policies_data policies.now) }
 {
-    <Seq<Policy> as ToJson<ReplyKey>>::json(policies, alloc)
+    <Seq<Shared<Policy>> as ToJson<ReplyKey>>::json(policies, alloc)
 }
 
 impl ToJson<ReplyKey> for AdminReply {
@@ -98,7 +99,7 @@ pub fn print_kept(alloc: Global, id: PolicyId, version: Version) -> Result<Text,
 
 /// Prints a list of policies.
 #[tactic(auto, using(crate::proofs::Plain::replies), unfolding(crate::specs::PrintedReplies::policies_text))]
-pub fn print_policies(alloc: Global, policies: &Seq<Policy>) -> Result<Text, NoMemory>
+pub fn print_policies(alloc: Global, policies: &Seq<Shared<Policy>>) -> Result<Text, NoMemory>
     ensures text { IfOk result (λ t. t ≡ chars (policies_text policies.now)) }
     ensures bytes { IfOk result (λ t. encode_utf8_all t ≡ policies_text policies.now) }
 {

@@ -9,6 +9,7 @@ use crate::actor::Actor;
 use crate::delegation::delegates;
 use rg_base::{NoMemory, same_text};
 use rg_policy::{ACCESS_POLICY, Item, Policy};
+use rg_shared::Shared;
 use std::alloc::Global;
 
 /// Whether the item delegates to the actor.
@@ -64,7 +65,7 @@ pub(crate) fn candidates<'a>(
     alloc: Global,
     actor: &mut Actor,
     service: &str,
-    policies: &'a [Policy],
+    policies: &'a [Shared<Policy>],
 ) -> Result<Vec<&'a Policy>, NoMemory>
     requires { fault_of actor.old.rows ≡ None }
     ensures same { actor.new ≡ actor.old }
@@ -72,6 +73,7 @@ pub(crate) fn candidates<'a>(
 {
     let mut found = Vec::new(alloc);
     for policy in policies {
+        let policy: &Policy = policy;
         if is_candidate(alloc, actor, service, policy)? {
             found.push(policy)?;
         }

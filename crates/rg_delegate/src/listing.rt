@@ -15,13 +15,14 @@ use crate::candidates::candidates;
 use rg_base::{NoMemory, same_text};
 use rg_cmd::State;
 use rg_policy::Policy;
+use rg_shared::Shared;
 use std::alloc::Global;
 
 fn of_service<'a>(
     alloc: Global,
-    policies: &'a [Policy],
+    policies: &'a [Shared<Policy>],
     service: &str,
-) -> Result<Vec<&'a Policy>, NoMemory>
+) -> Result<Vec<&'a Shared<Policy>>, NoMemory>
     ensures { IfOk result (λ v. map (λ q. q.now) v.items ≡ filter (is_of (chars service.now)) policies.now) }
 {
     let mut found = Vec::new(alloc);
@@ -68,7 +69,7 @@ fn seen_in_part<'a>(
     state: &'a State,
     service: &str,
     actor: &mut Actor,
-) -> Result<Vec<&'a Policy>, NoMemory>
+) -> Result<Vec<&'a Shared<Policy>>, NoMemory>
     requires ready { IsReady state.now }
     requires actor { actor.old ≡ known state.now actor.old.name }
     requires no_admin { is_admin state.now actor.old.name ≡ false }
@@ -93,7 +94,7 @@ pub fn policies_seen<'a>(
     state: &'a State,
     actor: &str,
     service: &str,
-) -> Result<Vec<&'a Policy>, NoMemory>
+) -> Result<Vec<&'a Shared<Policy>>, NoMemory>
     requires { IsReady state.now }
     ensures { IfOk result (λ v. map (λ q. q.now) v.items ≡ seen_by state.now (chars actor.now) (chars service.now)) }
 {

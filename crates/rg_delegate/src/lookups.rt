@@ -7,6 +7,7 @@ use rg_base::{PolicyId, Text, find_named};
 use rg_cmd::State;
 use rg_defs::ServiceDef;
 use rg_policy::Policy;
+use rg_shared::Shared;
 use rg_zone_rules::ZoneRow;
 
 /// The definition of the policy's service.
@@ -35,7 +36,7 @@ pub(crate) fn groups_of<'a>(state: &'a State, user: &str) -> &'a [Text]
     }
 }
 
-pub(crate) fn policy_at(state: &State, id: PolicyId) -> Option<&Policy>
+pub(crate) fn policy_at(state: &State, id: PolicyId) -> Option<&Shared<Policy>>
     ensures { option_map (λ p. p.now) result ≡ policy_at state.now id.0 }
 {
     state

@@ -1,6 +1,7 @@
 // Changes of one list of things with ids.
 use crate::by_id::Id;
 use rg_policy::Policy;
+use rg_shared::Shared;
 use rg_tags::TagRow;
 use std::marker::Model;
 
@@ -16,7 +17,7 @@ pub trait Identified {
         ensures { result.0 ≡ id_of self.now };
 }
 
-impl Identified for Policy {
+impl Identified for Shared<Policy> {
     ghost id_of = { λ policy. policy.id.0 };
 
     fn id(&self) -> Id {

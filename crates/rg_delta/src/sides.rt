@@ -10,6 +10,7 @@ use crate::edit::{Edit, Identified};
 use rg_base::{NoMemory, Seq, TryCopy};
 use rg_cmd::{PolicyChange, TagChange};
 use rg_policy::Policy;
+use rg_shared::Shared;
 use rg_tags::TagRow;
 use std::alloc::Global;
 use std::mem;
@@ -20,7 +21,7 @@ pub fn policy_edits<'a>(
     alloc: Global,
     changes: &'a [PolicyChange],
     tag: bool,
-) -> Result<Vec<Edit<'a, Policy>>, NoMemory>
+) -> Result<Vec<Edit<'a, Shared<Policy>>>, NoMemory>
     ensures { IfOk result (λ edits. edits.items ≡ edits_with tag changes.now) }
 {
     let mut edits = Vec::new(alloc);
@@ -71,7 +72,7 @@ fn edit_list<X: Identified + TryCopy + Drop>(
 #[tactic(auto, using(crate::proofs::Sided::own_edits))]
 pub(crate) fn change_policies(
     alloc: Global,
-    policies: &mut Seq<Policy>,
+    policies: &mut Seq<Shared<Policy>>,
     changes: &[PolicyChange],
 ) -> Result<(), NoMemory>
     ensures { OnOk result (policies.new ≡ listed (fold policies_after policies.old.items changes.now)) }
@@ -84,7 +85,7 @@ pub(crate) fn change_policies(
 #[tactic(auto, using(crate::proofs::Sided::tag_edits))]
 pub(crate) fn change_tag_policies(
     alloc: Global,
-    policies: &mut Seq<Policy>,
+    policies: &mut Seq<Shared<Policy>>,
     changes: &[PolicyChange],
 ) -> Result<(), NoMemory>
     ensures { OnOk result (policies.new ≡ listed (fold tag_policies_after policies.old.items changes.now)) }

@@ -6,14 +6,15 @@ ghost use Rattle.rg_engine.specs.Parts.{compiled_of, lists_of, spared};
 use rg_base::{NoMemory, Seq};
 use rg_facts::Facts;
 use rg_policy::Policy;
+use rg_shared::Shared;
 use rg_tags::TagRow;
 use std::alloc::Global;
 
 /// The policies, tag policies and tag rows of facts.
 #[derive(Drop)]
 pub(crate) struct Lists {
-    pub policies: Seq<Policy>,
-    pub tag_policies: Seq<Policy>,
+    pub policies: Seq<Shared<Policy>>,
+    pub tag_policies: Seq<Shared<Policy>>,
     pub tag_rows: Seq<TagRow>,
 }
 

@@ -25,6 +25,7 @@ use rg_evalr::{Frame, Side};
 use rg_facts::{Best, Facts, Setting};
 use rg_policy::{Policy, Resource};
 use rg_policy_sets::{PolicySet, RowSet};
+use rg_shared::Shared;
 use std::alloc::Global;
 use std::marker::Model;
 
@@ -62,7 +63,7 @@ impl Model for Sets {
 fn build_tag_policies<L: Ledger>(
     alloc: Global,
     frame: &Frame,
-    policies: &[Policy],
+    policies: &[Shared<Policy>],
     steps: &mut Steps<L>,
 ) -> Result<Option<PolicySet>, NoMemory>
     requires lawful { def_fault (def_of frame.now Tagged) ≡ None }
@@ -225,7 +226,7 @@ impl Sets {
 }
 
 /// Copies of the policies of the set, where there is one.
-fn copies_of(alloc: Global, set: &Option<PolicySet>) -> Result<Seq<Policy>, NoMemory>
+fn copies_of(alloc: Global, set: &Option<PolicySet>) -> Result<Seq<Shared<Policy>>, NoMemory>
     ensures { IfOk result (λ list. list ≡ listed (tag_policies_of set.now)) }
 {
     match set {

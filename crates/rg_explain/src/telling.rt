@@ -13,6 +13,7 @@ use crate::choosing::is_chosen;
 use crate::explanation::Told;
 use rg_base::{NoMemory, Seq, Text, TryCopy};
 use rg_policy::{Policy, Tag};
+use rg_shared::Shared;
 use rg_standing::{Question, Standing, told_standing_gives_effect};
 use rg_zone_rules::ZoneRow;
 use std::alloc::Global;
@@ -93,7 +94,7 @@ pub(crate) fn with_policies(
     question: &Question,
     zone: Option<&ZoneRow>,
     mut list: Seq<Told>,
-    policies: &[Policy],
+    policies: &[Shared<Policy>],
 ) -> Result<Seq<Told>, NoMemory>
     requires { list ≡ listed list.items }
     ensures { let s = setting_in question.now (option_map (λ z. z.now) zone.entry) in

@@ -5,6 +5,7 @@ use rg_base::{NoMemory, Seq, Text, TryCopy, Version};
 use rg_defs::ServiceDef;
 use rg_policy::{Policy, TimeZoneRow};
 use rg_roles::RoleRow;
+use rg_shared::Shared;
 use rg_tags::TagRow;
 use rg_zone_rules::ZoneRow;
 use std::alloc::Global;
@@ -18,8 +19,8 @@ pub struct Facts {
     pub def: ServiceDef,
     /// The definition of the tag service, where the service has one.
     pub tag_def: Option<ServiceDef>,
-    pub policies: Seq<Policy>,
-    pub tag_policies: Seq<Policy>,
+    pub policies: Seq<Shared<Policy>>,
+    pub tag_policies: Seq<Shared<Policy>>,
     pub zones: Seq<ZoneRow>,
     pub roles: Seq<RoleRow>,
     pub tag_rows: Seq<TagRow>,
@@ -60,7 +61,10 @@ fn copy_defs(alloc: Global, facts: &Facts) -> Result<(ServiceDef, Option<Service
     Ok((def, tag_def))
 }
 
-fn copy_policies(alloc: Global, facts: &Facts) -> Result<(Seq<Policy>, Seq<Policy>), NoMemory>
+fn copy_policies(
+    alloc: Global,
+    facts: &Facts,
+) -> Result<(Seq<Shared<Policy>>, Seq<Shared<Policy>>), NoMemory>
     ensures { IfOk result (λ lists. (lists.0 ≡ facts.now.policies) × (lists.1 ≡ facts.now.tag_policies)) }
 {
     let policies = facts.policies.try_copy(alloc)?;

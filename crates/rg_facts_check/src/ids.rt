@@ -9,6 +9,7 @@ ghost use Rattle.rg_facts.specs.Sound.{all_policies, ids_sound};
 use rg_base::NoMemory;
 use rg_facts::Facts;
 use rg_policy::Policy;
+use rg_shared::Shared;
 use std::alloc::Global;
 use std::collections::BTreeSet;
 
@@ -34,7 +35,7 @@ fn are_positive(ids: &[i64]) -> bool
 }
 
 /// Adds the ids of the policies.
-fn append_ids(ids: &mut Vec<i64>, policies: &[Policy]) -> Result<(), NoMemory>
+fn append_ids(ids: &mut Vec<i64>, policies: &[Shared<Policy>]) -> Result<(), NoMemory>
     ensures { OnOk result (ids.new.items ≡ ids.old.items ++ map (λ (p : Policy). p.id.0) policies.now) }
 {
     for policy in policies {

@@ -34,6 +34,7 @@ use rg_items::subjects_fit;
 use rg_policy::{Policy, TimeZoneRow};
 use rg_resmatch::tagged_fit;
 use rg_roles::role_fault;
+use rg_shared::Shared;
 use rg_tags::{TagRow, tags_fit};
 use rg_zone_rules::{
     ZoneRow, listing_fits, policy_zone_fits, subjects_exist, tag_policy_zone_fits, zone_levels_fit,
@@ -98,7 +99,7 @@ fn def_cause(alloc: Global, facts: &Facts) -> Result<Option<Unsound>, NoMemory>
 }
 
 /// The rule of this number fails for the policy.
-fn of_policy(rule: u8, policy: Option<&Policy>) -> Option<Unsound>
+fn of_policy(rule: u8, policy: Option<&Shared<Policy>>) -> Option<Unsound>
     ensures { result ≡ option_map (λ (p : Policy). unsound.Policy p.id rule) (option_map (λ p. p.now) policy.entry) }
 {
     match policy {
@@ -108,7 +109,10 @@ fn of_policy(rule: u8, policy: Option<&Policy>) -> Option<Unsound>
 }
 
 /// The first policy that names no subject, or a role that isn't one of these.
-fn unfit_subjects<'a>(roles: &NameIndex, policies: &'a [Policy]) -> Option<&'a Policy>
+fn unfit_subjects<'a>(
+    roles: &NameIndex,
+    policies: &'a [Shared<Policy>],
+) -> Option<&'a Shared<Policy>>
     ensures { option_map (λ p. p.now) result ≡ find (λ p. not (subjects_fit roles.now p)) policies.now }
 {
     policies.iter().find(|policy| !subjects_fit(roles, policy))
@@ -128,7 +132,7 @@ fn role_cause(alloc: Global, facts: &Facts, names: &NameIndex) -> Result<Option<
 }
 
 /// The first policy that has no zone in which it may stand.
-fn out_of_zone<'a>(is_tag: bool, facts: &'a Facts) -> Option<&'a Policy>
+fn out_of_zone<'a>(is_tag: bool, facts: &'a Facts) -> Option<&'a Shared<Policy>>
     ensures { option_map (λ p. p.now) result ≡ find (λ p. not (policy_zone_fits is_tag facts.now.service facts.now.zones.items p)) facts.now.policies.items }
 {
     let service = facts.service.as_str();
@@ -140,7 +144,7 @@ fn out_of_zone<'a>(is_tag: bool, facts: &'a Facts) -> Option<&'a Policy>
         .find(|policy| !policy_zone_fits(is_tag, service, zones, policy))
 }
 
-fn tag_out_of_zone(facts: &Facts) -> Option<&Policy>
+fn tag_out_of_zone(facts: &Facts) -> Option<&Shared<Policy>>
     ensures { option_map (λ p. p.now) result ≡ find (λ p. not (tag_policy_zone_fits facts.now.zones.items p)) facts.now.tag_policies.items }
 {
     let zones = facts.zones.as_slice();
@@ -361,7 +365,12 @@ fn passes(frame: &Frame, side: Side, paths: &Paths, policy: &Policy) -> bool
 }
 
 /// The first policy that fails a rule of V3 to V9, V11 and V12.
-fn unfit<'a>(frame: &Frame, side: Side, paths: &Paths, policies: &'a [Policy]) -> Option<&'a Policy>
+fn unfit<'a>(
+    frame: &Frame,
+    side: Side,
+    paths: &Paths,
+    policies: &'a [Shared<Policy>],
+) -> Option<&'a Shared<Policy>>
     requires { paths.now ≡ (def_of frame.now side).levels.items }
     ensures { option_map (λ p. p.now) result ≡ find (λ p. not (passes frame.now side p)) policies.now }
 {
@@ -380,7 +389,12 @@ fn faulty(frame: &Frame, side: Side, paths: &Paths, policy: &Policy) -> Option<U
     }
 }
 
-fn first_faulty(frame: &Frame, side: Side, paths: &Paths, policies: &[Policy]) -> Option<Unsound>
+fn first_faulty(
+    frame: &Frame,
+    side: Side,
+    paths: &Paths,
+    policies: &[Shared<Policy>],
+) -> Option<Unsound>
     requires { paths.now ≡ (def_of frame.now side).levels.items }
     ensures { result ≡ first_faulty frame.now side policies.now }
 {
@@ -388,7 +402,7 @@ fn first_faulty(frame: &Frame, side: Side, paths: &Paths, policies: &[Policy]) -
     faulty(frame, side, paths, policy)
 }
 
-fn is_no_policy(policies: &[Policy]) -> bool
+fn is_no_policy(policies: &[Shared<Policy>]) -> bool
     ensures { result ≡ is_no_policy policies.now }
 {
     match policies {
@@ -400,7 +414,7 @@ fn is_no_policy(policies: &[Policy]) -> bool
 fn tag_policies_cause(
     alloc: Global,
     frame: &Frame,
-    policies: &[Policy],
+    policies: &[Shared<Policy>],
 ) -> Result<Option<Unsound>, NoMemory>
     requires { tag_def_sound frame.now.tag_def ≡ true }
     ensures { IfOk result (λ cause. cause ≡ tag_policies_cause frame.now frame.now.tag_def policies.now) }

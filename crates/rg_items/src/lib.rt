@@ -11,4 +11,7 @@ pub use policy_rules::{
     all_among, entries_fit, is_custom, lists_fit, outcomes_fit, priority_fits, subjects_fit,
     type_fits,
 };
-pub use subjects::{Subjects, has_owner_word, has_user_word, is_owner, names};
+pub use subjects::{
+    Subjects, has_owner_word, has_user_word, is_owner, names, names_group, names_indexed_group,
+    names_role,
+};

@@ -1,12 +1,11 @@
 // Whom lists of users, groups and roles name.
 ghost use Rattle.std.specs.Prelude.{◌≡◌};
-ghost use Rattle.std.specs.List.{list_any};
 ghost use Rattle.std.specs.Str.{chars};
 ghost use Rattle.rg_base.specs.Texts.{is_among};
 ghost use Rattle.rg_roles.specs.Members.{everybody};
 ghost use Rattle.rg_items.specs.Subjects.{is_owner, names, names_group, names_role, owner_word, user_word};
 
-use rg_base::{Text, is_among, is_empty, same_text};
+use rg_base::{NameIndex, Text, any_among, is_among, is_empty, same_text};
 use rg_policy::AccessRequest;
 use rg_roles::Roles;
 use std::marker::Model;
@@ -58,19 +57,22 @@ fn has_everybody(groups: &[Text]) -> bool
     is_among("public", groups)
 }
 
-fn any_among(own: &[Text], groups: &[Text]) -> bool
-    ensures { result ≡ list_any (λ g. is_among g groups.now) own.now }
-{
-    own.iter().any(|group| is_among(group.as_str(), groups))
-}
-
-fn names_group(own: &[Text], groups: &[Text]) -> bool
+/// Whether these name one of the user's groups, or `public`.
+pub fn names_group(own: &[Text], groups: &[Text]) -> bool
     ensures { result ≡ names_group own.now groups.now }
 {
     any_among(own, groups) || has_everybody(groups)
 }
 
-fn names_role(roles: &Roles, user: &str, own: &[Text], named: &[Text]) -> bool
+/// As `names_group`, for a user with many groups who is asked for often.
+pub fn names_indexed_group(own: &NameIndex, groups: &[Text]) -> bool
+    ensures { result ≡ names_group own.now groups.now }
+{
+    own.any_among(groups) || has_everybody(groups)
+}
+
+/// Whether one of these roles holds the user, who has these groups.
+pub fn names_role(roles: &Roles, user: &str, own: &[Text], named: &[Text]) -> bool
     ensures { result ≡ names_role roles.now (chars user.now) own.now named.now }
 {
     named

@@ -21,6 +21,7 @@ use rg_facts::{Facts, frame_of};
 use rg_policy::Policy;
 use rg_resmatch::{Matcher, Reach};
 use rg_roles::{RoleRow, Roles};
+use rg_shared::Shared;
 use rg_tags::TagRow;
 use rg_zones::ZoneMap;
 use std::alloc::Global;
@@ -63,7 +64,7 @@ fn evaluators(
     alloc: Global,
     frame: &Frame,
     side: Side,
-    policies: &[Policy],
+    policies: &[Shared<Policy>],
 ) -> Result<Seq<Evaluator>, NoMemory>
     requires lawful { def_fault (def_of frame.now side) ≡ None }
     requires rules { list_all (λ (p : Policy). is_none (policy_fault frame.now side p)) policies.now ≡ true }

@@ -18,6 +18,7 @@ use rg_facts::{Best, Candidate, Decision, Facts, Outcome, Pass, Published, Setti
 use rg_policy::{AccessRequest, Policy, Tag};
 use rg_resmatch::Matcher;
 use rg_roles::Roles;
+use rg_shared::Shared;
 use rg_tags::TagRow;
 use rg_zone_rules::ZoneRow;
 use rg_zones::ZoneMap;
@@ -82,7 +83,7 @@ fn ask_policies<'a>(
     setting: &Setting,
     pass: Pass,
     best: Best<'a>,
-    policies: &'a [Policy],
+    policies: &'a [Shared<Policy>],
     evaluators: &'a [Evaluator],
     tag: Option<&'a Tag>,
 ) -> Best<'a>
@@ -110,7 +111,7 @@ fn ask_policies<'a>(
 fn ask_tags<'a>(
     setting: &Setting,
     best: Best<'a>,
-    policies: &'a [Policy],
+    policies: &'a [Shared<Policy>],
     evaluators: &'a [Evaluator],
     tags: &'a [Tag],
 ) -> Best<'a>

@@ -28,6 +28,7 @@ use Rattle.rg_evalr.proofs.item.CompiledItem.TheSendSync as item
 use Rattle.rg_policy_sets.proofs.marks.Mark.TheSendSync as mark
 use Rattle.rg_defs.proofs.service_def.Level.TheSendSync as level
 use Rattle.rg_policy.proofs.policy.Policy.TheSendSync as policy
+use Rattle.rg_shared.proofs.shared.Shared.TheSendSync as shared
 use Rattle.rg_tags.proofs.row.TagRow.TheSendSync as row
 
 matcher_send : IsSend M.the_row
@@ -55,10 +56,10 @@ evaluator_sync : IsSync E.the_row
 evaluator_sync = search (sendable, evaluator_inside_sync) depth 20
 
 policy_inside_send : IsSend HI.the_row
-policy_inside_send = declared_send HI.the_type (search (sendable, mark.the_send) depth 20, (search (sendable, mark.the_send) depth 20, (search (sendable, policy.the_send) depth 40, (search (sendable, evaluator_send) depth 40, tt))))
+policy_inside_send = declared_send HI.the_type (search (sendable, mark.the_send) depth 20, (search (sendable, mark.the_send) depth 20, (search (sendable, shared.the_send, policy.the_send, policy.the_sync) depth 40, (search (sendable, evaluator_send) depth 40, tt))))
 
 policy_inside_sync : IsSync HI.the_row
-policy_inside_sync = declared_sync HI.the_type (search (sendable, mark.the_sync) depth 20, (search (sendable, mark.the_sync) depth 20, (search (sendable, policy.the_sync) depth 40, (search (sendable, evaluator_sync) depth 40, tt))))
+policy_inside_sync = declared_sync HI.the_type (search (sendable, mark.the_sync) depth 20, (search (sendable, mark.the_sync) depth 20, (search (sendable, shared.the_sync, policy.the_send, policy.the_sync) depth 40, (search (sendable, evaluator_sync) depth 40, tt))))
 
 pub held_policy_send : IsSend H.the_row
 held_policy_send = search (sendable, policy_inside_send) depth 20

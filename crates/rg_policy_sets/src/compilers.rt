@@ -12,6 +12,7 @@ use rg_base::{Ledger, NoMemory, Steps};
 use rg_defs::ServiceDef;
 use rg_evalr::{Frame, Side};
 use rg_policy::Policy;
+use rg_shared::Shared;
 use rg_tags::TagRow;
 use std::alloc::Global;
 
@@ -22,7 +23,7 @@ pub(crate) struct PolicyCompiler<'a> {
     pub(crate) side: Side,
 }
 
-impl<'a> Compile<Policy, HeldPolicy> for PolicyCompiler<'a> {
+impl<'a> Compile<Shared<Policy>, HeldPolicy> for PolicyCompiler<'a> {
     ghost hold = { λ c p. source c.frame.now c.side p };
 
     ghost Ready = { λ c. def_fault (def_of c.frame.now c.side) ≡ None };
@@ -35,7 +36,7 @@ impl<'a> Compile<Policy, HeldPolicy> for PolicyCompiler<'a> {
     fn compile<L: Ledger>(
         &self,
         alloc: Global,
-        item: &Policy,
+        item: &Shared<Policy>,
         steps: &mut Steps<L>,
     ) -> Result<HeldPolicy, NoMemory> {
         HeldPolicy::compile(alloc, self.frame, self.side, item, steps)

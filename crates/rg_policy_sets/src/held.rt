@@ -17,6 +17,7 @@ use rg_evalr::{Evaluator, Frame, Side, def_of};
 use rg_index::Form;
 use rg_policy::{Policy, ResourceMap, maps_of};
 use rg_resmatch::{Matcher, Reach};
+use rg_shared::Shared;
 use rg_tags::TagRow;
 use std::alloc::Global;
 use std::marker::Model;
@@ -40,7 +41,7 @@ pub(crate) trait Fileable: Drop {
 pub(crate) struct HeldPolicy {
     first: Mark,
     second: Mark,
-    pub(crate) policy: Policy,
+    pub(crate) policy: Shared<Policy>,
     pub(crate) evaluator: Evaluator,
 }
 
@@ -122,20 +123,21 @@ fn row_form(alloc: Global, ordinal: i64, row: &TagRow) -> Result<Form, NoMemory>
 }
 
 impl HeldPolicy {
-    /// A copy of the policy, which passes its rules, with its evaluator. One compile is counted.
+    /// The policy, which passes its rules and is shared, with its evaluator. One compile is counted.
     #[tactic(auto, using(crate::proofs::Marking::written))]
     pub(crate) fn compile<L: Ledger>(
         alloc: Global,
         frame: &Frame,
         side: Side,
-        policy: &Policy,
+        shared: &Shared<Policy>,
         steps: &mut Steps<L>,
     ) -> Result<HeldPolicy, NoMemory>
         requires lawful { def_fault (def_of frame.now side) ≡ None }
-        requires rules { policy_fault frame.now side policy.now ≡ None }
-        ensures source { IfOk result (λ h. h ≡ source frame.now side policy.now) }
+        requires rules { policy_fault frame.now side shared.now ≡ None }
+        ensures source { IfOk result (λ h. h ≡ source frame.now side shared.now) }
         ensures steps { steps.new ≡ one_compile steps.old }
     {
+        let policy: &Policy = shared;
         let evaluator = Evaluator::compile(alloc, frame, policy, side, steps)?;
         let levels = def_of(frame, side).levels.as_slice();
         let first = Mark::at(alloc, levels, 0, policy)?;
@@ -143,7 +145,7 @@ impl HeldPolicy {
         Ok(HeldPolicy {
             first,
             second,
-            policy: policy.try_copy(alloc)?,
+            policy: shared.try_copy(alloc)?,
             evaluator,
         })
     }

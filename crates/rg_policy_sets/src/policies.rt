@@ -32,6 +32,7 @@ use rg_cmd::PolicyChange;
 use rg_defs::{Level, ServiceDef};
 use rg_evalr::{Frame, Side, def_of};
 use rg_policy::{Policy, Resource};
+use rg_shared::Shared;
 use std::alloc::Global;
 use std::marker::Model;
 use std::snapshot::Snapshot;
@@ -82,7 +83,7 @@ fn levels_of(alloc: Global, def: &ServiceDef) -> Result<Arc<Seq<Level>>, NoMemor
 }
 
 /// Copies of the policies in the slots.
-fn policies_of(alloc: Global, slots: &[Slot<HeldPolicy>]) -> Result<Seq<Policy>, NoMemory>
+fn policies_of(alloc: Global, slots: &[Slot<HeldPolicy>]) -> Result<Seq<Shared<Policy>>, NoMemory>
     ensures { IfOk result (λ list. list ≡ listed (policies_in slots.now)) }
 {
     let mut list = Seq::new(alloc);
@@ -99,7 +100,7 @@ impl PolicySet {
         alloc: Global,
         frame: &Frame,
         side: Side,
-        policies: &[Policy],
+        policies: &[Shared<Policy>],
         steps: &mut Steps<L>,
     ) -> Result<PolicySet, NoMemory>
         requires lawful { def_fault (def_of frame.now side) ≡ None }
@@ -206,7 +207,7 @@ impl PolicySet {
     }
 
     /// Copies of the policies.
-    pub fn copies(&self, alloc: Global) -> Result<Seq<Policy>, NoMemory>
+    pub fn copies(&self, alloc: Global) -> Result<Seq<Shared<Policy>>, NoMemory>
         ensures { IfOk result (λ list. list ≡ listed self.now.policies) }
     {
         policies_of(alloc, self.shelf.as_slice())

@@ -13,6 +13,7 @@ use rg_cmd::{PolicyChange, TagChange};
 use rg_delta::{Edit, policy_edits, row_edits};
 use rg_evalr::Side;
 use rg_policy::Policy;
+use rg_shared::Shared;
 use rg_tags::TagRow;
 use std::alloc::Global;
 
@@ -22,7 +23,7 @@ fn edits_of<'a>(
     alloc: Global,
     side: Side,
     changes: &'a [PolicyChange],
-) -> Result<Vec<Edit<'a, Policy>>, NoMemory>
+) -> Result<Vec<Edit<'a, Shared<Policy>>>, NoMemory>
     ensures { IfOk result (λ edits. edits.items ≡ edits_of side changes.now) }
 {
     match side {
@@ -59,7 +60,7 @@ pub(crate) fn policy_plan<'a>(
     side: Side,
     slots: &[Slot<HeldPolicy>],
     changes: &'a [PolicyChange],
-) -> Result<Plan<'a, Policy>, NoMemory>
+) -> Result<Plan<'a, Shared<Policy>>, NoMemory>
     ensures { IfOk result (λ p. p ≡ plan_of policy_id (map policy_id (policies_in slots.now)) (edits_of side changes.now)) }
 {
     let edits = edits_of(alloc, side, changes)?;

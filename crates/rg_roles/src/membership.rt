@@ -1,9 +1,7 @@
 // Roles, and whether one holds a user.
 ghost use Rattle.std.specs.Prelude.{◌≡◌, ◌↔◌, ◌<◌, ◌*◌, ◌+◌, ◌^◌, ◌&&◌, ◌||◌, IfOk, IfErr, IsTrue, None, take, nat_eq, length};
 ghost use Rattle.std.specs.Int.{bit_at};
-ghost use Rattle.std.specs.List.{list_any};
 ghost use Rattle.std.specs.Str.{chars};
-ghost use Rattle.rg_base.specs.Texts.{is_among};
 ghost use Rattle.rg_roles.specs.Faults.{IsRefusal, fault_of};
 ghost use Rattle.rg_roles.specs.Holding.{Holds, holds};
 ghost use Rattle.rg_roles.specs.Members.{names_asker, passes_at};
@@ -12,16 +10,9 @@ ghost use Rattle.rg_roles.specs.Places.{any_below, has};
 use crate::fault::{RoleFault, searched};
 use crate::reach::{Reach, reach_of};
 use crate::row::RoleRow;
-use rg_base::{NameIndex, NoMemory, Text, TryCopy, is_among};
+use rg_base::{NameIndex, NoMemory, Text, TryCopy, any_among, is_among};
 use std::alloc::Global;
 use std::marker::Model;
-
-/// Whether one of the groups is one of these.
-fn shares_group(groups: &[Text], named: &[Text]) -> bool
-    ensures { result ≡ list_any (λ g. is_among g named.now) groups.now }
-{
-    groups.iter().any(|g| is_among(g.as_str(), named))
-}
 
 /// Whether the row itself names the user, one of the groups, or `public`.
 #[tactic(auto, using(crate::proofs::Asker::asker))]
@@ -29,7 +20,7 @@ fn names_asker(row: &RoleRow, user: &str, groups: &[Text]) -> bool
     ensures { result ≡ names_asker (chars user.now) groups.now row.now }
 {
     is_among(user, row.users.as_slice())
-        || shares_group(groups, row.groups.as_slice())
+        || any_among(groups, row.groups.as_slice())
         || is_among("public", row.groups.as_slice())
 }
 
@@ -130,8 +121,8 @@ impl Roles {
     }
 
     /// Whether the role holds a user who has these groups: it names the user, one of the groups or the group `public`, or
-    /// names a role that holds the user. False for a role that isn't there. It takes no memory, and looks once at each row
-    /// that the role reaches.
+    /// names a role that holds the user. False for a role that isn't there. It looks once at each row that the role
+    /// reaches, and takes no memory but where the user and such a row have many groups.
     pub fn holds(&self, role: &str, user: &str, groups: &[Text]) -> bool
         ensures exact { IsTrue result ↔ Holds self.now (chars role.now) (chars user.now) groups.now }
         ensures test { result ≡ holds self.now (chars role.now) (chars user.now) groups.now }

@@ -6,3 +6,4 @@ mod grants;
 mod line;
 
 pub use grants::Grants;
+pub use line::{Change, GrantLine, read_grant_line};

@@ -27,7 +27,7 @@ pub enum GrantLine {
 
 /// What is asked of a row.
 #[derive(Clone, Copy, Debug, PartialEq, Eq)]
-enum Change {
+pub enum Change {
     Grant,
     Revoke,
 }

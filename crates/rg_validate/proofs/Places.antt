@@ -1,5 +1,5 @@
 -- The first place of an item that passes a test.
-use Rattle.std.proofs.Common.{◌≡◌, ◌+◌, ◌∷◌, ℕ, ℤ, zero, suc, Bool, true, false, not, cond, List, [], Option, Some, None, option_map, position, slice_get, refl, ap, sym, ◌∙◌, arith}
+use Rattle.std.proofs.Common.{◌≡◌, ◌+◌, ◌∷◌, ℕ, ℤ, zero, suc, Bool, true, false, not, cond, List, [], Option, Some, None, map, option_map, position, slice_get, refl, ap, sym, ◌∙◌, arith}
 use Rattle.std.specs.List.{find, list_any, position_from}
 use Rattle.std.specs.Option.{option_and_then}
 use Rattle.std.specs.Ordering.{int_eq}
@@ -45,6 +45,13 @@ module _ {X : Type 0} (p : X → Bool) where
   -- the item at the first place is the one that is found
   pub found_at : (xs : List X) → find p xs ≡ option_and_then (slice_get xs) (position p xs)
   found_at xs = found_there xs ∙ ap (option_and_then (slice_get xs)) (sym (place_is xs))
+
+-- the first place among what was made of other items
+pub position_mapped : {X Y : Type 0} (p : Y → Bool) (f : X → Y) (xs : List X) → position p (map f xs) ≡ position (λ x. p (f x)) xs
+position_mapped {X = X} p f xs = place_is p (map f xs) ∙ at xs ∙ sym (place_is (λ x. p (f x)) xs) where
+  at : (xs : List X) → place_of p (map f xs) ≡ place_of (λ x. p (f x)) xs
+  at [] = refl
+  at (x ∷ xs) = ap (λ o. cond (p (f x)) (Some 0) (option_map suc o)) (at xs)
 
 -- of items of which no two that pass are there, one that passes stands at the first place
 module _ {X : Type 0} (alike : X → X → Bool) (same : X → Bool) (shared : (a b : X) → same a ≡ true → same b ≡ true → alike a b ≡ true) where

@@ -25,32 +25,32 @@ some_of : {X : Type 0} (o : Option X) → is_some o ≡ true → (x : X) × (o �
 some_of None h = absurd (false≢true h)
 some_of (Some x) h = (x, refl)
 
--- of services with distinct names each is the first of its name
-found_itself : (rows : List ServiceRow) (row : ServiceRow) → all_distinct (λ (a b : ServiceRow). bytes_eq b.name a.name) rows ≡ true
-    → Contains rows row → find (is_service row.name) rows ≡ Some row
-found_itself [] row distinct here = absurd (Contains-none row here)
-found_itself (r ∷ rows) row distinct here = at (Contains-cases r rows row here) (found_itself rows row parts.1)
+-- of things with distinct names each is the first of its name
+pub found_itself : {X : Type 0} (named : X → List ℕ) (xs : List X) (x : X) → all_distinct (λ a b. bytes_eq (named b) (named a)) xs ≡ true
+    → Contains xs x → find (λ y. bytes_eq (named y) (named x)) xs ≡ Some x
+found_itself named [] x distinct here = absurd (Contains-none x here)
+found_itself named (y ∷ ys) x distinct here = at (Contains-cases y ys x here) (found_itself named ys x parts.1)
   where
-    parts : (not (list_any (λ (b : ServiceRow). bytes_eq b.name r.name) rows) ≡ true) × (all_distinct (λ (a b : ServiceRow). bytes_eq b.name a.name) rows ≡ true)
-    parts = and_parts (not (list_any (λ (b : ServiceRow). bytes_eq b.name r.name) rows)) (all_distinct (λ (a b : ServiceRow). bytes_eq b.name a.name) rows) distinct
+    parts : (not (list_any (λ z. bytes_eq (named z) (named y)) ys) ≡ true) × (all_distinct (λ a b. bytes_eq (named b) (named a)) ys ≡ true)
+    parts = and_parts (not (list_any (λ z. bytes_eq (named z) (named y)) ys)) (all_distinct (λ a b. bytes_eq (named b) (named a)) ys) distinct
 
-    apart : Contains rows row → (b : Bool) → bytes_eq r.name row.name ≡ b → (Contains rows row → find (is_service row.name) rows ≡ Some row)
-        → cond b (Some r) (find (is_service row.name) rows) ≡ Some row
+    apart : Contains ys x → (b : Bool) → bytes_eq (named y) (named x) ≡ b → (Contains ys x → find (λ z. bytes_eq (named z) (named x)) ys ≡ Some x)
+        → cond b (Some y) (find (λ z. bytes_eq (named z) (named x)) ys) ≡ Some x
     apart later false e rest = rest later
     apart later true e rest =
-        let same : row.name ≡ r.name = sym ((bytes_eq-Decides r.name row.name).0 e) in
-        let twice = any_from (λ (b : ServiceRow). bytes_eq b.name r.name) rows row later ((bytes_eq-Decides row.name r.name).1 same) in
+        let same : named x ≡ named y = sym ((bytes_eq-Decides (named y) (named x)).0 e) in
+        let twice = any_from (λ z. bytes_eq (named z) (named y)) ys x later ((bytes_eq-Decides (named x) (named y)).1 same) in
         absurd (false≢true (sym (ap not twice) ∙ parts.0))
 
-    at : (r ≡ row) ⊎ Contains rows row → (Contains rows row → find (is_service row.name) rows ≡ Some row)
-        → cond (bytes_eq r.name row.name) (Some r) (find (is_service row.name) rows) ≡ Some row
+    at : (y ≡ x) ⊎ Contains ys x → (Contains ys x → find (λ z. bytes_eq (named z) (named x)) ys ≡ Some x)
+        → cond (bytes_eq (named y) (named x)) (Some y) (find (λ z. bytes_eq (named z) (named x)) ys) ≡ Some x
     at (inl is) rest =
-        ap (λ b. cond b (Some r) (find (is_service row.name) rows)) ((bytes_eq-Decides r.name row.name).1 (ap (λ (x : ServiceRow). x.name) is)) ∙ ap Some is
-    at (inr later) rest = apart later (bytes_eq r.name row.name) refl rest
+        ap (λ b. cond b (Some y) (find (λ z. bytes_eq (named z) (named x)) ys)) ((bytes_eq-Decides (named y) (named x)).1 (ap named is)) ∙ ap Some is
+    at (inr later) rest = apart later (bytes_eq (named y) (named x)) refl rest
 
 -- the definition of a service that is there is that of its row
 pub own_def : (s : State) (row : ServiceRow) → IsValid s → Contains s.services.items row → def_of s row.name ≡ def_at s row.def
-own_def s row valid here = ap (option_and_then (λ (r : ServiceRow). def_at s r.def)) (found_itself s.services.items row valid.service_names here)
+own_def s row valid here = ap (option_and_then (λ (r : ServiceRow). def_at s r.def)) (found_itself (λ (r : ServiceRow). r.name) s.services.items row valid.service_names here)
 
 module _ (s : State) (name : List ℕ) where
   -- the definition is that of the service's row

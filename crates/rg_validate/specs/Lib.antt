@@ -1,3 +1,4 @@
+pub mod Apart
 pub mod Definitions
 pub mod Failing
 pub mod Policies

@@ -19,9 +19,10 @@ use crate::roles::{goes_in_no_circle, member_roles_exist, role_is_unused, roles_
 use crate::services::{keeps_definition, service_is_unused, service_name_is_new, tag_service_fits};
 use crate::tags::{row_id_fits, tagged_resources_fit, tagged_service_fits};
 use crate::users::user_fits;
+use crate::zone_apart::zone_is_apart;
 use crate::zones::{
-    zone_is_apart, zone_is_unused, zone_keeps_policies, zone_levels_suit, zone_services_fit,
-    zone_subjects_exist, zone_values_suit,
+    zone_is_unused, zone_keeps_policies, zone_levels_suit, zone_services_fit, zone_subjects_exist,
+    zone_values_suit,
 };
 use rg_base::{NoMemory, Text, is_name};
 use rg_cmd::{AdminCommand, Rule, ServiceRow, State};

@@ -16,6 +16,7 @@ use rg_defs::{Paths, ServiceDef};
 use rg_items::{entries_fit, lists_fit, outcomes_fit, type_fits};
 use rg_policy::Policy;
 use rg_resmatch::{policy_levels_fit, policy_values_fit, tagged_fit};
+use rg_shared::Shared;
 use rg_tags::TagRow;
 use rg_zone_rules::{ZoneRow, all_maps_fit};
 use rg_zones::overlapping;
@@ -47,7 +48,12 @@ pub(crate) fn policy_suits(def: &ServiceDef, paths: &Paths, policy: &Policy) -> 
                         && (conditions_compile(def, policy) && outcomes_fit(def, policy))))))
 }
 
-fn policies_suit(def: &ServiceDef, paths: &Paths, services: &NameIndex, policies: &[Policy]) -> bool
+fn policies_suit(
+    def: &ServiceDef,
+    paths: &Paths,
+    services: &NameIndex,
+    policies: &[Shared<Policy>],
+) -> bool
     requires { paths.now ≡ def.now.levels.items }
     ensures { result ≡ list_all (λ (p : Policy). not (is_among p.service services.now) || policy_suits def.now p) policies.now }
 {

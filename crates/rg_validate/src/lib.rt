@@ -2,6 +2,7 @@
 #![tactic(auto)]
 
 mod commands;
+mod def_index;
 mod definitions;
 mod existence;
 mod lookups;
@@ -12,6 +13,7 @@ mod services;
 mod tags;
 mod users;
 mod valid;
+mod zone_apart;
 mod zones;
 
 pub use commands::{command_fault, definition_fault};
@@ -34,7 +36,8 @@ pub use services::{
 pub use tags::{row_id_fits, tagged_resources_fit, tagged_service_fits};
 pub use users::{time_zones_read, user_fits};
 pub use valid::is_valid;
+pub use zone_apart::zone_is_apart;
 pub use zones::{
-    zone_is_apart, zone_is_unused, zone_keeps_policies, zone_levels_suit, zone_services_fit,
-    zone_subjects_exist, zone_values_suit,
+    zone_is_unused, zone_keeps_policies, zone_levels_suit, zone_services_fit, zone_subjects_exist,
+    zone_values_suit,
 };

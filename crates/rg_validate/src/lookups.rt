@@ -13,6 +13,7 @@ use rg_base::{PolicyId, Text, find_named, same_text};
 use rg_cmd::{ServiceRow, State};
 use rg_defs::{ServiceDef, tag_name};
 use rg_policy::Policy;
+use rg_shared::Shared;
 
 /// Whether the name is that of tag definitions.
 pub(crate) fn is_tag(name: &Text) -> bool
@@ -65,13 +66,13 @@ pub(crate) fn is_tag_service(state: &State, service: &Text) -> bool
     }
 }
 
-pub(crate) fn has_id(policy: &Policy, id: PolicyId) -> bool
+pub(crate) fn has_id(policy: &Shared<Policy>, id: PolicyId) -> bool
     ensures { result ≡ has_id id.0 policy.now }
 {
     policy.id.0 == id.0
 }
 
-fn is_before(policy: &Policy, id: PolicyId) -> bool
+fn is_before(policy: &Shared<Policy>, id: PolicyId) -> bool
     ensures { result ≡ int_lt policy.now.id.0 id.0 }
 {
     policy.id.0 < id.0
@@ -79,7 +80,7 @@ fn is_before(policy: &Policy, id: PolicyId) -> bool
 
 /// The place of the policy of this id. It is found by halves where the ids rise with their places, as those of an
 /// administration do, and else one by one.
-pub fn place_of_policy(policies: &[Policy], id: PolicyId) -> Option<usize>
+pub fn place_of_policy(policies: &[Shared<Policy>], id: PolicyId) -> Option<usize>
     requires { all_distinct (λ (p q : Written). int_eq p.id.0 q.id.0) policies.now ≡ true }
     ensures first { result ≡ position (has_id id.0) policies.now }
     ensures within { IfSome result (λ place. place < length policies.now) }
@@ -94,7 +95,7 @@ pub fn place_of_policy(policies: &[Policy], id: PolicyId) -> Option<usize>
 }
 
 /// The policy of this id among these.
-fn policy_in(policies: &[Policy], id: PolicyId) -> Option<&Policy>
+fn policy_in(policies: &[Shared<Policy>], id: PolicyId) -> Option<&Shared<Policy>>
     requires { all_distinct (λ (p q : Written). int_eq p.id.0 q.id.0) policies.now ≡ true }
     ensures { option_map (λ p. p.now) result ≡ find (has_id id.0) policies.now }
 {
@@ -105,7 +106,7 @@ fn policy_in(policies: &[Policy], id: PolicyId) -> Option<&Policy>
 }
 
 /// The policy of this id.
-pub fn policy_at(state: &State, id: PolicyId) -> Option<&Policy>
+pub fn policy_at(state: &State, id: PolicyId) -> Option<&Shared<Policy>>
     requires { IsValid state.now }
     ensures { option_map (λ p. p.now) result ≡ policy_at state.now id.0 }
 {

@@ -21,10 +21,11 @@ use rg_items::{entries_fit, lists_fit, outcomes_fit, priority_fits, subjects_fit
 use rg_policy::Policy;
 use rg_resmatch::{policy_levels_fit, policy_values_fit};
 use rg_same_resources::{PrintCounts, has_print, is_twin, name_print_of, print_of, same_place};
+use rg_shared::Shared;
 use rg_zone_rules::policy_zone_fits;
 use std::alloc::Global;
 
-fn is_other(updated: Option<PolicyId>, policy: &Policy) -> bool
+fn is_other(updated: Option<PolicyId>, policy: &Shared<Policy>) -> bool
     ensures { result ≡ is_other updated policy.now }
 {
     match updated {
@@ -39,7 +40,7 @@ fn is_namesake(policy: &Policy, other: &Policy) -> bool
     same_text(other.name.as_str(), policy.name.as_str()) && same_place(policy, other)
 }
 
-fn some_namesake(policies: &[Policy], updated: Option<PolicyId>, policy: &Policy) -> bool
+fn some_namesake(policies: &[Shared<Policy>], updated: Option<PolicyId>, policy: &Policy) -> bool
     ensures { result ≡ list_any (λ (q : Policy). is_other updated q && is_namesake policy.now q) policies.now }
 {
     policies.iter().any(|other| is_other(updated, other) && is_namesake(policy, other))
@@ -114,7 +115,7 @@ pub fn policy_schedules_read(
 
 fn some_twin(
     alloc: Global,
-    policies: &[Policy],
+    policies: &[Shared<Policy>],
     updated: Option<PolicyId>,
     policy: &Policy,
 ) -> Result<bool, NoMemory>
@@ -156,7 +157,7 @@ fn old_form(state: &State, updated: Option<PolicyId>) -> Option<&Policy>
     ensures { option_map (λ p. p.now) result ≡ old_form state.now updated }
 {
     match updated {
-        Some(id) => policy_at(state, id),
+        Some(id) => Some(policy_at(state, id)?),
         None => None,
     }
 }

@@ -16,6 +16,7 @@ use rg_items::all_among;
 use rg_policy::{Item, Policy, item_lists};
 use rg_roles::laws::{leads_is_decided, row_may_be_put, sound_in_lists};
 use rg_roles::{RoleRow, role_fault};
+use rg_shared::Shared;
 use rg_zone_rules::ZoneRow;
 use std::alloc::Global;
 
@@ -127,7 +128,7 @@ fn policy_names_role(name: &Text, policy: &Policy) -> bool
     some_list_names(&lists, name)
 }
 
-fn some_policy_names(policies: &[Policy], name: &Text) -> bool
+fn some_policy_names(policies: &[Shared<Policy>], name: &Text) -> bool
     ensures { result ≡ list_any (policy_names_role name.now) policies.now }
 {
     policies

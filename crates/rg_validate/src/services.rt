@@ -11,6 +11,7 @@ use crate::lookups::{has_def, is_tag, is_tag_service};
 use rg_base::{Text, is_empty, is_name, same_text};
 use rg_cmd::{ServiceRow, State};
 use rg_policy::Policy;
+use rg_shared::Shared;
 use rg_tags::TagRow;
 use rg_zone_rules::{ZoneRow, lists_service};
 
@@ -36,7 +37,7 @@ pub fn keeps_definition(state: &State, row: &ServiceRow) -> bool
     has_def(state, &row.def, &row.name)
 }
 
-fn some_policy_of(policies: &[Policy], service: &Text) -> bool
+fn some_policy_of(policies: &[Shared<Policy>], service: &Text) -> bool
     ensures { result ≡ list_any (is_of service.now) policies.now }
 {
     policies.iter().any(|policy| same_text(policy.service.as_str(), service.as_str()))

@@ -26,6 +26,7 @@ use rg_defs::{DefFault, Paths, ServiceDef, check_def};
 use rg_items::priority_fits;
 use rg_policy::Policy;
 use rg_roles::role_fault;
+use rg_shared::Shared;
 use rg_tags::{TagRow, tags_fit};
 use rg_zone_rules::ZoneRow;
 use rg_zones::overlapping;
@@ -178,7 +179,7 @@ fn tag_rows_valid(alloc: Global, state: &State) -> Result<bool, NoMemory>
     Ok(true)
 }
 
-fn some_has_id(policies: &[Policy], policy: &Policy) -> bool
+fn some_has_id(policies: &[Shared<Policy>], policy: &Policy) -> bool
     ensures { result ≡ list_any (λ (q : Policy). int_eq policy.now.id.0 q.id.0) policies.now }
 {
     let id = policy.id;
@@ -192,7 +193,7 @@ fn same_id(id: PolicyId, other: &Policy) -> bool
 }
 
 /// The work is quadratic in the number of policies.
-fn policy_ids_distinct(policies: &[Policy]) -> bool
+fn policy_ids_distinct(policies: &[Shared<Policy>]) -> bool
     ensures { result ≡ all_distinct (λ (p q : Policy). int_eq p.id.0 q.id.0) policies.now }
 {
     let mut rest = policies;

@@ -1,31 +1,27 @@
 // The rules of zones.
-ghost use Rattle.std.specs.Prelude.{◌≡◌, ◌&&◌, ◌||◌, Contains, IfOk, None, Some, filter, is_none, map, not, true};
+ghost use Rattle.std.specs.Prelude.{◌≡◌, ◌&&◌, ◌||◌, IfOk, filter, map, not, true};
 ghost use Rattle.std.specs.List.{list_all, list_any};
 ghost use Rattle.std.specs.Str.{bytes_eq};
-ghost use Rattle.rg_base.specs.Texts.{all_distinct};
-ghost use Rattle.rg_defs.specs.Rules.{def_fault};
 ghost use Rattle.rg_policy.specs.declared.policy.Policy.{Policy};
-ghost use Rattle.rg_zone_rules.specs.Overlap.{first_overlap};
-ghost use Rattle.rg_zone_rules.specs.Rules.{all_maps_fit, entry_levels_fit, entry_values_fit, maps_fit};
-ghost use Rattle.rg_zone_rules.specs.declared.row.ZoneRow.{ZoneRow};
+ghost use Rattle.rg_zone_rules.specs.Rules.{entry_levels_fit, entry_values_fit};
 ghost use Rattle.rg_zone_rules.specs.declared.row.ZoneService.{ZoneService};
-ghost use Rattle.rg_cmd.specs.Lists.{put};
-ghost use Rattle.rg_cmd.specs.Lookups.{def_of, is_zone};
+ghost use Rattle.rg_cmd.specs.Lookups.{def_of};
 ghost use Rattle.rg_validate.specs.Definitions.{under};
-ghost use Rattle.rg_validate.specs.Valid.{IsValid, definition_valid};
-ghost use Rattle.rg_validate.specs.Zones.{are_apart_for, plain_services, tag_services, zone_is_apart, zone_is_unused, zone_keeps, zone_keeps_policies, zone_levels_suit, zone_services_fit, zone_subjects_exist, zone_values_suit, zones_with};
+ghost use Rattle.rg_validate.specs.Valid.{definition_valid};
+ghost use Rattle.rg_validate.specs.Zones.{plain_services, tag_services, zone_is_unused, zone_keeps, zone_keeps_policies, zone_levels_suit, zone_services_fit, zone_subjects_exist, zone_values_suit};
 
+use crate::def_index::DefIndex;
 use crate::definitions::names_with;
-use crate::lookups::{def_at, def_of, is_tag, is_tag_service};
-use rg_base::{NameIndex, NoMemory, Text, TryCopy, place_named, same_text};
-use rg_cmd::{ServiceRow, State};
-use rg_defs::{Paths, ServiceDef, tag_name};
+use crate::lookups::{is_tag, is_tag_service};
+use rg_base::{NameIndex, NoMemory, Text, TryCopy, same_text};
+use rg_cmd::State;
+use rg_defs::{Paths, tag_name};
 use rg_policy::Policy;
+use rg_shared::Shared;
 use rg_zone_rules::{
     ZoneRow, ZoneService, entry_levels_fit, entry_values_fit, lists_service, services_fit,
     subjects_exist,
 };
-use rg_zones::{overlaps_any, zone_overlap_is_symmetric, zones_apart_by_pairs};
 use std::alloc::Global;
 
 /// The names of the services of another definition than `tag`.
@@ -69,15 +65,27 @@ pub fn zone_services_fit(alloc: Global, state: &State, zone: &ZoneRow) -> Result
 }
 
 #[tactic(auto, using(crate::proofs::ValidParts::lawful_at))]
-fn entry_levels_suit(alloc: Global, state: &State, entry: &ZoneService) -> Result<bool, NoMemory>
-    requires lawful { list_all definition_valid state.now.defs.items ≡ true }
-    ensures { IfOk result (λ suit. suit ≡ under (def_of state.now entry.now.service) (λ def. entry_levels_fit def entry.now)) }
+fn entry_levels_suit(alloc: Global, defs: &DefIndex, entry: &ZoneService) -> Result<bool, NoMemory>
+    requires lawful { list_all definition_valid defs.now.defs.items ≡ true }
+    ensures { IfOk result (λ suit. suit ≡ under (def_of defs.now entry.now.service) (λ def. entry_levels_fit def entry.now)) }
 {
-    let Some(def) = def_of(state, &entry.service) else {
+    let Some(def) = defs.def_of(&entry.service) else {
         return Ok(false);
     };
     let paths = Paths::of(alloc, def)?;
     Ok(entry_levels_fit(def, &paths, entry))
+}
+
+fn levels_suit(alloc: Global, defs: &DefIndex, zone: &ZoneRow) -> Result<bool, NoMemory>
+    requires lawful { list_all definition_valid defs.now.defs.items ≡ true }
+    ensures { IfOk result (λ suit. suit ≡ zone_levels_suit defs.now zone.now) }
+{
+    for entry in zone.services.as_slice() {
+        if !entry_levels_suit(alloc, defs, entry)? {
+            return Ok(false);
+        }
+    }
+    Ok(true)
 }
 
 /// Whether each service has a resource map, and the levels of each map are distinct ones of its definition on one path
@@ -86,12 +94,9 @@ pub fn zone_levels_suit(alloc: Global, state: &State, zone: &ZoneRow) -> Result<
     requires lawful { list_all definition_valid state.now.defs.items ≡ true }
     ensures { IfOk result (λ suit. suit ≡ zone_levels_suit state.now zone.now) }
 {
-    for entry in zone.services.as_slice() {
-        if !entry_levels_suit(alloc, state, entry)? {
-            return Ok(false);
-        }
-    }
-    Ok(true)
+    let defs = DefIndex::of(alloc, state, zone.services.len())?;
+    let suit = levels_suit(alloc, &defs, zone)?;
+    Ok(suit)
 }
 
 /// Whether each level has a value, and only patterns without `{USER}` (rule Z4).
@@ -110,97 +115,6 @@ pub fn zone_subjects_exist(alloc: Global, state: &State, zone: &ZoneRow) -> Resu
 {
     let roles = NameIndex::build(alloc, state.roles.as_slice())?;
     Ok(subjects_exist(&roles, zone))
-}
-
-/// Whether no two of the zones overlap for the service, with this one in its place. They do not as they are.
-fn stays_apart(
-    alloc: Global,
-    zones: &[ZoneRow],
-    zone: &ZoneRow,
-    service: &Text,
-    def: &ServiceDef,
-) -> Result<bool, NoMemory>
-    requires lawful { def_fault def.now ≡ None }
-    requires fit { maps_fit service.now def.now zone.now ≡ true }
-    requires all_fit { all_maps_fit service.now def.now zones.now ≡ true }
-    requires names { all_distinct (λ (a b : ZoneRow). bytes_eq b.name a.name) zones.now ≡ true }
-    requires apart { is_none (first_overlap service.now def.now zones.now) ≡ true }
-    ensures { IfOk result (λ apart. apart ≡ is_none (first_overlap service.now def.now (put (is_zone zone.now.name) zone.now zones.now))) }
-{
-    zone_overlap_is_symmetric();
-    zones_apart_by_pairs();
-    let name = service.as_str();
-    let Some(place) = place_named(zones, zone.name.as_str()) else {
-        return Ok(!overlaps_any(alloc, zone, zones, name, def)?);
-    };
-    let before = &zones[..place];
-    let after = &zones[place + 1..];
-    if overlaps_any(alloc, zone, before, name, def)? {
-        return Ok(false);
-    }
-    Ok(!overlaps_any(alloc, zone, after, name, def)?)
-}
-
-/// Whether no two zones overlap for the service, with this one in its place.
-#[tactic(auto, unfolding(crate::specs::Zones::are_apart_for))]
-fn is_apart_for(
-    alloc: Global,
-    state: &State,
-    zone: &ZoneRow,
-    row: &ServiceRow,
-) -> Result<bool, NoMemory>
-    requires valid { IsValid state.now }
-    requires levels { zone_levels_suit state.now zone.now ≡ true }
-    requires values { zone_values_suit zone.now ≡ true }
-    requires row { Contains state.now.services.items row.now }
-    ensures { IfOk result (λ apart. apart ≡ are_apart_for state.now (zones_with state.now zone.now) row.now.name) }
-{
-    let Some(def) = def_at(state, &row.def) else {
-        return Ok(false);
-    };
-    stays_apart(alloc, state.zones.as_slice(), zone, &row.name, def)
-}
-
-/// The same, where these are the names of the services that the zone lists: it overlaps no other for one that it doesn't
-/// list, and nothing is looked up for that.
-fn is_apart_where_listed(
-    alloc: Global,
-    state: &State,
-    zone: &ZoneRow,
-    listed: &NameIndex,
-    row: &ServiceRow,
-) -> Result<bool, NoMemory>
-    requires valid { IsValid state.now }
-    requires levels { zone_levels_suit state.now zone.now ≡ true }
-    requires values { zone_values_suit zone.now ≡ true }
-    requires listed { listed.now ≡ map (λ (e : ZoneService). e.service) zone.now.services.items }
-    requires row { Contains state.now.services.items row.now }
-    ensures { IfOk result (λ apart. apart ≡ are_apart_for state.now (zones_with state.now zone.now) row.now.name) }
-{
-    zone_overlap_is_symmetric();
-    zones_apart_by_pairs();
-    if !listed.contains(row.name.as_str()) {
-        return Ok(true);
-    }
-    is_apart_for(alloc, state, zone, row)
-}
-
-/// Whether no two zones overlap for any service, with this one in its place (rule Z6). The zone is compared with each
-/// of the others once for each service that it lists. It takes memory for the names of these.
-#[tactic(auto, unfolding(crate::specs::Zones::are_apart))]
-pub fn zone_is_apart(alloc: Global, state: &State, zone: &ZoneRow) -> Result<bool, NoMemory>
-    requires valid { IsValid state.now }
-    requires levels { zone_levels_suit state.now zone.now ≡ true }
-    requires values { zone_values_suit zone.now ≡ true }
-    ensures { IfOk result (λ apart. apart ≡ zone_is_apart state.now zone.now) }
-{
-    let listed = NameIndex::build(alloc, zone.services.as_slice())?;
-    for service in state.services.as_slice() {
-        if !is_apart_where_listed(alloc, state, zone, &listed, service)? {
-            return Ok(false);
-        }
-    }
-    Ok(true)
 }
 
 fn zone_keeps(state: &State, zone: &ZoneRow, policy: &Policy) -> bool
@@ -224,7 +138,7 @@ pub fn zone_keeps_policies(state: &State, zone: &ZoneRow) -> bool
         .all(|policy| zone_keeps(state, zone, policy))
 }
 
-fn some_policy_in(policies: &[Policy], zone: &Text) -> bool
+fn some_policy_in(policies: &[Shared<Policy>], zone: &Text) -> bool
     ensures { result ≡ list_any (λ (p : Policy). bytes_eq p.zone zone.now) policies.now }
 {
     policies

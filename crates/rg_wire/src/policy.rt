@@ -17,6 +17,7 @@ use rg_json::{
 use rg_policy::{
     AccessEntry, Item, MaskInfo, Policy, PolicyCondition, PolicyResource, ResourceMap, ScheduleText,
 };
+use rg_shared::Shared;
 use serde_json::Value;
 use std::alloc::Global;
 
@@ -230,5 +231,20 @@ impl Reader<Policy> for Wire {
             enabled: bool_at(value, Key::IsEnabled, true),
             audited: bool_at(value, Key::IsAuditEnabled, true),
         })
+    }
+}
+
+/// For lists of policies, which share them.
+impl Reader<Shared<Policy>> for Wire {
+    ghost use Rattle.rg_wire.specs.Own.{IsPolicy};
+    ghost use Rattle.rg_wire.specs.Records.{policy_of};
+
+    ghost reading = { λ w. policy_of };
+
+    ghost owned = { IsPolicy };
+
+    fn read(&self, alloc: Global, value: &Value) -> Result<Shared<Policy>, NoMemory> {
+        let policy = <Wire as Reader<Policy>>::read(self, alloc, value)?;
+        Shared::new(alloc, policy)
     }
 }

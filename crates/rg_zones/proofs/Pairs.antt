@@ -33,12 +33,17 @@ get_mapped f [] i = refl
 get_mapped f (x ∷ xs) zero = refl
 get_mapped f (x ∷ xs) (suc i) = get_mapped f xs i
 
-some_meet_same : (service : List ℕ) (def : ServiceDef) (a b : ZoneRow) → some_meet def.levels.items (zone_patterns service def a) (zone_patterns service def b) ≡ zones_overlap service def a b
-some_meet_same service def a b =
+-- what compiled maps say of two lists of maps
+pub maps_meet_same : (def : ServiceDef) (ms ns : List (Listed ZoneLevel))
+    → some_meet def.levels.items (map (map_patterns def) ms) (map (map_patterns def) ns) ≡ list_any (λ m. list_any (maps_overlap def m) ns) ms
+maps_meet_same def ms ns =
     let levels = def.levels.items in
-    list_any-map (λ m. list_any (patterns_meet levels m) (zone_patterns service def b)) (map_patterns def) (maps_for service a)
-    ∙ list_any_agree (λ (m : Listed ZoneLevel). list_any (patterns_meet levels (map_patterns def m)) (zone_patterns service def b)) (λ (m : Listed ZoneLevel). list_any (maps_overlap def m) (maps_for service b))
-    (λ m. list_any-map (patterns_meet levels (map_patterns def m)) (map_patterns def) (maps_for service b)) (maps_for service a)
+    list_any-map (λ m. list_any (patterns_meet levels m) (map (map_patterns def) ns)) (map_patterns def) ms
+    ∙ list_any_agree (λ (m : Listed ZoneLevel). list_any (patterns_meet levels (map_patterns def m)) (map (map_patterns def) ns)) (λ (m : Listed ZoneLevel). list_any (maps_overlap def m) ns)
+    (λ m. list_any-map (patterns_meet levels (map_patterns def m)) (map_patterns def) ns) ms
+
+some_meet_same : (service : List ℕ) (def : ServiceDef) (a b : ZoneRow) → some_meet def.levels.items (zone_patterns service def a) (zone_patterns service def b) ≡ zones_overlap service def a b
+some_meet_same service def a b = maps_meet_same def (maps_for service a) (maps_for service b)
 
 pair_same : (service : List ℕ) (def : ServiceDef) (zones : List ZoneRow) (p : ℕ × ℕ)
     → at_pair (some_meet def.levels.items) (map (zone_patterns service def) zones) p ≡ at_pair (zones_overlap service def) zones p

@@ -1,5 +1,6 @@
 pub mod Best
 pub mod Candidates
+pub mod Entries
 pub mod Matched
 pub mod Places
 pub mod Zoning

@@ -15,5 +15,5 @@ pub use laws::{
     zone_overlap_is_symmetric, zones_apart_by_pairs,
 };
 pub use map::ZoneMap;
-pub use overlap::{overlapping, overlaps_any};
+pub use overlap::{entries_overlap, overlapping, overlaps_any};
 pub use resources::zone_maps;

@@ -6,19 +6,20 @@ ghost use Rattle.rg_defs.specs.Rules.{def_fault};
 ghost use Rattle.rg_trie.specs.declared.pair.Pair.{Pair};
 ghost use Rattle.rg_trie.specs.Walked.{entries_under};
 ghost use Rattle.rg_zones.specs.Best.{better, is_less, ordered};
+ghost use Rattle.rg_zones.specs.Entries.{entries_overlap};
 ghost use Rattle.rg_zones.specs.Candidates.{AreFiled, HoldsFirst, across, beside, beside_all, filed_as, found_under, maps_of, meet_at, same_anchor};
 ghost use Rattle.rg_zone_rules.specs.Overlap.{IsLeastOverlap, at_pair, first_overlap, pairs_from, place_pairs, some_meet, zone_patterns, zone_scalars, zones_overlap};
-ghost use Rattle.rg_zone_rules.specs.Rules.{all_maps_fit, maps_fit};
+ghost use Rattle.rg_zone_rules.specs.Rules.{all_maps_fit, entry_values_fit, maps_fit};
 ghost use Rattle.rg_zone_rules.specs.declared.row.ZoneRow.{ZoneRow};
 
 use crate::filing::FiledZone;
 use crate::laws::compiled_overlap_is_decided;
 use crate::meeting::some_meet;
-use crate::zone_patterns::CompiledZone;
+use crate::zone_patterns::{CompiledZone, compile_entry};
 use rg_base::{NoMemory, Steps, Text};
 use rg_defs::{Paths, ServiceDef};
 use rg_trie::{Filed, Trie};
-use rg_zone_rules::ZoneRow;
+use rg_zone_rules::{ZoneRow, ZoneService};
 use std::alloc::Global;
 
 /// Whether the zones at these places overlap.
@@ -379,5 +380,24 @@ pub fn overlaps_any(
     let paths = Paths::of(alloc, def)?;
     let zone = CompiledZone::compile(alloc, service, def, zone)?;
     let any = meets_any(alloc, &paths, &zone, others, service, def)?;
+    Ok(any)
+}
+
+/// Whether some resource of a service lies in what two zones list for it, each in an entry (rule Z6 for two entries).
+pub fn entries_overlap(
+    alloc: Global,
+    entry: &ZoneService,
+    other: &ZoneService,
+    def: &ServiceDef,
+) -> Result<bool, NoMemory>
+    requires lawful { def_fault def.now ≡ None }
+    requires values { entry_values_fit entry.now ≡ true }
+    requires other_values { entry_values_fit other.now ≡ true }
+    ensures { IfOk result (λ b. b ≡ entries_overlap def.now entry.now other.now) }
+{
+    let paths = Paths::of(alloc, def)?;
+    let maps = compile_entry(alloc, def, entry)?;
+    let others = compile_entry(alloc, def, other)?;
+    let any = some_meet(alloc, &paths, &maps, &others)?;
     Ok(any)
 }

@@ -330,6 +330,18 @@ fn with_entry_for(
     with_entry(alloc, def, maps, entry.resources.as_slice())
 }
 
+/// The maps of the entry.
+pub(crate) fn compile_entry(
+    alloc: Global,
+    def: &ServiceDef,
+    entry: &ZoneService,
+) -> Result<Vec<CompiledMap>, NoMemory>
+    requires { entry_values_fit entry.now ≡ true }
+    ensures { IfOk result (λ v. v.items ≡ map (map_patterns def.now) entry.now.resources.items) }
+{
+    with_entry(alloc, def, Vec::new(alloc), entry.resources.as_slice())
+}
+
 impl CompiledZone {
     pub(crate) fn compile(
         alloc: Global,

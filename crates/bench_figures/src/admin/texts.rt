@@ -1,9 +1,11 @@
 // Commands that are read, and replies that are printed.
 use crate::commands::put_policy;
 use crate::texts::{Draft, command};
-use rg_base::TryCopy;
+use rg_base::{NoMemory, TryCopy};
 use rg_cmd::{AdminCommand, AdminReply};
 use rg_cmd_wire::{print_reply, read_command};
+use rg_policy::Policy;
+use rg_shared::Shared;
 use std::alloc::Global;
 
 /// 1 where it reads, else 0.
@@ -29,10 +31,14 @@ pub(super) fn read(alloc: Global, count: u32) -> Option<u32> {
     Some(sum)
 }
 
+fn shared(alloc: Global, policy: &Policy) -> Result<Shared<Policy>, NoMemory> {
+    Shared::new(alloc, policy.try_copy(alloc)?)
+}
+
 /// A reply with the policy that the command creates.
 fn found(alloc: Global, command: &AdminCommand) -> Option<AdminReply> {
     match command {
-        AdminCommand::CreatePolicy { policy } => match policy.try_copy(alloc) {
+        AdminCommand::CreatePolicy { policy } => match shared(alloc, policy) {
             Ok(policy) => Some(AdminReply::Found(policy)),
             Err(_) => None,
         },

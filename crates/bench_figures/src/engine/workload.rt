@@ -7,6 +7,7 @@ use rg_drill::{Generator, hive};
 use rg_facts::Facts;
 use rg_facts_check::facts_fault;
 use rg_policy::{AccessRequest, Policy};
+use rg_shared::Shared;
 use std::alloc::Global;
 
 /// What the draws begin with.
@@ -22,13 +23,17 @@ pub(super) fn policy(
     alloc: Global,
     generator: &mut Generator,
     number: u32,
-) -> Result<Policy, NoMemory> {
+) -> Result<Shared<Policy>, NoMemory> {
     let mut policy = generator.policy(alloc, number)?;
     policy.id = PolicyId(i64::from(number));
-    Ok(policy)
+    Shared::new(alloc, policy)
 }
 
-fn policies(alloc: Global, generator: &mut Generator, count: u32) -> Result<Seq<Policy>, NoMemory> {
+fn policies(
+    alloc: Global,
+    generator: &mut Generator,
+    count: u32,
+) -> Result<Seq<Shared<Policy>>, NoMemory> {
     let mut policies = Seq::new(alloc);
     for place in 0..count {
         policies.add(policy(alloc, generator, place.saturating_add(1))?)?;
@@ -37,7 +42,7 @@ fn policies(alloc: Global, generator: &mut Generator, count: u32) -> Result<Seq<
 }
 
 /// Facts with these policies alone, each part at version 1.
-fn facts_with(alloc: Global, policies: Seq<Policy>) -> Result<Facts, NoMemory> {
+fn facts_with(alloc: Global, policies: Seq<Shared<Policy>>) -> Result<Facts, NoMemory> {
     let service = Text::copy_of(alloc, "hive1")?;
     let def = hive(alloc)?;
     Ok(Facts {

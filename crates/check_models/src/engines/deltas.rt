@@ -10,6 +10,7 @@ use rg_cmd::{
 };
 use rg_facts::Facts;
 use rg_policy::Policy;
+use rg_shared::Shared;
 use std::alloc::Global;
 
 /// The next version.
@@ -30,7 +31,7 @@ fn fate_of(was_there: bool, is_there: bool, its_turn: bool) -> Option<u8> {
     }
 }
 
-fn policy_of(policies: &Seq<Policy>, id: i64) -> Option<&Policy> {
+fn policy_of(policies: &Seq<Shared<Policy>>, id: i64) -> Option<&Shared<Policy>> {
     policies.as_slice().iter().find(|policy| policy.id.0 == id)
 }
 
@@ -40,8 +41,8 @@ fn change_policies(
     changes: &mut Seq<PolicyChange>,
     tag: bool,
     ids: (u32, u32),
-    before: &Seq<Policy>,
-    other: &Seq<Policy>,
+    before: &Seq<Shared<Policy>>,
+    other: &Seq<Shared<Policy>>,
     draw: Draw,
 ) -> Result<(), NoMemory> {
     for id in ids.0..ids.1 {

@@ -14,6 +14,7 @@ use rg_cmd::{PolicyChange, PolicyDelta, RoleDelta, TagChange, TagDelta};
 use rg_delta::apply_plain;
 use rg_facts::Facts;
 use rg_policy::Policy;
+use rg_shared::Shared;
 use rg_tags::TagRow;
 use std::alloc::Global;
 
@@ -22,9 +23,9 @@ const FACTS: &str =
 
 const THREE: [(i64, &str); 3] = [(1, "a"), (2, "b"), (1, "c")];
 
-fn policy(alloc: Global, id: i64, name: &str) -> Result<Policy, NoMemory> {
+fn policy(alloc: Global, id: i64, name: &str) -> Result<Shared<Policy>, NoMemory> {
     let text = format!(in alloc; "{{\"id\":{id},\"name\":\"{name}\"}}")?;
-    reading::policy(alloc, text.as_str())
+    Shared::new(alloc, reading::policy(alloc, text.as_str())?)
 }
 
 /// A tag row, whose service stands for its name.
@@ -100,7 +101,7 @@ fn deltas_of(alloc: Global, asked: &str) -> Result<Deltas, NoMemory> {
     Ok(deltas)
 }
 
-fn add_names(told: &mut String, policies: &[Policy]) -> Result<(), NoMemory> {
+fn add_names(told: &mut String, policies: &[Shared<Policy>]) -> Result<(), NoMemory> {
     for policy in policies {
         told.push_str(policy.name.as_str())?;
     }

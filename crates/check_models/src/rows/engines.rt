@@ -20,6 +20,7 @@ use rg_delta::apply_plain;
 use rg_engine::{ApplyFault, Engine};
 use rg_facts::{ItemPlace, Verdict};
 use rg_policy::Policy;
+use rg_shared::Shared;
 use rg_wire::access_word;
 use std::alloc::{AllocError, Global};
 
@@ -85,7 +86,7 @@ fn policy_change(alloc: Global, written: &str) -> Result<PolicyChange, NoMemory>
     Ok(PolicyChange {
         change_type: change.change_type,
         tag: change.is_tag,
-        policy: policy(alloc, change.id, change.what)?,
+        policy: Shared::new(alloc, policy(alloc, change.id, change.what)?)?,
     })
 }
 

@@ -12,6 +12,7 @@ use rg_base::{NoMemory, Serial, Text};
 use rg_evalr::Side;
 use rg_facts::{Access, Choice, Decision, Facts, Outcome, Published};
 use rg_policy::Policy;
+use rg_shared::Shared;
 use rg_wire::access_word;
 use std::alloc::Global;
 
@@ -27,7 +28,7 @@ fn policy_of(alloc: Global, template: &str) -> Result<Policy, NoMemory> {
 }
 
 /// The first of the policies with a place in it.
-fn choice<'a>(policies: &'a [Policy], side: Side, place: u32) -> Option<Choice<'a>> {
+fn choice<'a>(policies: &'a [Shared<Policy>], side: Side, place: u32) -> Option<Choice<'a>> {
     match policies.first() {
         Some(policy) => Some(Choice {
             policy,
@@ -79,7 +80,7 @@ impl TextTable {
         outcome.decision(alloc, &published, &request)
     }
 
-    fn policies(&self, side: Side) -> &[Policy] {
+    fn policies(&self, side: Side) -> &[Shared<Policy>] {
         match side {
             Side::Tag => self.facts.tag_policies.as_slice(),
             Side::Resource => self.facts.policies.as_slice(),

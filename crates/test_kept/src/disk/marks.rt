@@ -3,6 +3,7 @@ use rg_base::Text;
 use rg_cmd::{State, UserRow};
 use rg_policy::{Item, Policy, Tag};
 use rg_roles::RoleRow;
+use rg_shared::Shared;
 use rg_tags::TagRow;
 
 /// How many they are, their sum, and the sum of their squares.
@@ -49,7 +50,7 @@ impl Marks {
         }
     }
 
-    fn add_policies(&mut self, policies: &[Policy]) {
+    fn add_policies(&mut self, policies: &[Shared<Policy>]) {
         for policy in policies {
             self.add_items(policy.items.as_slice());
         }

@@ -9,6 +9,7 @@ use rg_engine::{ApplyFault, Engine};
 use rg_facts::Facts;
 use rg_facts_check::facts_fault;
 use rg_policy::Policy;
+use rg_shared::Shared;
 use rg_wire::{read_facts, read_policy};
 use std::alloc::Global;
 
@@ -63,9 +64,9 @@ pub(crate) fn engine(alloc: Global) -> Option<Engine> {
     }
 }
 
-fn policy_of(alloc: Global, json: &str) -> Option<Policy> {
+fn policy_of(alloc: Global, json: &str) -> Option<Shared<Policy>> {
     match read_policy(alloc, json.as_bytes()) {
-        Ok(policy) => Some(policy),
+        Ok(policy) => Shared::new(alloc, policy).ok(),
         Err(_) => None,
     }
 }

@@ -2,11 +2,18 @@ use Rattle.std.proofs.Common.{◌≡◌, ◌∙◌, ◌+◌, List, ap, ℕ, leng
 use mathlib.Core.List.{IsPrefix}
 use Rattle.rg_publish.specs.Publications.{Published}
 use Rattle.rg_publish.specs.declared.history.Publication.{Publication}
+use Rattle.rg_turn.proofs.Histories.{begins_length}
 use Rattle.rg_session.specs.Right.{AreDownloadedFor, AreRightFor}
 use Rattle.rg_serve.specs.Served.{IsCurrent}
 use Rattle.rg_serve.specs.Trails.{AreServed}
 use Rattle.rg_serve.proofs.Downloading.{is_current, same_service}
 use Rattle.rg_serve.proofs.ending.end.Goals as goal
+
+pub returns-clause-entries : goal.returns-clause-entries
+returns-clause-entries g c =
+    let longer = c.in_ok-publisher.ensures.longer in
+    let more = begins_length c.in_ok-publisher.seat.history c.in_ok-totals.totals.past.history c.in_ok-totals.ensures.begins in
+    omega (arith, longer, more)
 
 pub returns-clause-published : goal.returns-clause-published
 returns-clause-published g c =

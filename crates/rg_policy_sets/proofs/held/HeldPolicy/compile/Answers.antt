@@ -10,7 +10,7 @@ pub invariant_of-result : goal.invariant_of-result
 invariant_of-result g c =
     let is = c.in_ok-evaluator.ensures.source in
     let levels : c.as_slice-levels.result.now ≡ (def_of c.args.frame.now c.args.side).levels.items = c.as_slice-levels.ensures ∙ ap (λ (d : ServiceDef). d.levels.items) c.def_of.ensures in (
-      ap (λ (s : Source). s.policy) is ∙ sym c.in_ok-try_copy.ensures,
-      c.in_ok-first.ensures ∙ (λ i. mark_at (slice_get (levels i) 0) c.args.policy.now) ∙ sym (ap (source_mark 0) is),
-      c.in_ok-second.ensures ∙ (λ i. mark_at (slice_get (levels i) 1) c.args.policy.now) ∙ sym (ap (source_mark 1) is),
+      ap (λ (s : Source). s.policy) is ∙ c.deref-policy.ensures ∙ sym c.in_ok-try_copy.ensures,
+      c.in_ok-first.ensures ∙ (λ i. mark_at (slice_get (levels i) 0) c.deref-policy.result.now) ∙ sym (ap (source_mark 0) is),
+      c.in_ok-second.ensures ∙ (λ i. mark_at (slice_get (levels i) 1) c.deref-policy.result.now) ∙ sym (ap (source_mark 1) is),
     )
