@@ -1,5 +1,5 @@
 -- How the world of a machine comes to a past, its publications and its answers.
-use Rattle.std.proofs.Common.{◌≡◌, ◌∙◌, ℕ, zero, suc, ◌+◌, ◌-◌, ◌==◌, ◌<◌, ◌≤◌, ◌&&◌, Bool, true, false, not, List, [], ◌∷◌, ◌++◌, length, length-append, map, take, fold, Option, Some, option_map, slice_get, if◌then◌else◌, refl, ap, sym, subst, arith, append_assoc, append-nil}
+use Rattle.std.proofs.Common.{◌≡◌, ◌∙◌, ℕ, suc, ◌+◌, ◌-◌, ◌==◌, ◌≤◌, ◌&&◌, true, false, not, List, [], ◌∷◌, ◌++◌, length, length-append, map, take, fold, Option, Some, option_map, slice_get, if◌then◌else◌, refl, ap, sym, subst, arith, append_assoc, append-nil}
 use mathlib.Core.List.{reverse_aux}
 use mathlib.Core.Logic.{dite}
 use native.Mathlib.Decide.{dec_lt}

@@ -1,10 +1,9 @@
 -- An end of a service is that of a run of the world.
-use Rattle.std.proofs.Common.{◌≡◌, ◌∙◌, ℕ, zero, suc, ◌-◌, ◌≤◌, All, List, [], ◌∷◌, length, map, Option, Some, None, option_map, slice_get, take, refl, ap, sym, subst, arith}
+use Rattle.std.proofs.Common.{◌≡◌, ◌∙◌, ℕ, zero, suc, ◌-◌, ◌≤◌, List, [], ◌∷◌, length, map, Option, Some, None, option_map, slice_get, take, refl, ap, sym, subst, arith}
 use mathlib.Core.List.{IsPrefix, reverse}
 use Rattle.std.proofs.lemmas.List.{length-map}
 use Rattle.std.proofs.lemmas.List.Elements.{All-get_or}
 use Rattle.std.proofs.lemmas.Option.{get_or_from_slice_get, none-some, same_Some, slice_get-map, slice_get_within}
-use Rattle.rg_policy.specs.declared.request.AccessRequest.{AccessRequest}
 use Rattle.rg_facts.specs.Flow.{eval}
 use Rattle.rg_facts.specs.declared.decision.Verdict.{Verdict}
 use Rattle.rg_cmd.specs.declared.ask.AdminReply.{AdminReply}
@@ -29,7 +28,7 @@ use Rattle.rg_serve.specs.Served.{HasServed}
 use Rattle.rg_serve.specs.Trails.{Work, decisions_of}
 use Rattle.rg_serve.proofs.Downloading.{same_self}
 use Rattle.rg_serve.proofs.Passing.{Decision, answer_by, answers_are, asked_by, serials_of}
-use Rattle.rg_serve.proofs.Reaching.{AreMade, IsMade, Reaches, reached}
+use Rattle.rg_serve.proofs.Reaching.{AreMade, IsMade, reached}
 
 abbrev H : Type 0
 H = List (Entry Ask AdminReply)

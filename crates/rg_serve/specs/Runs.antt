@@ -1,5 +1,5 @@
 -- Which ends of a service are those of one run of the world. To be read after Served.
-use Rattle.std.specs.Prelude.{◌≡◌, ◌-◌, ◌==◌, ℕ, List, filter, length, map, option_map, reverse, Option, Some, slice_get}
+use Rattle.std.specs.Prelude.{◌≡◌, ◌-◌, ◌==◌, ℕ, List, filter, map, option_map, reverse, Some, slice_get}
 use Rattle.rg_facts.specs.Flow.{eval}
 use Rattle.rg_facts.specs.declared.facts.Facts.{Facts}
 use Rattle.rg_cmd.specs.declared.ask.AdminReply.{AdminReply}

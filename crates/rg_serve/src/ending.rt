@@ -1,7 +1,6 @@
 // The end of a service that has served its links.
 ghost use Rattle.std.specs.Prelude.{◌≡◌, ◌≤◌, ◌+◌, ℕ, Some, length, IfOk, OnOk};
 ghost use mathlib.Core.List.{IsPrefix};
-ghost use Rattle.rg_admin_laws.specs.Starts.{IsStart};
 ghost use Rattle.rg_admin_laws.specs.Steps.{step};
 ghost use Rattle.rg_turn.specs.History.{IsLegal, state_after};
 ghost use Rattle.rg_session.specs.Right.{AreDownloadedFor, AreRightFor};
@@ -13,6 +12,7 @@ use crate::following::Following;
 use crate::given::Counted;
 use crate::naming::Naming;
 use crate::places::{Place, add};
+use crate::sessions::Common;
 use rg_admin::{Admin, Recorder, Unkept};
 use rg_base::NoMemory;
 use rg_publish::{Pass, Publisher};
@@ -112,30 +112,37 @@ fn settle<J: Naming, P: Recorder, R: Wait + Drop>(
 /// too where an entry of another seat came after the last download, which no clause of a seat excludes.
 pub(crate) fn end<J: Naming, P: Recorder, R: Wait + Drop, W: Wait>(
     rt: &W,
-    alloc: Global,
-    turn: Turn<Admin<P>>,
+    common: Common<J, P>,
     following: Mutex<Following<J, P, R>>,
     places: Vec<Place<J, P>>,
     counted: Counted<J>,
     links: u64,
 ) -> Result<Totals<P>, NoMemory>
-    requires turn { (turn.turn ≡ J.turn) × IsStart turn.start × (turn.start.state.plugin ≡ J.plugin) }
-    requires all { length places.items + 1 ≡ turn.seats }
+    requires plugin { common.turn.start.state.plugin ≡ J.plugin }
+    requires all { length places.items + 1 ≡ common.turn.seats }
     requires parts { J.parts ≡ length places.items + 2 }
     requires given { counted.book.total ≡ links }
-    ensures legal { IfOk result (λ t. (t.past.start ≡ Some turn.start) × IsLegal step turn.start t.past.history) }
-    ensures admin { IfOk result (λ t. t.admin ≡ state_after step turn.start t.past.history) }
+    ensures legal { IfOk result (λ t. (t.past.start ≡ Some common.turn.start) × IsLegal step common.turn.start t.past.history) }
+    ensures admin { IfOk result (λ t. t.admin ≡ state_after step common.turn.start t.past.history) }
     ensures entries { IfOk result (λ t. length J.before.history + 1 ≤ length t.past.history) }
     ensures begins { IfOk result (λ t. IsPrefix J.before.history t.past.history) }
     ensures published { IfOk result (λ t.
         IsPrefix J.published t.published.list × (t.publications ≡ length t.published.list)) }
-    ensures right { IfOk result (λ t. AreRightFor turn.start t.past.history t.published.list) }
-    ensures made { IfOk result (λ t. AreDownloadedFor turn.start t.past.history t.published.list) }
-    ensures current { IfOk result (λ t. IsCurrent turn.start t.past.history t.published.list) }
+    ensures right { IfOk result (λ t. AreRightFor common.turn.start t.past.history t.published.list) }
+    ensures made { IfOk result (λ t. AreDownloadedFor common.turn.start t.past.history t.published.list) }
+    ensures current { IfOk result (λ t. IsCurrent common.turn.start t.past.history t.published.list) }
     ensures served { IfOk result (λ t.
-        AreServed J.turn J.opening turn.start.state.plugin J.before (length places.items) links
+        AreServed J.turn J.opening common.turn.start.state.plugin J.before (length places.items) links
         t.past.history t.published.list t.decisions) }
 {
+    let Common {
+        alloc,
+        turn,
+        bell: _,
+        halt: _,
+        plugin: _,
+        of: _,
+    } = common;
     let (publisher, seat, entries) = following.into_inner().finish(rt, alloc, &turn)?;
     let (seats, passes) = gather_all(alloc, places, counted)?;
     let totals = settle::<J, P, R>(alloc, turn, publisher, seat, seats, passes, links)?;

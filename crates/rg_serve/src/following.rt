@@ -7,10 +7,11 @@ ghost use Rattle.rg_serve.specs.Held.{HasLast, IsFollowing};
 ghost use Rattle.rg_serve.specs.Trails.{Downloads};
 
 use crate::naming::Naming;
+use crate::sessions::Common;
 use rg_admin::{Admin, Recorder};
 use rg_base::{NoMemory, Steps};
 use rg_publish::Publisher;
-use rg_session::{Bell, Refresher};
+use rg_session::Refresher;
 use rg_threads::Watcher;
 use rg_turn::{Seat, Turn};
 use std::alloc::Global;
@@ -108,30 +109,27 @@ impl<J: Naming, P: Recorder, R: Wait + Drop> Following<J, P, R> {
 
 /// Refreshes after each ring of the bell, until the bell is shut.
 #[derive(Drop)]
-pub(crate) struct Follower<'t, 'b, 'f, J: Naming, P: Recorder, R: Wait + Drop> {
-    pub alloc: Global,
-    pub turn: &'t Turn<Admin<P>>,
-    pub bell: &'b Bell,
+pub(crate) struct Follower<'a, 'f, J: Naming, P: Recorder, R: Wait + Drop> {
+    pub common: &'a Common<J, P>,
     pub following: &'f Mutex<Following<J, P, R>>,
 }
 
-impl<'t, 'b, 'f, J: Naming, P: Recorder, R: Wait + Drop> Watcher for Follower<'t, 'b, 'f, J, P, R> {
-    ghost use Rattle.std.specs.Prelude.{◌≡◌};
-    ghost use Rattle.rg_admin_laws.specs.Starts.{IsStart};
-
-    ghost can_watch = { λ f. (f.turn.now.turn ≡ J.turn) × IsStart f.turn.now.start };
+impl<'a, 'f, J: Naming, P: Recorder, R: Wait + Drop> Watcher for Follower<'a, 'f, J, P, R> {
+    ghost can_watch = { λ f. Unit {0} };
 
     fn watch<W: Wait + Sync>(&self, rt: &W) {
+        let common = self.common;
         let mut following = self.following.lock(rt);
         for _ in rt.forever() {
-            if !self.bell.wait(rt) {
+            if !common.bell.wait(rt) {
                 break;
             }
-            following.refresh(rt, self.alloc, self.turn);
+            following.refresh(rt, common.alloc, &common.turn);
         }
     }
 
     fn stop<W: Wait + Sync>(&self, rt: &W) {
-        self.bell.shut(rt);
+        let common = self.common;
+        common.bell.shut(rt);
     }
 }

@@ -1,20 +1,21 @@
 // How many links were given.
 ghost use Rattle.std.specs.Prelude.{◌≡◌, ◌+◌};
-ghost use Rattle.std.specs.Str.{chars};
 
+use crate::crew::Crew;
 use crate::naming::Naming;
-use crate::places::Place;
-use crate::sessions::Sessions;
+use crate::places::Workers;
 use rg_admin::Recorder;
 use rg_hook::RequestHooks;
 use rg_ports::{Clock, Gate, Link};
-use rg_threads::{Queue, Waiting};
+use rg_threads::Waiting;
+use std::sync::Wait;
 use std::sync::ledger::{Book, Share};
-use std::sync::{Mutex, Wait};
 
 /// The book of the links, and the share of what gives them: nothing of it is in its hands between two links.
 #[derive(Drop)]
 pub(crate) struct Given<J: Naming> {
+    /// How many links are to be given at most.
+    pub most: u64,
     pub book: Book<J>,
     pub mine: Share<J>,
     pub ghost part: { mine.parts ≡ 1 },
@@ -31,27 +32,29 @@ pub(crate) struct Counted<J: Naming> {
 }
 
 impl<J: Naming> Given<J> {
-    /// Puts one link more into the queue. Where the queue is closed the link is served with the things of the worker.
+    /// Puts one link more into the queue. Where the queue is closed the link is served with the things of the first worker.
     pub fn hand<P: Recorder, T: Link + Drop, C: Clock, G: Gate, H: RequestHooks, R: Wait + Sync>(
         &mut self,
         rt: &R,
-        sessions: &Sessions<J, P, C, G>,
-        queue: &Queue<J, T>,
-        first: (&Place<J, P>, &Mutex<H>),
+        crew: &Crew<J, P, C, G, H, T>,
         link: T,
     )
-        requires turn { sessions.now.turn.now.turn ≡ J.turn }
-        requires plugin { chars sessions.now.plugin.now ≡ J.plugin }
-        ensures { self.new.book.total ≡ self.old.book.total + 1 }
+        ensures book { self.new.book.total ≡ self.old.book.total + 1 }
+        ensures most { self.new.most ≡ self.old.most }
     {
-        let Given { book, mine } = self;
+        let Given {
+            most: _,
+            book,
+            mine,
+        } = self;
         book.add(mine, 1);
-        match queue.push(rt, link, mine) {
+        match crew.queue.push(rt, link, mine) {
             Ok(()) => {}
             Err(link) => {
-                let mut parts = first.0.lock(rt);
-                let mut hooks = first.1.lock(rt);
-                parts.serve(rt, sessions, &mut *hooks, link, mine);
+                let Workers { places, hooks } = crew.workers;
+                let mut parts = places[0].lock(rt);
+                let mut hooks = hooks[0].lock(rt);
+                parts.serve(rt, crew.sessions, &mut *hooks, link, mine);
             }
         }
     }
@@ -61,7 +64,11 @@ impl<J: Naming> Given<J> {
         requires { left.share.amount ≡ 0 }
         ensures { result.book.total ≡ self.book.total }
     {
-        let Given { book, mut mine } = self;
+        let Given {
+            most: _,
+            book,
+            mut mine,
+        } = self;
         let Waiting {
             items: _,
             is_closed: _,

@@ -1,6 +1,7 @@
 // Links served by threads: from a configuration to the totals.
 #![tactic(auto)]
 
+mod crew;
 mod ending;
 mod following;
 mod given;
@@ -10,7 +11,6 @@ mod opened;
 mod places;
 mod serving;
 mod sessions;
-mod threads;
 
 pub use ending::Served;
 pub use laws::ends_are_runs;

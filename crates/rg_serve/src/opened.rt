@@ -1,5 +1,5 @@
 // A service before it serves links.
-ghost use Rattle.std.specs.Prelude.{◌≡◌, ◌≤◌, ◌+◌, length, Some, IfOk, IfSome};
+ghost use Rattle.std.specs.Prelude.{◌≡◌, ◌≤◌, ◌+◌, Some, IfOk, IfSome};
 ghost use Rattle.rg_admin.specs.Starting.{start_fault};
 ghost use Rattle.rg_admin_laws.specs.Starts.{IsStart};
 ghost use Rattle.rg_serve.specs.Opened.{IsAsked, IsRefreshed, opened, opened_unless};
@@ -18,19 +18,25 @@ use std::alloc::Global;
 use std::marker::Model;
 use std::sync::{Arc, Wait};
 
+/// The parts of a service that serves no links yet.
+#[derive(Drop)]
+pub(crate) struct Begun<R: Wait + Drop, P: Recorder> {
+    pub turn: Turn<Admin<P>>,
+    /// The refresher's.
+    pub seat: Seat<Admin<P>>,
+    pub refresher: Refresher<R>,
+    /// Those of the workers, as many as passes.
+    pub seats: Vec<Seat<Admin<P>>>,
+    pub passes: Vec<Pass>,
+    /// Why links break off, where changes aren't taken any more.
+    pub halt: Arc<Halt>,
+}
+
 /// An administration with its plugin, and workers that serve no links yet. It is asked through a seat of its own, the refresher's.
 /// Contracts see the history and the publications, and how many of the entries are known to be its own calls.
 #[derive(Drop)]
 pub struct Opened<R: Wait + Drop, P: Recorder = Unkept> {
-    pub(crate) turn: Turn<Admin<P>>,
-    /// The refresher's.
-    pub(crate) seat: Seat<Admin<P>>,
-    pub(crate) refresher: Refresher<R>,
-    /// Those of the workers, as many as passes.
-    pub(crate) seats: Vec<Seat<Admin<P>>>,
-    pub(crate) passes: Vec<Pass>,
-    /// Why links break off, where changes aren't taken any more.
-    pub(crate) halt: Arc<Halt>,
+    pub(crate) begun: Begun<R, P>,
 }
 
 impl<R: Wait + Drop, P: Recorder> Model for Opened<R, P> {
@@ -39,9 +45,9 @@ impl<R: Wait + Drop, P: Recorder> Model for Opened<R, P> {
 
     ghost Value = { the.Opened };
 
-    ghost view = { λ o. held o.turn o.seat o.refresher.publisher.list o.seats.items };
+    ghost view = { λ o. held o.begun.turn o.begun.seat o.begun.refresher.publisher.list o.begun.seats.items };
 
-    ghost invariant = { λ o. IsHeld o.turn o.seat o.refresher.service o.refresher.publisher o.seats.items o.passes.items };
+    ghost invariant = { λ o. let b = o.begun in IsHeld b.turn b.seat b.refresher.service b.refresher.publisher b.seats.items b.passes.items };
 }
 
 impl<R: Wait + Drop> Opened<R> {
@@ -89,36 +95,24 @@ impl<R: Wait + Drop, P: Recorder> Opened<R, P> {
             return Err(NoMemory);
         };
         let halt = Arc::new(alloc, Halt::new())?;
-        Ok(Opened {
+        let begun = Begun {
             turn,
             seat,
             refresher,
             seats,
             passes,
             halt,
-        })
+        };
+        Ok(Opened { begun })
     }
 
     /// Once this is set, a link that breaks off for want of memory is told that no more changes are taken.
     pub fn halted_by(self, halt: Arc<Halt>) -> Opened<R, P>
         ensures { result ≡ self }
     {
-        let Opened {
-            turn,
-            seat,
-            refresher,
-            seats,
-            passes,
-            halt: _,
-        } = self;
-        Opened {
-            turn,
-            seat,
-            refresher,
-            seats,
-            passes,
-            halt,
-        }
+        let Opened { mut begun } = self;
+        begun.halt = halt;
+        Opened { begun }
     }
 
     /// Asks the administration. It waits for its turn.
@@ -128,7 +122,8 @@ impl<R: Wait + Drop, P: Recorder> Opened<R, P> {
         right_lists_stay_right();
         downloaded_lists_stay();
         one_more_entry::<Admin>();
-        match self.turn.call(rt, alloc, &mut self.seat, ask) {
+        let Begun { turn, seat, .. } = &mut self.begun;
+        match turn.call(rt, alloc, seat, ask) {
             Ok(reply) => return Ok(reply),
             Err(refused) => return Err(refused),
         }
@@ -144,14 +139,15 @@ impl<R: Wait + Drop, P: Recorder> Opened<R, P> {
     ) -> Result<(Opened<R, P>, Refresh), NoMemory>
         ensures { IfOk result (λ t. IsRefreshed self t.1 t.0) }
     {
-        let Opened {
+        let Opened { begun } = self;
+        let Begun {
             turn,
             mut seat,
             mut refresher,
             seats,
             passes,
             halt,
-        } = self;
+        } = begun;
         let calls = seat.calls();
         let mut steps = Steps::silent();
         match refresher.refresh(rt, alloc, &turn, &mut seat, &mut steps) {
@@ -159,7 +155,7 @@ impl<R: Wait + Drop, P: Recorder> Opened<R, P> {
                 if refresher.seq != calls {
                     return Err(NoMemory);
                 }
-                let opened = Opened {
+                let begun = Begun {
                     turn,
                     seat,
                     refresher,
@@ -167,7 +163,7 @@ impl<R: Wait + Drop, P: Recorder> Opened<R, P> {
                     passes,
                     halt,
                 };
-                return Ok((opened, refresh));
+                return Ok((Opened { begun }, refresh));
             }
             Err(refused) => return Err(refused),
         }

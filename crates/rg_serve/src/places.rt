@@ -1,6 +1,5 @@
 // What each worker has for itself, under locks of its own.
 ghost use Rattle.std.specs.Prelude.{◌≡◌, ◌≤◌, ◌<◌, ◌+◌, All, ◌++◌, ◌∷◌, [], length, IfOk, OnOk, MatchBool};
-ghost use Rattle.std.specs.Str.{chars};
 ghost use Rattle.rg_turn.specs.Values.{new_seat};
 ghost use Rattle.rg_publish.specs.Passes.{new_pass};
 ghost use Rattle.rg_serve.specs.Held.{Trail};
@@ -46,6 +45,14 @@ impl<J: Naming, P: Recorder> Model for Parts<J, P> {
 /// Where they lie.
 pub(crate) type Place<J, P> = Mutex<Parts<J, P>>;
 
+/// A place for each worker, and its hooks.
+#[derive(Drop)]
+pub(crate) struct Workers<J: Naming, P: Recorder, H: Drop> {
+    pub places: Vec<Place<J, P>>,
+    pub hooks: Vec<Mutex<H>>,
+    pub ghost some: { (0 < length places.items) × (0 < length hooks.items) },
+}
+
 impl<J: Naming, P: Recorder> Parts<J, P> {
     fn new(seat: Seat<Admin<P>>, pass: Pass, share: Share<J>, number: u32) -> Parts<J, P>
         requires new { (seat ≡ new_seat J.turn) × (pass ≡ new_pass J.opening) }
@@ -70,8 +77,6 @@ impl<J: Naming, P: Recorder> Parts<J, P> {
         link: T,
         mine: &mut Share<J>,
     )
-        requires turn { sessions.now.turn.now.turn ≡ J.turn }
-        requires plugin { chars sessions.now.plugin.now ≡ J.plugin }
         requires mine { (0 < mine.old.parts) × (1 ≤ mine.old.amount) }
         ensures parts { mine.new.parts ≡ mine.old.parts }
         ensures amount { mine.new.amount + 1 ≡ mine.old.amount }
@@ -89,10 +94,7 @@ impl<J: Naming, P: Recorder> Parts<J, P> {
         sessions: &Sessions<J, P, C, G>,
         hooks: &mut H,
         queue: &Queue<J, T>,
-    ) -> bool
-        requires turn { sessions.now.turn.now.turn ≡ J.turn }
-        requires plugin { chars sessions.now.plugin.now ≡ J.plugin }
-    {
+    ) -> bool {
         let Some(link) = queue.take(rt, &mut self.share) else {
             return false;
         };
@@ -110,8 +112,6 @@ impl<J: Naming, P: Recorder> Parts<J, P> {
         hooks: &mut H,
         left: &mut Waiting<J, T>,
     ) -> bool
-        requires turn { sessions.now.turn.now.turn ≡ J.turn }
-        requires plugin { chars sessions.now.plugin.now ≡ J.plugin }
         ensures { MatchBool result (left.new.share.amount + 1 ≡ left.old.share.amount) (left.new.share.amount ≡ 0) }
     {
         let Some(link) = left.pop(&mut self.share) else {
@@ -155,7 +155,7 @@ pub(crate) fn add<T: Drop>(all: &mut Vec<T>, x: T) -> Result<(), NoMemory>
 }
 
 /// A place for each seat, with a pass and a part of the share. The last comes first.
-pub(crate) fn places_of<J: Naming, P: Recorder>(
+fn places_of<J: Naming, P: Recorder>(
     alloc: Global,
     seats: Vec<Seat<Admin<P>>>,
     passes: Vec<Pass>,
@@ -186,7 +186,7 @@ pub(crate) fn places_of<J: Naming, P: Recorder>(
 }
 
 /// Each of them under a lock of its own. The last comes first.
-pub(crate) fn under_locks<T: Drop>(alloc: Global, all: Vec<T>) -> Result<Vec<Mutex<T>>, NoMemory>
+fn under_locks<T: Drop>(alloc: Global, all: Vec<T>) -> Result<Vec<Mutex<T>>, NoMemory>
     ensures { IfOk result (λ v. length v.items ≡ length all.items) }
 {
     let mut all = all;
@@ -195,4 +195,25 @@ pub(crate) fn under_locks<T: Drop>(alloc: Global, all: Vec<T>) -> Result<Vec<Mut
         add(&mut locks, Mutex::new(x))?;
     }
     Ok(locks)
+}
+
+/// A worker for each seat, with a pass, hooks and a part of the share.
+pub(crate) fn workers_of<J: Naming, P: Recorder, H: Drop>(
+    alloc: Global,
+    seats: Vec<Seat<Admin<P>>>,
+    passes: Vec<Pass>,
+    hooks: Vec<H>,
+    share: &mut Share<J>,
+) -> Result<Workers<J, P, H>, NoMemory>
+    requires seats { All (λ s. s ≡ new_seat J.turn) seats.items }
+    requires passes { All (λ p. p ≡ new_pass J.opening) passes.items }
+    requires hooks { length hooks.items ≡ length seats.items }
+    requires some { (1 ≤ length seats.items) × (length seats.items ≤ 64) }
+    requires share { (share.old.amount ≡ 0) × (share.old.parts ≡ length seats.items + 1) }
+    ensures number { IfOk result (λ w. length w.places.items ≡ length seats.items) }
+    ensures share { OnOk result ((share.new.amount ≡ 0) × (share.new.parts ≡ 1)) }
+{
+    let places = places_of::<J, P>(alloc, seats, passes, share)?;
+    let hooks = under_locks(alloc, hooks)?;
+    Ok(Workers { places, hooks })
 }

@@ -1,8 +1,6 @@
 // Links served by threads.
 ghost use Rattle.std.specs.Prelude.{◌≡◌, ◌⊎◌, ◌≤◌, ◌<◌, ◌+◌, true, Some, length, IfOk, OnOk, OnErr, MatchResult};
-ghost use Rattle.std.specs.Str.{chars};
 ghost use mathlib.Core.List.{IsPrefix};
-ghost use Rattle.rg_admin_laws.specs.Starts.{IsStart};
 ghost use Rattle.rg_admin_laws.specs.Steps.{step};
 ghost use Rattle.rg_turn.specs.History.{IsLegal, state_after};
 ghost use Rattle.rg_serve.specs.Held.{IsHeld, begun};
@@ -10,22 +8,20 @@ ghost use Rattle.rg_session.specs.Right.{AreDownloadedFor, AreRightFor};
 ghost use Rattle.rg_serve.specs.Served.{Counts, HasServed, IsCurrent};
 ghost use Rattle.rg_serve.specs.Trails.{AreServed};
 
+use crate::crew::{Crew, serve_links, serve_rest};
 use crate::ending::{Served, end};
 use crate::following::{Follower, Following};
 use crate::given::{Counted, Given};
 use crate::naming::Naming;
-use crate::opened::Opened;
-use crate::places::{Place, places_of, under_locks};
-use crate::sessions::Sessions;
-use crate::threads::{serve_links, serve_rest};
-use rg_admin::{Admin, Recorder};
+use crate::opened::{Begun, Opened};
+use crate::places::{Workers, workers_of};
+use crate::sessions::{Common, Sessions};
+use rg_admin::Recorder;
 use rg_base::{Failed, NoMemory, Text, TryCopy};
 use rg_hook::RequestHooks;
 use rg_ports::{Clock, Gate, Listener};
-use rg_publish::Pass;
-use rg_session::{Bell, Refresher, Totals};
-use rg_threads::{Halt, Queue};
-use rg_turn::{Seat, Turn};
+use rg_session::{Bell, Totals};
+use rg_threads::Queue;
 use std::alloc::Global;
 use std::marker::{Brand, PhantomData};
 use std::sync::ledger::Blank;
@@ -62,8 +58,17 @@ impl From<Failed> for ServeFault {
     }
 }
 
-/// The threads, each with what it is lent: the workers, and what refreshes beside them. Then what is left in the queue is served.
-/// Gives how many links were given.
+/// What lies outside of a service, beside its listener.
+#[derive(Drop)]
+struct Outside<'a, 'k, 'c, 'g, C, G> {
+    address: &'a Text,
+    clock: &'k Mutex<&'c mut C>,
+    gate: &'g G,
+    /// How many links are to be served at most.
+    most: u64,
+}
+
+/// The threads: the workers, and what refreshes beside them. Then what is left in the queue is served. Gives how many links were given.
 fn attend<
     J: Naming + Send + Sync,
     P: Recorder + Send,
@@ -75,52 +80,32 @@ fn attend<
     R: Threads + Wait + Sync,
 >(
     rt: &R,
-    alloc: Global,
-    turn: &Turn<Admin<P>>,
+    sessions: &Sessions<J, P, C, G>,
     following: &Mutex<Following<J, P, Q>>,
-    places: &[Place<J, P>],
-    hooks: &[Mutex<H>],
+    workers: &Workers<J, P, H>,
     queue: Queue<J, N::Link>,
-    given: Given<J>,
     net: &mut N,
-    clock: &Mutex<&mut C>,
-    gate: &G,
-    halt: &Halt,
-    plugin: &str,
-    most: u64,
+    given: Given<J>,
 ) -> (Result<u64, Failed>, Counted<J>)
-    requires turn { (turn.now.turn ≡ J.turn) × IsStart turn.now.start }
-    requires plugin { chars plugin.now ≡ J.plugin }
-    requires some { (0 < length places.now) × (0 < length hooks.now) }
     requires none { given.book.total ≡ 0 }
     ensures counted { IfOk result.0 (λ n. result.1.book.total ≡ n) }
     ensures given { IfOk result.0 (λ n. N.given net.new ≡ N.given net.old + n) }
-    ensures all { IfOk result.0 (λ n. (n ≤ most) × ((n ≡ most) ⊎ (N.ended net.new ≡ true))) }
+    ensures all { IfOk result.0 (λ n. (n ≤ given.most) × ((n ≡ given.most) ⊎ (N.ended net.new ≡ true))) }
     ensures kept { OnOk result.0 (N.faults net.new ≡ N.faults net.old) }
     ensures failed { OnErr result.0 (N.faults net.old < N.faults net.new) }
 {
-    let bell = Bell::new();
-    let sessions: Sessions<J, P, C, G> = Sessions {
-        alloc,
-        turn,
-        clock,
-        gate,
-        bell: &bell,
-        halt,
-        plugin,
-        of: PhantomData,
+    let crew = Crew {
+        sessions,
+        queue: &queue,
+        workers,
     };
     let follower = Follower {
-        alloc,
-        turn,
-        bell: &bell,
+        common: sessions.common,
         following,
     };
-    let (accepted, given) = serve_links(
-        rt, net, most, &queue, &sessions, places, hooks, &follower, given,
-    );
+    let (accepted, given) = serve_links(rt, &crew, &follower, net, given);
     let mut left = queue.into_rest();
-    serve_rest(rt, &sessions, &mut left, &places[0], &hooks[0]);
+    serve_rest(rt, sessions, &mut left, workers);
     (accepted, given.settle(left))
 }
 
@@ -138,71 +123,73 @@ fn serve_named<
     rt: &R,
     alloc: Global,
     blank: Blank,
-    turn: Turn<Admin<P>>,
-    seat: Seat<Admin<P>>,
-    refresher: Refresher<Q>,
-    seats: Vec<Seat<Admin<P>>>,
-    passes: Vec<Pass>,
+    service: Begun<Q, P>,
     hooks: Vec<H>,
     net: &mut N,
-    address: &Text,
-    clock: &mut C,
-    gate: &G,
-    halt: &Halt,
-    most: u64,
+    outside: Outside<C, G>,
 ) -> Result<Served<P>, ServeFault>
-    requires ledger { (blank.name ≡ J.name) × (blank.parts ≡ J.parts) × (J.parts ≡ length seats.items + 2) }
-    requires names { (turn.turn ≡ J.turn) × (J.opening ≡ begun refresher.publisher) × (refresher.service ≡ J.plugin) }
-    requires before { (seat ≡ J.before) × (refresher.publisher.list ≡ J.published) }
-    requires held { IsHeld turn seat refresher.service refresher.publisher seats.items passes.items }
-    requires workers { length hooks.items ≡ length seats.items }
+    requires ledger { (blank.name ≡ J.name) × (blank.parts ≡ J.parts) × (J.parts ≡ length service.seats.items + 2) }
+    requires names { (service.turn.turn ≡ J.turn) × (J.opening ≡ begun service.refresher.publisher) × (service.refresher.service ≡ J.plugin) }
+    requires before { (service.seat ≡ J.before) × (service.refresher.publisher.list ≡ J.published) }
+    requires held { IsHeld service.turn service.seat service.refresher.service service.refresher.publisher service.seats.items service.passes.items }
+    requires workers { length hooks.items ≡ length service.seats.items }
     ensures given { IfOk result (λ s. N.given net.new ≡ N.given net.old + s.links) }
-    ensures all { IfOk result (λ s. (s.links ≤ most) × ((s.links ≡ most) ⊎ (N.ended net.new ≡ true))) }
-    ensures legal { IfOk result (λ s. (s.totals.past.start ≡ Some turn.start) × IsLegal step turn.start s.totals.past.history) }
-    ensures admin { IfOk result (λ s. s.totals.admin ≡ state_after step turn.start s.totals.past.history) }
+    ensures all { IfOk result (λ s. (s.links ≤ outside.entry.most) × ((s.links ≡ outside.entry.most) ⊎ (N.ended net.new ≡ true))) }
+    ensures legal { IfOk result (λ s. (s.totals.past.start ≡ Some service.turn.start) × IsLegal step service.turn.start s.totals.past.history) }
+    ensures admin { IfOk result (λ s. s.totals.admin ≡ state_after step service.turn.start s.totals.past.history) }
     ensures entries { IfOk result (λ s. length J.before.history + 1 ≤ length s.totals.past.history) }
     ensures begins { IfOk result (λ s. IsPrefix J.before.history s.totals.past.history) }
     ensures published { IfOk result (λ s.
         IsPrefix J.published s.totals.published.list
         × (s.totals.publications ≡ length s.totals.published.list)) }
     ensures right { IfOk result (λ s.
-        AreRightFor turn.start s.totals.past.history s.totals.published.list) }
+        AreRightFor service.turn.start s.totals.past.history s.totals.published.list) }
     ensures made { IfOk result (λ s.
-        AreDownloadedFor turn.start s.totals.past.history s.totals.published.list) }
+        AreDownloadedFor service.turn.start s.totals.past.history s.totals.published.list) }
     ensures current { IfOk result (λ s.
-        IsCurrent turn.start s.totals.past.history s.totals.published.list) }
+        IsCurrent service.turn.start s.totals.past.history s.totals.published.list) }
     ensures served { IfOk result (λ s.
-        AreServed J.turn J.opening turn.start.state.plugin J.before (length seats.items) s.links
+        AreServed J.turn J.opening service.turn.start.state.plugin J.before (length service.seats.items) s.links
         s.totals.past.history s.totals.published.list s.totals.decisions) }
     ensures faults { MatchResult result (λ _. N.faults net.new ≡ N.faults net.old) (λ f. Counts f (N.faults net.old) (N.faults net.new)) }
 {
+    let Begun {
+        turn,
+        seat,
+        refresher,
+        seats,
+        passes,
+        halt,
+    } = service;
     let (book, mut mine) = blank.open::<J>();
     let waiting = mine.split_off(1, 0);
     let queue = Queue::new(alloc, waiting)?;
     let plugin = refresher.service.try_copy(alloc)?;
-    let places = places_of::<J, P>(alloc, seats, passes, &mut mine)?;
-    let own = under_locks(alloc, hooks)?;
-    net.listen(address.as_str())?;
+    let workers = workers_of::<J, P, H>(alloc, seats, passes, hooks, &mut mine)?;
+    net.listen(outside.address.as_str())?;
     let following = Mutex::new(Following::new(refresher, seat));
-    let clock = Mutex::new(clock);
-    let (accepted, counted) = attend(
-        rt,
+    let common: Common<J, P> = Common {
         alloc,
-        &turn,
-        &following,
-        places.as_slice(),
-        own.as_slice(),
-        queue,
-        Given { book, mine },
-        net,
-        &clock,
-        gate,
+        turn,
+        bell: Bell::new(),
         halt,
-        plugin.as_str(),
-        most,
-    );
+        plugin,
+        of: PhantomData,
+    };
+    let sessions = Sessions {
+        common: &common,
+        clock: outside.clock,
+        gate: outside.gate,
+    };
+    let given = Given {
+        most: outside.most,
+        book,
+        mine,
+    };
+    let (accepted, counted) = attend(rt, &sessions, &following, &workers, queue, net, given);
     let links = accepted?;
-    let totals = end(rt, alloc, turn, following, places, counted, links)?;
+    let Workers { places, hooks: _ } = workers;
+    let totals = end(rt, common, following, places, counted, links)?;
     Ok(Served { links, totals })
 }
 
@@ -258,31 +245,23 @@ pub fn serve<
         HasServed opened s.links s.totals.past.history s.totals.published.list s.totals.decisions) }
     ensures faults { MatchResult result (λ _. N.faults net.new ≡ N.faults net.old) (λ f. Counts f (N.faults net.old) (N.faults net.new)) }
 {
-    let Opened {
-        turn,
-        seat,
-        refresher,
-        seats,
-        passes,
-        halt,
-    } = opened;
-    let parts = seats.len() as u64 + 2;
+    let Opened { begun: service } = opened;
+    let parts = service.seats.len() as u64 + 2;
+    let clock = Mutex::new(clock);
+    let outside = Outside {
+        address,
+        clock: &clock,
+        gate,
+        most,
+    };
     match serve_named::<Brand, P, N, C, G, H, Q, R>(
         rt,
         alloc,
         Blank::new(parts),
-        turn,
-        seat,
-        refresher,
-        seats,
-        passes,
+        service,
         hooks,
         net,
-        address,
-        clock,
-        gate,
-        &halt,
-        most,
+        outside,
     ) {
         Ok(served) => return Ok(served),
         Err(fault) => return Err(fault),

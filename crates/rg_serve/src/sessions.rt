@@ -1,10 +1,11 @@
 // What a worker does with a link.
 ghost use Rattle.std.specs.Prelude.{◌≡◌, false};
-ghost use Rattle.std.specs.Str.{chars};
+ghost use Rattle.rg_admin_laws.specs.Starts.{IsStart};
 ghost use Rattle.rg_serve.specs.Trails.{IsSession};
 
 use crate::naming::Naming;
 use rg_admin::{Admin, Recorder};
+use rg_base::Text;
 use rg_hook::RequestHooks;
 use rg_http::{Response, bytes_of};
 use rg_link::{LinkFault, send, serve_link};
@@ -15,31 +16,36 @@ use rg_threads::{Halt, HaltCause, SharedClock};
 use rg_turn::{Seat, Turn};
 use std::alloc::Global;
 use std::marker::PhantomData;
-use std::sync::{Mutex, Wait};
+use std::sync::{Arc, Mutex, Wait};
+
+/// What all threads of a service share.
+#[derive(Drop)]
+pub(crate) struct Common<J: Naming, P: Recorder> {
+    pub alloc: Global,
+    pub turn: Turn<Admin<P>>,
+    pub bell: Bell,
+    /// Why a link breaks off, where changes aren't taken any more.
+    pub halt: Arc<Halt>,
+    /// The plugin's service.
+    pub plugin: Text,
+    pub of: PhantomData<J>,
+    pub ghost names: { (turn.turn ≡ J.turn) × (plugin ≡ J.plugin) },
+    pub ghost start: { IsStart turn.start },
+}
 
 /// What the workers share.
 #[derive(Drop)]
-pub(crate) struct Sessions<'t, 'k, 'c, 'g, 'b, 'h, 'p, J: Naming, P: Recorder, C, G> {
-    pub alloc: Global,
-    pub turn: &'t Turn<Admin<P>>,
+pub(crate) struct Sessions<'a, 'k, 'c, 'g, J: Naming, P: Recorder, C, G> {
+    pub common: &'a Common<J, P>,
     pub clock: &'k Mutex<&'c mut C>,
     pub gate: &'g G,
-    pub bell: &'b Bell,
-    /// Why a link breaks off, where changes aren't taken any more.
-    pub halt: &'h Halt,
-    /// The plugin's service.
-    pub plugin: &'p str,
-    pub of: PhantomData<J>,
 }
 
-impl<'t, 'k, 'c, 'g, 'b, 'h, 'p, J: Naming, P: Recorder, C: Clock, G: Gate> Sessions<
-    't,
+impl<'a, 'k, 'c, 'g, J: Naming, P: Recorder, C: Clock, G: Gate> Sessions<
+    'a,
     'k,
     'c,
     'g,
-    'b,
-    'h,
-    'p,
     J,
     P,
     C,
@@ -56,30 +62,31 @@ impl<'t, 'k, 'c, 'g, 'b, 'h, 'p, J: Naming, P: Recorder, C: Clock, G: Gate> Sess
         number: u32,
         link: T,
     ) -> bool
-        requires { seat.old.turn ≡ self.now.turn.now.turn }
+        requires { seat.old.turn ≡ J.turn }
         ensures same { (seat.new.turn ≡ seat.old.turn) × (pass.new.book ≡ pass.old.book) }
-        ensures session { result ≡ false → IsSession (chars self.now.plugin.now) seat.old pass.old seat.new pass.new }
+        ensures session { result ≡ false → IsSession J.plugin seat.old pass.old seat.new pass.new }
     {
+        let common = self.common;
         let mut link = link;
         let mut clock = SharedClock::new(rt, self.clock);
         match serve_link(
             rt,
-            self.alloc,
+            common.alloc,
             &mut link,
-            self.turn,
+            &common.turn,
             seat,
             pass,
             &mut clock,
             hooks,
             self.gate,
-            self.bell,
-            self.plugin,
+            &common.bell,
+            common.plugin.as_str(),
             number,
         ) {
             Ok(_) => return false,
             Err(LinkFault::Failed) => return false,
             Err(LinkFault::NoMemory) => {
-                tell_halt(self.alloc, self.halt, &mut link);
+                tell_halt(common.alloc, &common.halt, &mut link);
                 return true;
             }
         }

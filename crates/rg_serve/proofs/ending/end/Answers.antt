@@ -25,15 +25,15 @@ returns-clause-published g c =
 
 pub returns-clause-right : goal.returns-clause-right
 returns-clause-right g c =
-    subst (λ (p : Published). AreRightFor c.args.turn.start c.in_ok-totals.totals.past.history p.list) (sym c.in_ok-totals.ensures.published.0) c.in_ok-totals.ensures.right
+    subst (λ (p : Published). AreRightFor c.args.common.turn.start c.in_ok-totals.totals.past.history p.list) (sym c.in_ok-totals.ensures.published.0) c.in_ok-totals.ensures.right
 
 pub returns-clause-made : goal.returns-clause-made
 returns-clause-made g c =
-    subst (λ (p : Published). AreDownloadedFor c.args.turn.start c.in_ok-totals.totals.past.history p.list) (sym c.in_ok-totals.ensures.published.0) c.in_ok-totals.ensures.made
+    subst (λ (p : Published). AreDownloadedFor c.args.common.turn.start c.in_ok-totals.totals.past.history p.list) (sym c.in_ok-totals.ensures.published.0) c.in_ok-totals.ensures.made
 
 pub returns-clause-current : goal.returns-clause-current
 returns-clause-current g c =
-    let start = c.args.turn.start in
+    let start = c.args.common.turn.start in
     let past = c.in_ok-totals.totals.past.history in
     let publisher = c.in_ok-publisher.publisher in
     let whole : length past ≡ c.in_ok-publisher.entries + 1 = omega (arith, c.if-all-entries.false, c.if-all-eq0.false, c.entries-all.ensures) in
@@ -44,16 +44,16 @@ pub returns-clause-served : goal.returns-clause-served
 returns-clause-served g c =
     let past = c.in_ok-totals.totals.past.history in
     let publisher = c.in_ok-publisher.publisher in
-    let plugin = c.args.turn.start.state.plugin in
+    let plugin = c.args.common.turn.start.state.plugin in
     let seats = length c.in_ok-seats.seats.items in
     let are : List ℕ → ℕ → List Publication → Type 0 = λ s n l.
     AreServed g.J.Naming.turn g.J.Naming.opening s g.J.Naming.before n c.args.links past l c.in_ok-totals.totals.decisions
     in
     subst (λ (p : Published). are plugin (length c.args.places.items) p.list) (sym c.in_ok-totals.ensures.published.0)
     (subst (λ n. are plugin n publisher.list) c.in_ok-seats.ensures.number
-    (subst (λ s. are s seats publisher.list) (sym c.requires.turn.2) c.in_ok-totals.ensures.served))
+    (subst (λ s. are s seats publisher.list) (sym c.requires.plugin) c.in_ok-totals.ensures.served))
 
 pub settle-requires-clause-downloads : goal.settle-requires-clause-downloads
 settle-requires-clause-downloads g c =
     let seat = c.in_ok-publisher.seat in
-    same_service seat.history c.args.turn.start.state.plugin g.J.Naming.plugin g.J.Naming.before seat c.requires.turn.2 c.in_ok-publisher.ensures.downloads
+    same_service seat.history c.args.common.turn.start.state.plugin g.J.Naming.plugin g.J.Naming.before seat c.requires.plugin c.in_ok-publisher.ensures.downloads

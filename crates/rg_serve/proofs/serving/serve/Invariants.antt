@@ -3,11 +3,11 @@ use Rattle.rg_serve.proofs.serving.serve.Given as goal
 
 abbrev pub ghosts-serve_named-J-Naming : goal.ghosts-serve_named-J-Naming
 ghosts-serve_named-J-Naming g a = record {
-  turn = a.turn.turn;
-  opening = begun a.refresher.publisher;
-  plugin = a.refresher.service;
-  before = a.seat;
-  published = a.refresher.publisher.list;
+  turn = a.service.turn.turn;
+  opening = begun a.service.refresher.publisher;
+  plugin = a.service.refresher.service;
+  before = a.service.seat;
+  published = a.service.refresher.publisher.list;
 }
 
 abbrev pub ghosts-serve_named-J-Ledger : goal.ghosts-serve_named-J-Ledger

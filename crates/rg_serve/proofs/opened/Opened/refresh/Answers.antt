@@ -7,21 +7,21 @@ use Rattle.rg_serve.proofs.opened.Opened.refresh.Goals as goal
 
 pub returns-in-Ok : goal.returns-in-Ok
 returns-in-Ok g c =
-    let turn = c.self.inside.turn in
-    let refresher = c.self.inside.refresher in
-    let seats = c.self.inside.seats.items in
+    let turn = c.self.inside.begun.turn in
+    let refresher = c.self.inside.begun.refresher in
+    let seats = c.self.inside.begun.seats.items in
     let list = c.refresh.new.self.publisher.list in
-    let first : c.refresh.new.self.seq ≡ length c.self.inside.seat.calls = grind (arith, nat_tests) in
+    let first : c.refresh.new.self.seq ≡ length c.self.inside.begun.seat.calls = grind (arith, nat_tests) in
     subst (λ (o : Opened). IsRefreshed o c.in-Ok.refresh (held turn c.refresh.new.seat list seats)) c.self.view_is
-    (refreshed c.self.inside.seat c.refresh.new.seat refresher.service refresher.publisher.list list c.refresh.new.self.seq c.in-Ok.refresh turn seats
+    (refreshed c.self.inside.begun.seat c.refresh.new.seat refresher.service refresher.publisher.list list c.refresh.new.self.seq c.in-Ok.refresh turn seats
     c.self.invariant.counted c.self.invariant.serves first c.in-Ok.ensures.downloaded c.in-Ok.ensures.refreshed)
 
-pub invariant_of-opened : goal.invariant_of-opened
-invariant_of-opened g c =
-    let refresher = c.self.inside.refresher in
+pub invariant_of-result : goal.invariant_of-result
+invariant_of-result g c =
+    let refresher = c.self.inside.begun.refresher in
     let now = c.refresh.new.self in
     let e = c.in-Ok.ensures in
-    let first : now.seq ≡ length c.self.inside.seat.calls = grind (arith, nat_tests) in
-    refreshed_held c.self.inside.seat c.refresh.new.seat refresher.service refresher.publisher.list now.publisher.list now.seq c.in-Ok.refresh c.self.inside.turn c.self.inside.seats.items
+    let first : now.seq ≡ length c.self.inside.begun.seat.calls = grind (arith, nat_tests) in
+    refreshed_held c.self.inside.begun.seat c.refresh.new.seat refresher.service refresher.publisher.list now.publisher.list now.seq c.in-Ok.refresh c.self.inside.begun.turn c.self.inside.begun.seats.items
     c.self.invariant.counted c.self.invariant.serves first e.downloaded e.refreshed
-    refresher.publisher now.publisher c.self.inside.passes.items refl refl c.self.invariant (e.same.0, e.same.1) now.service e.same.2 e.right (e.made c.self.invariant.made)
+    refresher.publisher now.publisher c.self.inside.begun.passes.items refl refl c.self.invariant (e.same.0, e.same.1) now.service e.same.2 e.right (e.made c.self.invariant.made)

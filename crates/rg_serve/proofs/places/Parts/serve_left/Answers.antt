@@ -1,5 +1,4 @@
 use Rattle.std.proofs.Common.{refl}
-use Rattle.std.specs.Str.{chars}
 use Rattle.rg_serve.proofs.Trailing.{one_more}
 use Rattle.rg_serve.proofs.places.Parts.serve_left.Goals as goal
 
@@ -8,5 +7,5 @@ invariant_of-self-else-serve g c =
     let p = c.self.inside in
     let e = c.if-serve.ensures in
     one_more g.J.Naming.turn g.J.Naming.opening g.J.Naming.plugin p.seat p.pass p.share.parts p.share.amount p.is_short
-    c.self.invariant (chars c.args.sessions.now.plugin.now) c.requires.plugin c.serve.new.seat c.serve.new.pass c.pop.new.mine.parts c.pop.new.mine.amount
+    c.self.invariant g.J.Naming.plugin refl c.serve.new.seat c.serve.new.pass c.pop.new.mine.parts c.pop.new.mine.amount
     e.same.0 e.same.1 c.in-Some.ensures.parts c.in-Some.ensures.some (e.session refl)

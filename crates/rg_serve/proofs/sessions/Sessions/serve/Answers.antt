@@ -1,10 +1,11 @@
-use Rattle.std.proofs.Common.{None, refl, inl, inr, subst}
+use Rattle.std.proofs.Common.{◌∙◌, None, refl, inl, inr, subst}
 use Rattle.rg_link.specs.Sessions.{Counts, wire}
 use Rattle.rg_link.specs.Workers.{worker_of}
+use Rattle.rg_serve.specs.Trails.{IsSession}
 use Rattle.rg_serve.proofs.sessions.Sessions.serve.Goals as goal
 
 pub returns-in-Ok-clause-session : goal.returns-in-Ok-clause-session
-returns-in-Ok-clause-session g c = λ _. (
+returns-in-Ok-clause-session g c = λ _. subst (λ plugin. IsSession plugin c.args.seat.now c.args.pass.now c.serve_link.new.seat c.serve_link.new.pass) (c.as_str.ensures.read ∙ c.args.self.now.common.now.names.1) (
   record {
     before = worker_of c.args.seat.now c.args.pass.now None (g.H.RequestHooks.sinks c.args.hooks.now) (g.H.RequestHooks.enrichers c.args.hooks.now);
     after = worker_of c.serve_link.new.seat c.serve_link.new.pass None (g.H.RequestHooks.sinks c.serve_link.new.hooks) (g.H.RequestHooks.enrichers c.serve_link.new.hooks);
@@ -21,7 +22,7 @@ returns-in-Ok-clause-session g c = λ _. (
 )
 
 pub returns-in-Err-Failed-clause-session : goal.returns-in-Err-Failed-clause-session
-returns-in-Err-Failed-clause-session g c = λ _. (
+returns-in-Err-Failed-clause-session g c = λ _. subst (λ plugin. IsSession plugin c.args.seat.now c.args.pass.now c.serve_link.new.seat c.serve_link.new.pass) (c.as_str.ensures.read ∙ c.args.self.now.common.now.names.1) (
   record {
     before = worker_of c.args.seat.now c.args.pass.now None (g.H.RequestHooks.sinks c.args.hooks.now) (g.H.RequestHooks.enrichers c.args.hooks.now);
     after = worker_of c.serve_link.new.seat c.serve_link.new.pass None (g.H.RequestHooks.sinks c.serve_link.new.hooks) (g.H.RequestHooks.enrichers c.serve_link.new.hooks);

@@ -1,14 +1,14 @@
 use mir.Syntax.{of_param}
 use denote.Exit.{unseen}
 use denote.Param.Send.{Quiet-if, sendable}
-use Rattle.rg_serve.proofs.threads.serve_links.Goals as goal
+use Rattle.rg_serve.proofs.crew.serve_links.Goals as goal
 
 pub scoped-net-requires : goal.scoped-net-requires
 scoped-net-requires g c =
     let b = c.type_bounds in
     record {
       at = λ a. (
-        (c.requires.turn, c.requires.plugin, c.requires.none, c.requires.watcher),
+        (c.requires.none, c.requires.watcher),
         (
           record { owned = b.send-J.owned; leaving = λ k. Quiet-if (k (of_param 0)) unseen unseen (λ x w. tt) (λ x w. tt) },
           record { owned = b.send-P.owned; leaving = λ k. Quiet-if (k (of_param 1)) unseen unseen (λ x w. tt) (λ x w. tt) },
