@@ -4,6 +4,9 @@
     checks/bad_lines.py kinds SCRIPT OUTPUT      a line of each kind that is bad, with its cause: stdin and stdout of crates/rangerd_check
     checks/bad_lines.py commands SCRIPT OUTPUT   every command with every key missing, null, of another kind and out of range:
                                                  commands.script and commands.output of crates/test_forms/data
+    checks/bad_lines.py NAME SCRIPT OUTPUT       a line of each kind that is bad in a script of grants, report, keep or serve; of
+                                                 unbegun, a script of serve without a configuration; of begun, one without bad lines:
+                                                 NAME.script and NAME.output there
 
 The causes stand in the tables below, which were written from docs/FORMATS.md and docs/RULES.md.
 """
@@ -187,6 +190,7 @@ AFTER_CONFIG = [
     ('admin root {"command":"shutDown"}', "/command: type"),
     ("decide " + compact({**REQUEST, "resource": {"elements": {"": "sales"}}}), "/resource/elements/: range"),
     ("refresh", GOOD),
+    (policy(resources={'a\nline 1: \x1b[2J"b\\': {"values": 7}}), '/policies/0/resources/a\\nline 1: \\u001b[2J\\"b\\\\/values: type'),
 ]
 
 
@@ -444,9 +448,175 @@ def commands():
     return rows
 
 
+# ---- scripts of other commands
+
+NO_LINES = {
+    "grants": "none of config JSON, admin ACTOR JSON, grant ACTOR JSON, revoke ACTOR JSON and decide JSON",
+    "report": "none of facts JSON and report JSON",
+    "keep": "none of config JSON, admin ACTOR JSON, reopen and decide JSON",
+    "serve": "none of config JSON and admin ACTOR JSON",
+}
+LOOK = admin({"command": "getPolicy", "id": 1})
+DECIDE = "decide " + compact(REQUEST)
+ROW = {"service": "s", "resources": SALES, "users": ["ann"], "accessTypes": ["select"]}
+QUESTION = {"resource": {"elements": {"database": "sales"}}, "accessTypes": ["select"]}
+UNKNOWN_PLUGIN = (config(plugin="nope"), breaks("the configuration", "E1"))
+END = None
+
+
+def grant(row, word="grant"):
+    return f"{word} root {compact(row)}"
+
+
+def grants():
+    none = NO_LINES["grants"]
+    read = [
+        ("# each kind of bad line of grants", GOOD),
+        *((line, none) for line in (
+            "grant", "grant root", "grant  root {}", "revoke\troot {}", "Grant root {}", "grants root {}", "revoke " + "x" * 257 + " {}",
+            "reopen", "report {}", "refresh ", "admin root", "hello")),
+        ("grant root {", "JSON: syntax"),
+        ("revoke root []", "JSON: type"),
+        ("grant root {}", "/service: missing"),
+        (grant({**ROW, "service": 7}, "revoke"), "/service: type"),
+        (grant({**ROW, "users": ["ann", 7]}), "/users/1: type"),
+        (grant({**ROW, "resources": {"a/c": {"values": 7}}}), "/resources/a/c/values: type"),
+        (grant({**ROW, "delegateAdmin": "true"}), "/delegateAdmin: type"),
+        ('facts {"service":1}', "/service: type"),
+        ('admin root {"command":"getPolicy"}', "/id: missing"),
+    ]
+    early = [
+        (facts(), "facts in a script of grants"),
+        ("refresh", "refresh in a script of grants"),
+        (LOOK, "admin before config"),
+        (DECIDE, "decide before config"),
+        (grant(ROW), "grant before config"),
+        (grant(ROW, "revoke"), "revoke before config"),
+        UNKNOWN_PLUGIN,
+    ]
+    late = [
+        (config(), GOOD),
+        (grant(ROW), GOOD),
+        (DECIDE, GOOD),
+        (grant(ROW, "revoke"), GOOD),
+        ("", GOOD),
+        (LOOK, GOOD),
+        (config(), "config after config"),
+        (facts(), "facts in a script of grants"),
+        ("refresh", "refresh in a script of grants"),
+        (grant({**ROW, "service": "nope"}), GOOD),
+        ("revoke root null", "JSON: type"),
+    ]
+    return read + early + late
+
+
+def report():
+    none = NO_LINES["report"]
+    read = [
+        ("# each kind of bad line of report", GOOD),
+        *((line, none) for line in ("report", "report\t{}", "Report {}", "reports {}", " report {}", "grant root {}", "reopen", "facts", "decide", "hello")),
+        ("report {", "JSON: syntax"),
+        ("report 7", "JSON: type"),
+        ("report {}", "/resource: missing"),
+        ("report " + compact({**QUESTION, "resource": {"elements": {"": "sales"}}}), "/resource/elements/: range"),
+        ("report " + compact({**QUESTION, "accessTypes": [7]}), "/accessTypes/0: type"),
+        ("report " + compact({**QUESTION, "accessTime": "noon"}), "/accessTime: type"),
+        ("config {}", "/plugin: missing"),
+    ]
+    early = [
+        ("report " + compact(QUESTION), "report before facts"),
+        (config(), "config in a script of report"),
+        (LOOK, "admin in a script of report"),
+        ("refresh", "refresh in a script of report"),
+        (DECIDE, "decide in a script of report"),
+        (facts(policyVersion=4611686018427387905), "a version is past 2^62"),
+    ]
+    late = [
+        (facts(), GOOD),
+        ("report " + compact(QUESTION), GOOD),
+        ("#", GOOD),
+        (facts(), "facts after facts"),
+        (config(), "config in a script of report"),
+        (DECIDE, "decide in a script of report"),
+        ("report  {}", "/resource: missing"),
+        ("report " + compact({"resource": {"elements": {"nope": "sales"}}}), GOOD),
+    ]
+    return read + early + late
+
+
+def keep():
+    none = NO_LINES["keep"]
+    read = [
+        ("# each kind of bad line of keep", GOOD),
+        *((line, none) for line in ("reopen ", "reopen {}", "Reopen", " reopen", "grant root {}", "report {}", "admin", "admin root", "admin  root {}", "refresh ", "hello")),
+        ("admin root {", "JSON: syntax"),
+        ('admin root {"command":"getPolicy"}', "/id: missing"),
+        ('facts {"service":1}', "/service: type"),
+        ("config {}", "/plugin: missing"),
+    ]
+    early = [
+        ("reopen", "reopen before config"),
+        (LOOK, "admin before config"),
+        (DECIDE, "decide before config"),
+        (facts(), "facts in a script of keep"),
+        ("refresh", "refresh in a script of keep"),
+        UNKNOWN_PLUGIN,
+    ]
+    late = [
+        (config(), GOOD),
+        ("reopen", GOOD),
+        (admin({"command": "putUser", "user": {"name": "bob"}}), GOOD),
+        ("reopen", GOOD),
+        (LOOK, GOOD),
+        (DECIDE, GOOD),
+        (config(), "config after config"),
+        (facts(), "facts in a script of keep"),
+        ("refresh", "refresh in a script of keep"),
+        ('admin root {"command":"shutDown"}', "/command: type"),
+        ("reopen", GOOD),
+    ]
+    return read + early + late
+
+
+def serve():
+    none = NO_LINES["serve"]
+    read = [
+        ("# each kind of bad line of serve", GOOD),
+        *((line, none) for line in ("serve", "grant root {}", "report {}", "reopen", "admin root", "config", "refresh ", "hello")),
+        ("config {", "JSON: syntax"),
+        ('admin root {"command":"getPolicy"}', "/id: missing"),
+        ("decide {}", "/user: missing"),
+    ]
+    early = [
+        (LOOK, "admin before config"),
+        (DECIDE, "decide in a script of serve"),
+        (facts(), "facts in a script of serve"),
+        ("refresh", "refresh in a script of serve"),
+        UNKNOWN_PLUGIN,
+    ]
+    late = [
+        (config(), GOOD),
+        (LOOK, GOOD),
+        ("", GOOD),
+        (config(), "config after config"),
+        (DECIDE, "decide in a script of serve"),
+        ("refresh", "refresh in a script of serve"),
+        (LOOK, GOOD),
+    ]
+    return read + early + late
+
+
+def unbegun():
+    return [("# no configuration that starts", GOOD), (LOOK, "admin before config"), UNKNOWN_PLUGIN, (END, "the script ends before config")]
+
+
+def begun():
+    return [("# nothing bad for grants, keep and serve", GOOD), (config(), GOOD), (LOOK, GOOD), ("", GOOD), (admin({"command": "putUser", "user": {"name": "bob"}}), GOOD)]
+
+
 def main(which, script_path, output_path):
-    rows = {"kinds": kinds, "commands": commands}[which]()
-    script = "".join(line + "\n" for line, _ in rows)
+    rows = {"kinds": kinds, "commands": commands, "grants": grants, "report": report, "keep": keep, "serve": serve, "unbegun": unbegun, "begun": begun}[which]()
+    script = "".join(line + "\n" for line, _ in rows if line is not END)
     told = "".join(f"line {place + 1}: {why}\n" for place, (_, why) in enumerate(rows) if why is not GOOD)
     Path(script_path).write_text(script)
     Path(output_path).write_text(told)

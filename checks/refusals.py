@@ -79,8 +79,8 @@ def example(name):
         return it.read()
 
 
-def stored(crate):
-    with open(os.path.join(TOP, "crates", crate, "stdin"), "rb") as it:
+def stored(*path):
+    with open(os.path.join(TOP, "crates", *path), "rb") as it:
         return it.read()
 
 
@@ -93,7 +93,8 @@ RUNS = [
     ("rangerd", ["report"], example("report")),
     ("rangerd", ["keep"], example("keep")),
     ("rangerd", ["drill", "7", "20", "30"], b""),
-    ("rangerd_check", [], stored("rangerd_check")),
+    ("rangerd_check", [], stored("rangerd_check", "stdin")),
+    ("rangerd_check", ["serve"], stored("test_forms", "data", "unbegun.script")),
     ("rangerd_explain", [], example("cells")),
     ("rangerd_explain", ["--json", "--all"], example("zones")),
     ("rangerd_test", ["--junit"], example("tests")),

@@ -1,4 +1,12 @@
 pub mod Agreeing
+pub mod ByPlace
+pub mod Ending
+pub mod Grants
+pub mod Keeps
 pub mod Naming
+pub mod Reached
+pub mod Replays
+pub mod Reports
+pub mod Serves
 pub mod Starts
 pub mod Walks

@@ -18,15 +18,23 @@ use Rattle.rg_script.specs.declared.cause.Place.TheVariants as place
 use Rattle.rg_facts_check.specs.declared.unsound.Unsound.{Unsound}
 use Rattle.rg_facts_check.specs.declared.unsound.Unsound.TheVariants as unsound
 use Rattle.rg_validate.specs.Definitions.{definition_rule}
+use Rattle.rg_check.specs.declared.command.Command.{Command}
+use Rattle.rg_check.specs.declared.command.Command.TheVariants as command
 use Rattle.rg_check.specs.declared.kind.LineKind.{LineKind}
 use Rattle.rg_check.specs.declared.kind.LineKind.TheVariants as kind
-use Rattle.rg_check.specs.Kinds.{kind_word}
+use Rattle.rg_check.specs.Commands.{command_word}
+use Rattle.rg_check.specs.Kinds.{kind_word, takes}
 use Rattle.rg_check.specs.Meanings.{rule_meaning}
 
 -- ---- a line that isn't read
 
-unfoldable pub no_word_text : List ℕ
-no_word_text = codes "none of facts JSON, config JSON, admin ACTOR JSON, refresh and decide JSON"
+-- the forms of the command's lines
+unfoldable pub no_word_text : Command → List ℕ
+no_word_text command.Replay = codes "none of facts JSON, config JSON, admin ACTOR JSON, refresh and decide JSON"
+no_word_text command.Grants = codes "none of config JSON, admin ACTOR JSON, grant ACTOR JSON, revoke ACTOR JSON and decide JSON"
+no_word_text command.Report = codes "none of facts JSON and report JSON"
+no_word_text command.Keep = codes "none of config JSON, admin ACTOR JSON, reopen and decide JSON"
+no_word_text command.Serve = codes "none of config JSON and admin ACTOR JSON"
 
 unfoldable pub wire_name : WireKind → List ℕ
 wire_name wire.Syntax = codes "syntax"
@@ -41,14 +49,21 @@ json_text path kind = (if is_empty path then codes "JSON" else escape (encode_ut
 -- ---- a line out of place
 
 -- what such a line would have to follow, or what it follows
-unfoldable pub standing : Place → LineKind → List ℕ
-standing place.Start kind.Decide = codes "before facts or config"
-standing place.Start _ = codes "before config"
-standing place.Facts _ = codes "after facts"
-standing place.Config _ = codes "after config"
+unfoldable pub standing : Place → Command → LineKind → List ℕ
+standing place.Start command.Replay kind.Decide = codes "before facts or config"
+standing place.Start command.Report _ = codes "before facts"
+standing place.Start _ _ = codes "before config"
+standing place.Facts _ _ = codes "after facts"
+standing place.Config _ _ = codes "after config"
 
-unfoldable pub misplaced_text : Place → LineKind → List ℕ
-misplaced_text place kind = kind_word kind ++ (codes " " ++ standing place kind)
+-- the word, and where it stands; or in which script, where that has no such lines
+unfoldable pub misplaced_text : Command → Place → LineKind → List ℕ
+misplaced_text command place kind = kind_word kind ++
+    (if takes command kind then codes " " ++ standing place command kind else codes " in a script of " ++ command_word command)
+
+-- what is said of the end of a script that lacks its configuration
+unfoldable pub end_text : List ℕ
+end_text = codes "the script ends before config"
 
 -- ---- a rule that is broken
 
@@ -97,10 +112,10 @@ unsound_text (unsound.TimeZone n) = broken_text (at_place (codes "/timeZones") n
 -- ---- all causes
 
 -- the cause in words, for a line of this kind where it stands; one that isn't read has no kind
-unfoldable pub cause_text : Place → Option LineKind → Cause → List ℕ
-cause_text place kind (cause.Json path wire) = json_text path wire
-cause_text place (Some kind) cause.OutOfPlace = misplaced_text place kind
-cause_text place None cause.OutOfPlace = no_word_text
-cause_text place kind (cause.Unsound fault) = unsound_text fault
-cause_text place kind (cause.Refused rule) = broken_text (codes "the configuration") rule
-cause_text place kind cause.NoWord = no_word_text
+unfoldable pub cause_text : Command → Place → Option LineKind → Cause → List ℕ
+cause_text command place kind (cause.Json path wire) = json_text path wire
+cause_text command place (Some kind) cause.OutOfPlace = misplaced_text command place kind
+cause_text command place None cause.OutOfPlace = no_word_text command
+cause_text command place kind (cause.Unsound fault) = unsound_text fault
+cause_text command place kind (cause.Refused rule) = broken_text (codes "the configuration") rule
+cause_text command place kind cause.NoWord = no_word_text command

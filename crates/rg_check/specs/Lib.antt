@@ -1,7 +1,10 @@
 pub mod Causes
 pub mod Checking
+pub mod Commands
 pub mod Ends
 pub mod Kinds
 pub mod Meanings
 pub mod Naming
+pub mod Own
+pub mod Reasons
 pub mod Walking

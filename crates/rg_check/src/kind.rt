@@ -1,8 +1,10 @@
 // What a line is.
 ghost use Rattle.std.specs.Prelude.{◌≡◌, IfOk};
-ghost use Rattle.rg_check.specs.Checking.{kind_at};
-ghost use Rattle.rg_check.specs.Kinds.{kind_of, kind_word, place_after};
+ghost use Rattle.rg_script.specs.Line.{line_read};
+ghost use Rattle.rg_check.specs.Kinds.{kind_of, kind_word, place_after, takes};
+ghost use Rattle.rg_check.specs.Reasons.{plain_kind};
 
+use crate::command::Command;
 use rg_base::{Moment, NoMemory};
 use rg_script::{Line, LineFault, Place, read_line};
 use std::alloc::Global;
@@ -16,6 +18,10 @@ pub(crate) enum LineKind {
     Admin,
     Refresh,
     Decide,
+    Grant,
+    Revoke,
+    Report,
+    Reopen,
 }
 
 impl LineKind {
@@ -32,9 +38,9 @@ impl LineKind {
         }
     }
 
-    /// What the line is; None where it isn't read.
+    /// What a line is that isn't of a command's own; None where it isn't read.
     pub(crate) fn of(alloc: Global, line: &[u8], now: Moment) -> Result<Option<LineKind>, NoMemory>
-        ensures { IfOk result (λ kind. kind ≡ kind_at line.now now) }
+        ensures { IfOk result (λ kind. kind ≡ plain_kind (line_read line.now now)) }
     {
         match read_line(alloc, line, now) {
             Ok(read) => {
@@ -59,26 +65,46 @@ impl LineKind {
             LineKind::Admin => "admin",
             LineKind::Refresh => "refresh",
             LineKind::Decide => "decide",
+            LineKind::Grant => "grant",
+            LineKind::Revoke => "revoke",
+            LineKind::Report => "report",
+            LineKind::Reopen => "reopen",
+        }
+    }
+
+    /// Whether a script of the command has such lines.
+    pub(crate) fn is_of(self, command: Command) -> bool
+        ensures { result ≡ takes command self }
+    {
+        match command {
+            Command::Replay => true,
+            Command::Grants | Command::Keep => match self {
+                LineKind::Facts | LineKind::Refresh => false,
+                _ => true,
+            },
+            Command::Report => match self {
+                LineKind::Config | LineKind::Admin | LineKind::Refresh | LineKind::Decide => false,
+                _ => true,
+            },
+            Command::Serve => match self {
+                LineKind::Facts | LineKind::Refresh | LineKind::Decide => false,
+                _ => true,
+            },
         }
     }
 }
 
-/// Where the lines stand that follow this line, which isn't bad.
-pub(crate) fn place_after(
-    alloc: Global,
-    place: Place,
-    line: &[u8],
-    now: Moment,
-) -> Result<Place, NoMemory>
-    ensures { IfOk result (λ next. next ≡ place_after place (kind_at line.now now)) }
+/// Where the lines stand that follow a line of this kind, which isn't bad.
+pub(crate) fn place_after(place: Place, kind: Option<LineKind>) -> Place
+    ensures { result ≡ place_after place kind }
 {
     match place {
-        Place::Start => match LineKind::of(alloc, line, now)? {
-            Some(LineKind::Facts) => Ok(Place::Facts),
-            Some(LineKind::Config) => Ok(Place::Config),
-            _ => Ok(Place::Start),
+        Place::Start => match kind {
+            Some(LineKind::Facts) => Place::Facts,
+            Some(LineKind::Config) => Place::Config,
+            _ => Place::Start,
         },
-        Place::Facts => Ok(Place::Facts),
-        Place::Config => Ok(Place::Config),
+        Place::Facts => Place::Facts,
+        Place::Config => Place::Config,
     }
 }

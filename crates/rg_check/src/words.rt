@@ -4,13 +4,15 @@ ghost use Rattle.std.specs.Fmt.{signed_decimal};
 ghost use Rattle.rg_cmd.specs.declared.rule.Rule.TheVariants as rule;
 ghost use Rattle.rg_validate.specs.Definitions.{definition_rule};
 ghost use Rattle.rg_script.specs.declared.cause.Cause.TheVariants.{OutOfPlace};
-ghost use Rattle.rg_check.specs.Checking.{kind_at};
-ghost use Rattle.rg_check.specs.Causes.{at_place, broken_text, cause_text, json_text, misplaced_text, no_word_text, policy_rule, role_text, standing, tag_row_rule, unsound_text, wire_name, zone_rule};
+ghost use Rattle.rg_check.specs.Causes.{at_place, broken_text, cause_text, end_text, json_text, misplaced_text, no_word_text, policy_rule, role_text, standing, tag_row_rule, unsound_text, wire_name, zone_rule};
+ghost use Rattle.rg_check.specs.Commands.{command_word};
+ghost use Rattle.rg_check.specs.Kinds.{kind_word};
 
+use crate::command::Command;
 use crate::kind::LineKind;
 use crate::meanings::meaning;
 use crate::spelling::spelled;
-use rg_base::{Moment, NoMemory, PolicyId, Text, is_empty};
+use rg_base::{NoMemory, PolicyId, Text, is_empty};
 use rg_cmd::Rule;
 use rg_facts_check::Unsound;
 use rg_roles::RoleFault;
@@ -27,12 +29,28 @@ pub(crate) fn owned(alloc: Global, text: &str) -> Result<String, NoMemory>
 
 // ---- a line that isn't read, or stands out of place
 
-/// What a line is that begins with no word of a script, or whose word isn't followed by what it needs.
+/// What a line isn't that begins with no word of the command's scripts, or whose word isn't followed by what it needs.
 #[tactic(auto, unfolding(crate::specs::Causes::no_word_text))]
-fn no_word() -> &'static str
-    ensures { result.now ≡ no_word_text }
+fn no_word(command: Command) -> &'static str
+    ensures { result.now ≡ no_word_text command }
 {
-    "none of facts JSON, config JSON, admin ACTOR JSON, refresh and decide JSON"
+    match command {
+        Command::Replay =>
+            "none of facts JSON, config JSON, admin ACTOR JSON, refresh and decide JSON",
+        Command::Grants =>
+            "none of config JSON, admin ACTOR JSON, grant ACTOR JSON, revoke ACTOR JSON and decide JSON",
+        Command::Report => "none of facts JSON and report JSON",
+        Command::Keep => "none of config JSON, admin ACTOR JSON, reopen and decide JSON",
+        Command::Serve => "none of config JSON and admin ACTOR JSON",
+    }
+}
+
+/// What is said of the end of a script that lacks its configuration.
+#[tactic(auto, unfolding(crate::specs::Causes::end_text))]
+pub(crate) fn end_words() -> &'static str
+    ensures { result.now ≡ end_text }
+{
+    "the script ends before config"
 }
 
 #[tactic(auto, unfolding(crate::specs::Causes::wire_name))]
@@ -62,26 +80,55 @@ fn json_words(alloc: Global, path: &Text, kind: WireKind) -> Result<String, NoMe
     Ok(format!(in alloc; "{path}: {kind}")?)
 }
 
+/// What a line of this kind would have to follow at the start of the command's script.
 #[tactic(auto, unfolding(crate::specs::Causes::standing))]
-fn standing(place: Place, kind: LineKind) -> &'static str
-    ensures { result.now ≡ standing place kind }
+fn before(command: Command, kind: LineKind) -> &'static str
+    ensures { result.now ≡ standing Place.Start command kind }
 {
-    match place {
-        Place::Start => match kind {
+    match command {
+        Command::Replay => match kind {
             LineKind::Decide => "before facts or config",
             _ => "before config",
         },
+        Command::Report => "before facts",
+        Command::Grants | Command::Keep | Command::Serve => "before config",
+    }
+}
+
+#[tactic(auto, unfolding(crate::specs::Causes::standing))]
+fn standing(place: Place, command: Command, kind: LineKind) -> &'static str
+    ensures { result.now ≡ standing place command kind }
+{
+    match place {
+        Place::Start => before(command, kind),
         Place::Facts => "after facts",
         Place::Config => "after config",
     }
 }
 
-#[tactic(auto, unfolding(crate::specs::Causes::misplaced_text))]
-fn misplaced_words(alloc: Global, place: Place, kind: LineKind) -> Result<String, NoMemory>
-    ensures { IfOk result (λ s. string_bytes s ≡ misplaced_text place kind) }
+/// A line of this kind in a script of a command that has no such lines.
+fn foreign_words(alloc: Global, command: Command, kind: LineKind) -> Result<String, NoMemory>
+    ensures { IfOk result (λ s. string_bytes s ≡ kind_word kind ++ (codes " in a script of " ++ command_word command)) }
 {
     let word = kind.word();
-    let standing = standing(place, kind);
+    let script = command.word();
+    Ok(format!(in alloc; "{word} in a script of {script}")?)
+}
+
+#[tactic(auto, unfolding(crate::specs::Causes::misplaced_text))]
+fn misplaced_words(
+    alloc: Global,
+    command: Command,
+    place: Place,
+    kind: LineKind,
+) -> Result<String, NoMemory>
+    ensures { IfOk result (λ s. string_bytes s ≡ misplaced_text command place kind) }
+{
+    if !kind.is_of(command) {
+        return foreign_words(alloc, command, kind);
+    }
+    let word = kind.word();
+    let standing = standing(place, command, kind);
     Ok(format!(in alloc; "{word} {standing}")?)
 }
 
@@ -244,32 +291,37 @@ fn unsound_words(alloc: Global, unsound: Unsound) -> Result<String, NoMemory>
 
 // ---- all causes
 
-/// What is wrong with a line that stands out of place.
+/// What is wrong with a line of this kind that stands out of place.
 #[tactic(auto, unfolding(crate::specs::Causes::cause_text))]
-fn out_of_place(alloc: Global, place: Place, line: &[u8], now: Moment) -> Result<String, NoMemory>
-    ensures { IfOk result (λ s. string_bytes s ≡ cause_text place (kind_at line.now now) OutOfPlace) }
+fn out_of_place(
+    alloc: Global,
+    command: Command,
+    place: Place,
+    kind: Option<LineKind>,
+) -> Result<String, NoMemory>
+    ensures { IfOk result (λ s. string_bytes s ≡ cause_text command place kind OutOfPlace) }
 {
-    match LineKind::of(alloc, line, now)? {
-        Some(kind) => misplaced_words(alloc, place, kind),
-        None => owned(alloc, no_word()),
+    match kind {
+        Some(kind) => misplaced_words(alloc, command, place, kind),
+        None => owned(alloc, no_word(command)),
     }
 }
 
-/// Why the line is bad where it stands, in words.
+/// Why a line of this kind is bad where it stands, in words.
 #[tactic(auto, unfolding(crate::specs::Causes::cause_text))]
 pub(crate) fn cause_words(
     alloc: Global,
+    command: Command,
     place: Place,
-    line: &[u8],
-    now: Moment,
+    kind: Option<LineKind>,
     cause: &Cause,
 ) -> Result<String, NoMemory>
-    ensures { IfOk result (λ s. string_bytes s ≡ cause_text place (kind_at line.now now) cause.now) }
+    ensures { IfOk result (λ s. string_bytes s ≡ cause_text command place kind cause.now) }
 {
     match cause {
-        Cause::NoWord => owned(alloc, no_word()),
+        Cause::NoWord => owned(alloc, no_word(command)),
         Cause::Json { path, kind } => json_words(alloc, path, *kind),
-        Cause::OutOfPlace => out_of_place(alloc, place, line, now),
+        Cause::OutOfPlace => out_of_place(alloc, command, place, kind),
         Cause::Unsound(unsound) => unsound_words(alloc, *unsound),
         Cause::Refused(rule) => broken(alloc, "the configuration", *rule),
     }

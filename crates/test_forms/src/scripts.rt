@@ -1,10 +1,10 @@
 // Scripts that the checker works over ports in memory.
 //
-// `script|NAME|STATUS`: NAME.script is checked, and NAME.output is what it has to get. Printed are whether the output and the status
-// are as wanted, and what they are: the status and the number of lines.
+// `script|COMMAND|NAME|STATUS`: NAME.script is checked as one of the command, and NAME.output is what it has to get. Printed are whether
+// the output and the status are as wanted, and what they are: the status and the number of lines.
 use crate::fields::number;
 use rg_base::{Moment, Seq};
-use rg_check::check;
+use rg_check::{Command, check};
 use rg_ports::{ListClock, MemSink, MemSource};
 use std::alloc::{AllocError, Global};
 use std::rt::Files;
@@ -22,11 +22,16 @@ fn read<R: Files + AllocGlobal>(
 }
 
 /// Checks the script; the answer is the status.
-fn checked(alloc: Global, script: Vec<u8>, sink: &mut MemSink) -> Result<u8, AllocError> {
+fn checked(
+    alloc: Global,
+    command: Command,
+    script: Vec<u8>,
+    sink: &mut MemSink,
+) -> Result<u8, AllocError> {
     let moments = Vec::from_slice(alloc, &[Moment(0)])?;
     let mut source = MemSource::new(Seq::from_vec(script), Seq::new(alloc), Seq::new(alloc));
     let mut clock = ListClock::new(Seq::from_vec(moments));
-    Ok(check(alloc, &mut source, sink, &mut clock))
+    Ok(check(alloc, command, &mut source, sink, &mut clock))
 }
 
 fn line_count(output: &[u8]) -> u64 {
@@ -42,12 +47,13 @@ fn line_count(output: &[u8]) -> u64 {
 /// What came of the script of a row.
 pub(crate) fn tell<R: Files + AllocGlobal>(rt: &R, alloc: Global, row: &str) -> io::Result<String> {
     let mut fields = row.split('|');
+    let command = Command::named(fields.next().unwrap_or("")).unwrap_or(Command::Replay);
     let name = fields.next().unwrap_or("");
     let wanted_status = number(fields.next());
     let script = read(rt, alloc, name, "script")?;
     let wanted = read(rt, alloc, name, "output")?;
     let mut sink = MemSink::new(Seq::new(alloc), Seq::new(alloc), Seq::new(alloc));
-    let status = checked(alloc, script, &mut sink)?;
+    let status = checked(alloc, command, script, &mut sink)?;
     let is_wanted = u32::from(status) == wanted_status && sink.held() == wanted.as_slice();
     let word = if is_wanted {
         "as wanted"
