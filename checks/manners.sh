@@ -1,16 +1,16 @@
 #!/usr/bin/env bash
 # Looks at what bin/rangerd says besides what the program prints: help without a build, the address of `serve`, what is said after status 2,
 # and the statuses, which are the program's own or 125. What it prints on standard output is compared with what the program prints. The same
-# of the words of bin/rangerd-explain, bin/rangerd-test, bin/rangerd-view and bin/rangerd-plugin.
-# usage: checks/manners.sh [PROGRAM [EXPLAINER [TESTER [VIEWER]]]]      (the built ones where not given)
+# of the words of bin/rangerd-check, bin/rangerd-explain, bin/rangerd-test, bin/rangerd-view, bin/rangerd-plugin and bin/rangerd-kept.
+# usage: checks/manners.sh [PROGRAM [EXPLAINER [TESTER [VIEWER [CHECKER]]]]]      (the built ones where not given)
 set -u
 cd "$(dirname "$0")/.." || exit 1
 program=$(readlink -f "${1:-crates/rangerd/out/rangerd}")
 explainer=$(readlink -m "${2:-crates/rangerd_explain/out/rangerd_explain}") tester=$(readlink -m "${3:-crates/rangerd_test/out/rangerd_test}")
-viewer=$(readlink -m "${4:-crates/rangerd_view/out/rangerd_view}")
+viewer=$(readlink -m "${4:-crates/rangerd_view/out/rangerd_view}") checker=$(readlink -m "${5:-crates/rangerd_check/out/rangerd_check}")
 room=$(mktemp -d)
 trap 'rm -rf "$room"' EXIT
-mkdir "$room/bin" && cp bin/rangerd bin/rangerd-explain bin/rangerd-test bin/rangerd-view bin/rangerd-plugin "$room/bin" || exit 1
+mkdir "$room/bin" && cp bin/rangerd bin/rangerd-check bin/rangerd-explain bin/rangerd-test bin/rangerd-view bin/rangerd-plugin bin/rangerd-kept "$room/bin" || exit 1
 passed=0 failed=0
 
 # What bin/built is here: it prints where the program lies, or isn't there and says so.
@@ -43,8 +43,8 @@ run_both "version without a build" "" "^rangerd, commit " --version
 judge "not built" "$? $(wc -c < "$room/printed")" "125 0"
 
 build_as "echo '$program'"
-run_both "a bad line" "$bad" bin/rangerd-check replay
-run_both "a bad configuration" "$bad" bin/rangerd-check serve 127.0.0.1:0 1
+run_both "a bad line" "$bad" "bin/rangerd-check replay" replay
+run_both "a bad configuration" "$bad" "bin/rangerd-check serve" serve 127.0.0.1:0 1
 printf '# nothing\n' | "$room/bin/rangerd" replay > "$room/printed" 2> "$room/said"
 judge "nothing to say" "$? $(cat "$room/printed" "$room/said")" "0 "
 
@@ -69,7 +69,14 @@ done
 for words in '' '127.0.0.1:1 hive1 cache 127.0.0.1:0' '127.0.0.1:1 hive1 cache 127.0.0.1:0 1 audit more'; do
   run_wrong rangerd-plugin "^usage: rangerd-plugin " $words
 done
+for words in '' kept.db 'kept.db 127.0.0.1:0 audit more'; do
+  run_wrong rangerd-kept "^usage: rangerd-kept " $words
+done
+for words in --help 'grants serve' "$script grants" "serve $script $script"; do
+  run_wrong rangerd-check "^usage: rangerd-check " $words
+done
 run_wrong rangerd-explain "No such file" ./nowhere
+run_wrong rangerd-check "No such file" keep ./nowhere
 run_wrong rangerd-test "No such file" --junit ./nowhere
 
 # Words and script reach the program.
@@ -86,8 +93,10 @@ build_as "echo '$explainer'"
 for words in '' --json '--all 3' '2 --all --json'; do reach rangerd-explain "$explainer" $words; done
 build_as "echo '$tester'"
 for words in '' --junit; do reach rangerd-test "$tester" $words; done
+build_as "echo '$checker'"
+for words in '' replay grants report keep serve; do reach rangerd-check "$checker" $words; done
 build_as "exit 125"
-for name in rangerd-explain rangerd-test; do
+for name in rangerd-explain rangerd-test rangerd-check; do
   "$room/bin/$name" < /dev/null > "$room/printed" 2> /dev/null
   judge "$name isn't built" "$? $(wc -c < "$room/printed")" "125 0"
 done
@@ -95,6 +104,8 @@ done
 judge "rangerd-view isn't built" "$? $(wc -c < "$room/printed")" "125 0"
 "$room/bin/rangerd-plugin" 127.0.0.1:1 hive1 "$room/cache" 127.0.0.1:0 1 > "$room/printed" 2> /dev/null
 judge "rangerd-plugin isn't built" "$? $(wc -c < "$room/printed")" "125 0"
+"$room/bin/rangerd-kept" "$room/kept.db" 127.0.0.1:0 < /dev/null > "$room/printed" 2> /dev/null
+judge "rangerd-kept isn't built" "$? $(wc -c < "$room/printed")" "125 0"
 build_as "echo '$program'"
 
 # A service on a port that the system chooses is named once it listens, and ended by what ends bin/rangerd.

@@ -45,6 +45,9 @@ LEFT_OUT = [
     ("README.md", ".ci/run", "it is the gate, which this is a part of"),
     ("CONTRIBUTING.md", "rt check", "it proves for minutes, and the gate does so already"),
     ("README.md", "bin/rangerd-plugin", "it runs until it is ended; checks/plugin.py runs plugins"),
+    ("README.md", "grep '^config ' examples/hive.config | bin/rangerd-kept", "it runs until it is ended; checks/kept_service.py runs services that keep"),
+    ("docs/OPERATIONS.md", "grep '^config ' examples/hive.config | bin/rangerd-kept", "it runs until it is ended; checks/kept_service.py runs services that keep"),
+    ("docs/OPERATIONS.md", "kill -STOP", "it copies the file of a service that runs, as checks/kept_service.py does"),
     ("docs/PLUGIN.md", "bin/rangerd-plugin", "it runs until it is ended; checks/plugin.py runs plugins"),
     ("docs/PLUGIN.md", "curl", "it asks a plugin, as checks/plugin.py does"),
 ]

@@ -1,0 +1,3 @@
+pub mod Exposition
+pub mod Page
+pub mod Standing

@@ -1,0 +1,4 @@
+pub mod Endings
+pub mod Opens
+pub mod Sent
+pub mod Served

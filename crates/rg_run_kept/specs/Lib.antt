@@ -1,0 +1,5 @@
+pub mod Configuring
+pub mod Ends
+pub mod Kept
+pub mod Opening
+pub mod Words
