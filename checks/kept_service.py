@@ -1,11 +1,12 @@
 #!/usr/bin/env python3
 """Kills a service that keeps what it administers, and looks for what it acknowledged: checks/kept_service.py [KILLS [CLIENTS [SEED [PROGRAM]]]]
 
-A `rangerd-kept` (the built one where PROGRAM isn't given) is started over a file in a folder of its own, again and again. CLIENTS clients, each with a
-connection of its own, create, change and delete policies, roles, zones and tag rows, each client things of its own, until the service is killed at a
-random moment (SIGKILL). What each client then knows is what its answers told, and the one change that it had asked for and that wasn't answered. After
-the next start each thing has to stand as its last answered change left it, or as the open one did; no id may have been given twice; the version of
-no part may be below one that was told; and the change since a version that was downloaded before the kill leads to what is downloaded whole.
+A `rangerd-kept` (the built one where PROGRAM isn't given) is started over a file in a folder of its own, again and again, with a new file after each
+20 kills. CLIENTS clients, each with a connection of its own, create, change and delete policies, roles, zones and tag rows, each client things of its
+own, until the service is killed at a random moment (SIGKILL). What each client then knows is what its answers told, and the one change that it had
+asked for and that wasn't answered. After the next start each thing has to stand as its last answered change left it, or as the open one did; no id
+may have been given twice; the version of no part may be below one that was told; and the change since a version that was downloaded before the kill
+leads to what is downloaded whole.
 
 Before that, what can't be begun with ends the service with a status and a line, and nothing is changed: records that don't read, configurations that
 aren't the one line, a file that may not be read, one that isn't a database, one that was cut, one that another process has. Where a file system of its
@@ -15,6 +16,7 @@ what was acknowledged before it.
 
 A kill takes nothing that the operating system has been given, so this shows nothing of a power cut. It is no part of the gate, since it takes minutes
 and a socket."""
+import collections
 import contextlib
 import http.client
 import json
@@ -49,6 +51,7 @@ CONFIG = {
 SCRIPT = "config " + json.dumps(CONFIG) + "\n"
 PARTS = {"policies": "/service/plugins/policies/download/hive1", "tags": "/service/tags/download/hive1", "roles": "/service/roles/download/hive1"}
 MOST_SECONDS = 0.6
+KILLS_OF_A_FILE = 20
 PASSED, FAILED = [], []
 
 
@@ -249,21 +252,27 @@ def agrees(clients, found):
 
 
 def killed(folder):
-    """KILLS kills, each with what stands looked through behind it."""
-    file = folder / "kept.db"
+    """KILLS kills, over a file for each few of them, since a start takes the longer the more is kept."""
+    total = collections.Counter()
+    for first in range(0, KILLS, KILLS_OF_A_FILE):
+        total.update(killed_over(folder / f"kept{first}.db", min(KILLS_OF_A_FILE, KILLS - first)))
+    judge("kills", total["kills"], KILLS)
+    print(" ".join(f"{name}={total[name]}" for name in ("kills", "acknowledged", "kept", "ids")), f"clients={CLIENTS}")
+
+
+def killed_over(file, most):
+    """So many kills, each with what stands looked through behind it."""
     known = [{} for _ in range(CLIENTS)]
-    ids, acknowledged, before, kills, times = {}, 0, None, 0, []
+    ids, acknowledged, before, kills = {}, 0, None, 0
     clients = []
     while True:
-        began = time.time()
         service = Service(file)
-        times.append(time.time() - began)
         link = service.link()
         found, whole = standing(link)
         wrong = agrees(clients, found)
         if wrong:
             judge(f"after kill {kills}", wrong[:3], [])
-            return
+            break
         for client in clients:
             for identity, key in client.ids.items():
                 if identity in ids:
@@ -280,7 +289,7 @@ def killed(folder):
                     judge(f"the change of {part} since {before[part]['version']}", told, "leads to the whole")
         before = whole
         link.close()
-        if kills == KILLS:
+        if kills == most:
             service.kill()
             break
         clients = [Client(number, known[number], CHANCE.random()) for number in range(CLIENTS)]
@@ -294,8 +303,7 @@ def killed(folder):
         kills += 1
     with database_of(file) as database:
         (kept,) = database.execute("SELECT count(*) FROM kept").fetchone()
-    judge("kills", kills, KILLS)
-    print(f"kills={kills} clients={CLIENTS} acknowledged={acknowledged} kept={kept} ids={len(ids)} first_start={times[0]:.3f}s last_start={times[-1]:.3f}s")
+    return {"kills": kills, "acknowledged": acknowledged, "kept": kept, "ids": len(ids)}
 
 
 def ended(file, script=SCRIPT):
