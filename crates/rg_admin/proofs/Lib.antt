@@ -5,7 +5,6 @@ pub mod Placed
 pub mod Placing
 pub mod PutRows
 pub mod Reaching
-pub mod Readying
 pub mod Serving
 pub mod Settling
 pub mod Stepping

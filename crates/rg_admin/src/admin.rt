@@ -30,7 +30,7 @@ use rg_delegate::authority_fault;
 use rg_facts::Facts;
 use rg_same_resources::PrintCounts;
 use rg_turn::Machine;
-use rg_validate::first_fault;
+use rg_validate::first_fault_counted;
 use std::alloc::Global;
 use std::marker::Model;
 
@@ -87,7 +87,7 @@ fn fault(
     requires counted { IsCounted counts.now state.now.policies.items }
     ensures { IfOk result (λ f. f ≡ fault state.now ask.now) }
 {
-    match first_fault(alloc, state, counts, ask)? {
+    match first_fault_counted(alloc, state, counts, ask)? {
         Some(rule) => Ok(Some(rule)),
         None => authority_fault(alloc, state, ask),
     }

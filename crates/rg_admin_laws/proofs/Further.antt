@@ -1,4 +1,4 @@
--- For proofs alone: refusals, ids that are given once, downloads from the present versions, and a policy that is created and deleted.
+-- For proofs alone: refusals, ids that rise and are given once, downloads from the present versions, and a policy that is created and deleted.
 use Rattle.std.proofs.Common.{arith, ◌≡◌, ◌≤◌, ◌<◌, ◌+◌, ◌-◌, ◌&&◌, ℕ, ℤ, zero, suc, pos, int_lt, eqb, true, false, not, cond, is_some, Contains, List, [], ◌∷◌, ◌++◌, length, Option, Some, None, slice_get, refl, ap, sym, ◌∙◌, subst}
 use Rattle.std.specs.List.{list_all, list_any}
 use Rattle.std.specs.Ordering.{int_eq}
@@ -20,6 +20,7 @@ use Rattle.rg_cmd.specs.declared.ask.AdminCommand.{AdminCommand}
 use Rattle.rg_cmd.specs.declared.ask.AdminCommand.TheVariants.{CreatePolicy, Download as Downloads, GetPolicy}
 use Rattle.rg_cmd.specs.declared.ask.AdminReply.{AdminReply}
 use Rattle.rg_cmd.specs.declared.ask.Ask.{Ask}
+use Rattle.rg_cmd.specs.declared.changes.Log.{Log}
 use Rattle.rg_cmd.specs.declared.changes.LogEntry.{LogEntry}
 use Rattle.rg_cmd.specs.declared.changes.TagChange.{TagChange}
 use Rattle.rg_cmd.specs.declared.download.Download.{Download}
@@ -125,10 +126,10 @@ module _ (start : Administration) (h : List (Entry Ask AdminReply)) (is : IsStar
       (subst (λ a. int_lt id a.state.next_id ≡ true) (sym (state_next start h before e.0 e.1))
       (next_rises (state_at step start h before) (at_orderly start h is before) e.0.ask id (below_more j m before refl (omega (arith, sum, low)) below)))
 
--- an id is given once
-pub given_once : (start : Administration) (h : List (Entry Ask AdminReply)) → IsStart start → IsLegal step start h → (j k : ℕ) (e f : Entry Ask AdminReply) → j < k → slice_get h j ≡ Some e → slice_get h k ≡ Some f
-    → (id other : PolicyId) → gave_id e.ask.command e.reply ≡ Some id → gave_id f.ask.command f.reply ≡ Some other → int_eq id.0 other.0 ≡ false
-given_once start h is legal j k e f less at_j at_k id other gave gives =
+-- a later id is greater
+pub given_rising : (start : Administration) (h : List (Entry Ask AdminReply)) → IsStart start → IsLegal step start h → (j k : ℕ) (e f : Entry Ask AdminReply) → j < k → slice_get h j ≡ Some e → slice_get h k ≡ Some f
+    → (id other : PolicyId) → gave_id e.ask.command e.reply ≡ Some id → gave_id f.ask.command f.reply ≡ Some other → int_lt id.0 other.0 ≡ true
+given_rising start h is legal j k e f less at_j at_k id other gave gives =
     let a = state_at step start h j in
     let b = state_at step start h k in
     let first = subst (λ r. gave_id e.ask.command r ≡ Some id) (sym (legal j e at_j)) gave in
@@ -137,10 +138,16 @@ given_once start h is legal j k e f less at_j at_k id other gave gives =
     let low = at_within h f k at_k in
     let below = below_more start h is id.0 (suc j) (k - suc j) k (omega (arith, less)) (omega (arith, low)) after in
     let next = (given_is b f.ask other second).2 in
-    int_turned id.0 other.0 (lt_differs id.0 other.0 (subst (λ n. int_lt id.0 n ≡ true) (sym next) below))
-  where
-    int_turned : (x y : ℤ) → int_eq y x ≡ false → int_eq x y ≡ false
-    int_turned x y other = case (λ b. int_eq x y ≡ b → b ≡ false) (int_eq x y) (λ _ same. absurd (false≢true (sym other ∙ (Decides-int_eq y x).1 (sym ((Decides-int_eq x y).0 same))))) (λ _ _. refl) refl
+    subst (λ n. int_lt id.0 n ≡ true) (sym next) below
+
+int_turned : (x y : ℤ) → int_eq y x ≡ false → int_eq x y ≡ false
+int_turned x y other = case (λ b. int_eq x y ≡ b → b ≡ false) (int_eq x y) (λ _ same. absurd (false≢true (sym other ∙ (Decides-int_eq y x).1 (sym ((Decides-int_eq x y).0 same))))) (λ _ _. refl) refl
+
+-- so an id is given once
+pub given_once : (start : Administration) (h : List (Entry Ask AdminReply)) → IsStart start → IsLegal step start h → (j k : ℕ) (e f : Entry Ask AdminReply) → j < k → slice_get h j ≡ Some e → slice_get h k ≡ Some f
+    → (id other : PolicyId) → gave_id e.ask.command e.reply ≡ Some id → gave_id f.ask.command f.reply ≡ Some other → int_eq id.0 other.0 ≡ false
+given_once start h is legal j k e f less at_j at_k id other gave gives =
+    int_turned id.0 other.0 (lt_differs id.0 other.0 (given_rising start h is legal j k e f less at_j at_k id other gave gives))
 
 -- ---- downloads from the present versions
 
@@ -155,14 +162,31 @@ tags_unchanged g b from = case (λ t. same_tags (tag_part_by g from (cond t Noth
 roles_unchanged : (g : Facts) (from : Version) → same_roles (role_part g (Some from)) ≡ eqb from.0 g.role_version.0
 roles_unchanged g from = case (λ t. same_roles (cond t RolesUnchanged (RolesWhole (role_whole g))) ≡ t) (eqb from.0 g.role_version.0) (λ _. refl) (λ _. refl)
 
-pub unchanged_where : (a : Administration) (service : List ℕ) (f g : Facts) (d : Download) → view a service ≡ Some g → download a service (from_of f) ≡ Some d → is_unchanged d ≡ same_versions (versions f) (versions g)
-unchanged_where a service f g d is down =
-    let v = viewed a service g is in
-    let made : Download = record { seq = a.state.count; policies = policy_part g (policy_book v.log) (Some f.policy_version); tags = tag_part g (tag_book v.log) (Some f.tag_version); roles = role_part g (Some f.role_version) } in
-    let same : made ≡ d = same_Some made d (sym (λ i. download_with a.state.count (from_of f) (v.log_is i) (is i)) ∙ down) in
-    sym (ap is_unchanged same)
-    ∙ (λ i. policies_unchanged g (policy_book v.log) f.policy_version i && (tags_unchanged g (tag_book v.log) f.tag_version i && roles_unchanged g f.role_version i))
-    ∙ (λ i. eqb f.policy_version.0 (sym (policy_version_is a service g is) i).0 && (eqb f.tag_version.0 (sym (tag_version_is a service g is) i).0 && eqb f.role_version.0 g.role_version.0))
+module _ (a : Administration) (service : List ℕ) (f g : Facts) (d : Download) (is : view a service ≡ Some g) (down : download a service (from_of f) ≡ Some d) where
+  abbrev log : Log
+  log = (viewed a service g is).log
+
+  abbrev made : Download
+  made = record { seq = a.state.count; policies = policy_part g (policy_book log) (Some f.policy_version); tags = tag_part g (tag_book log) (Some f.tag_version); roles = role_part g (Some f.role_version) }
+
+  made_is : made ≡ d
+  made_is = same_Some made d (sym (λ i. download_with a.state.count (from_of f) ((viewed a service g is).log_is i) (is i)) ∙ down)
+
+  pub policies_where : same_policies d.policies ≡ eqb f.policy_version.0 g.policy_version.0
+  policies_where =
+      sym (ap (λ (x : Download). same_policies x.policies) made_is) ∙ policies_unchanged g (policy_book log) f.policy_version
+      ∙ ap (λ (v : Version). eqb f.policy_version.0 v.0) (sym (policy_version_is a service g is))
+
+  pub tags_where : same_tags d.tags ≡ eqb f.tag_version.0 g.tag_version.0
+  tags_where =
+      sym (ap (λ (x : Download). same_tags x.tags) made_is) ∙ tags_unchanged g (tag_book log) f.tag_version
+      ∙ ap (λ (v : Version). eqb f.tag_version.0 v.0) (sym (tag_version_is a service g is))
+
+  pub roles_where : same_roles d.roles ≡ eqb f.role_version.0 g.role_version.0
+  roles_where = sym (ap (λ (x : Download). same_roles x.roles) made_is) ∙ roles_unchanged g f.role_version
+
+  pub unchanged_where : is_unchanged d ≡ same_versions (versions f) (versions g)
+  unchanged_where = λ i. policies_where i && (tags_where i && roles_where i)
 
 -- ---- a policy that is created and deleted
 
@@ -178,7 +202,4 @@ created_and_deleted s given p =
     ∙ append-nil (without (has_id s.next_id) s.policies.items)
     ∙ none_gone s.next_id s.policies.items (λ q there.
     let low = (and_parts (int_lt (pos 0) q.id.0) (int_lt q.id.0 s.next_id) (all_holds (is_given s) s.policies.items given q there)).1 in
-    turned q.id.0 s.next_id (lt_differs q.id.0 s.next_id low))
-  where
-    turned : (x y : ℤ) → int_eq y x ≡ false → int_eq x y ≡ false
-    turned x y other = case (λ b. int_eq x y ≡ b → b ≡ false) (int_eq x y) (λ _ same. absurd (false≢true (sym other ∙ (Decides-int_eq y x).1 (sym ((Decides-int_eq x y).0 same))))) (λ _ _. refl) refl
+    int_turned q.id.0 s.next_id (lt_differs q.id.0 s.next_id low))

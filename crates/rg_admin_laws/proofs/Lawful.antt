@@ -305,7 +305,7 @@ module _ (plugin : List ℕ) (s : Administration) (h : List (Entry Ask AdminRepl
       let v = service_viewed (state_at step s h k) o (state_at step s h k).state.plugin o.state.plugin in
       (v.0, subst (λ p. view (state_at step s h k) p ≡ Some v.0) (plugin_after s (take k h) ∙ start.1) v.1)
 
-  count_at : (k : ℕ) → k ≤ length h → (state_at step s h k).state.count ≡ min k (2 ^ 62)
+  pub count_at : (k : ℕ) → k ≤ length h → (state_at step s h k).state.count ≡ min k (2 ^ 62)
   count_at k low =
       let none = start.0.count in
       let many = length-take-le k h low in

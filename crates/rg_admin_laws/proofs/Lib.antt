@@ -1,5 +1,6 @@
 pub mod Books
 pub mod Downloading
+pub mod Following
 pub mod Further
 pub mod Happening
 pub mod Histories
@@ -18,5 +19,6 @@ pub mod Orderly
 pub mod OwnViews
 pub mod Parts
 pub mod Passing
+pub mod Readying
 pub mod SoundViews
 pub mod Tidy

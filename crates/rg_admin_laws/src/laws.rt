@@ -1,5 +1,5 @@
 // Laws of the administration, each the contract of a function that does nothing.
-ghost use Rattle.std.specs.Prelude.{◌≡◌, ℕ, ◌≤◌, ◌<◌, ◌^◌, ◌∷◌, ◌++◌, List, Contains, Some, length, slice_get, is_some, false, true};
+ghost use Rattle.std.specs.Prelude.{◌≡◌, ◌==◌, ℕ, ◌≤◌, ◌<◌, ◌+◌, ◌^◌, ◌∷◌, ◌++◌, List, Contains, None, Some, length, map, slice_get, int_lt, is_some, false, true};
 ghost use Rattle.std.specs.Ordering.{int_eq};
 ghost use Rattle.rg_turn.specs.History.{IsLegal, state_at};
 ghost use Rattle.rg_turn.specs.declared.rule.Entry.{Entry};
@@ -7,22 +7,26 @@ ghost use Rattle.rg_cmd.specs.declared.ask.AdminCommand.TheVariants.{CreatePolic
 ghost use Rattle.rg_cmd.specs.declared.ask.AdminReply.{AdminReply};
 ghost use Rattle.rg_cmd.specs.declared.ask.AdminReply.TheVariants.{Refused};
 ghost use Rattle.rg_cmd.specs.declared.ask.Ask.{Ask};
+ghost use Rattle.rg_cmd.specs.declared.changes.Log.{Log};
 ghost use Rattle.rg_cmd.specs.declared.download.Download.{Download};
 ghost use Rattle.rg_cmd.specs.Lookups.{is_of, is_of_tag, is_row_of, tag_service_of};
 ghost use Rattle.rg_cmd.specs.declared.rule.Rule.{Rule};
+ghost use Rattle.rg_cmd.specs.declared.state.ServiceRow.{ServiceRow};
 ghost use Rattle.rg_cmd.specs.declared.state.State.{State};
 ghost use Rattle.rg_base.specs.declared.numbers.PolicyId.{PolicyId};
 ghost use Rattle.rg_policy.specs.declared.policy.Policy.{Policy};
 ghost use Rattle.rg_tags.specs.declared.row.TagRow.{TagRow};
 ghost use Rattle.rg_facts.specs.Sound.{sound};
 ghost use Rattle.rg_facts.specs.declared.facts.Facts.{Facts};
-ghost use Rattle.rg_validate.specs.Valid.{IsKept};
+ghost use Rattle.rg_validate.specs.Rules.{first_fault};
+ghost use Rattle.rg_validate.specs.Valid.{IsKept, IsValid};
+ghost use Rattle.rg_delegate.specs.Ready.{FormFits, IsReady};
 ghost use Rattle.rg_admin_laws.specs.Changes.{after_command, created_form};
 ghost use Rattle.rg_admin_laws.specs.Downloads.{download};
 ghost use Rattle.rg_admin_laws.specs.Laws.{AreNoLess, IsNotDeleted, from_of, gave_id, is_refused, with_policies, with_tag_rows};
 ghost use Rattle.rg_admin_laws.specs.Leading.{led};
 ghost use Rattle.rg_admin_laws.specs.Logs.{Administration};
-ghost use Rattle.rg_admin_laws.specs.Machine.{Events, IsOpened, administration, after_events, is_unchanged, same_versions, versions};
+ghost use Rattle.rg_admin_laws.specs.Machine.{Events, IsOpened, administration, after_events, is_unchanged, same_policies, same_roles, same_tags, same_versions, versions};
 ghost use Rattle.rg_admin_laws.specs.Starts.{IsStart};
 ghost use Rattle.rg_admin_laws.specs.Steps.{counted, fault, step};
 ghost use Rattle.rg_admin_laws.specs.Views.{view};
@@ -64,9 +68,44 @@ pub fn ids_are_given_once()
         → (id other : PolicyId) → gave_id e.ask.command e.reply ≡ Some id → gave_id f.ask.command f.reply ≡ Some other → int_eq id.0 other.0 ≡ false }
 {}
 
-/// The download of a service from some versions is unchanged in each part exactly where they are the present ones.
+/// The ids of the policies rise in the order of their creation.
+pub fn ids_rise()
+    ensures { (start : Administration) (h : List (Entry Ask AdminReply)) → IsStart start → IsLegal step start h
+        → (j k : ℕ) (e f : Entry Ask AdminReply) → j < k → slice_get h j ≡ Some e → slice_get h k ≡ Some f
+        → (id other : PolicyId) → gave_id e.ask.command e.reply ≡ Some id → gave_id f.ask.command f.reply ≡ Some other → int_lt id.0 other.0 ≡ true }
+{}
+
+/// In every state of a history there is one log for each service, in the order of the services.
+pub fn logs_follow_services()
+    ensures { (start : Administration) (h : List (Entry Ask AdminReply)) → IsStart start → (k : ℕ)
+        → map (λ (log : Log). log.service) (state_at step start h k).logs ≡ map (λ (row : ServiceRow). row.name) (state_at step start h k).state.services.items }
+{}
+
+/// A version is at most one more than the number of the entries before.
+pub fn versions_are_few()
+    ensures logs { (start : Administration) (h : List (Entry Ask AdminReply)) → IsStart start → (k : ℕ) → k ≤ length h
+        → (log : Log) → Contains (state_at step start h k).logs log → (log.policy_version.0 ≤ k + 1) × (log.tag_version.0 ≤ k + 1) }
+    ensures roles { (start : Administration) (h : List (Entry Ask AdminReply)) → IsStart start → (k : ℕ) → k ≤ length h
+        → (state_at step start h k).state.role_version.0 ≤ k + 1 }
+{}
+
+/// In a valid state, the rules of authority may be asked of each command that breaks no rule before them: the definitions, the
+/// policies and the roles are as these rules want them, and so is the command's policy.
+pub fn accepted_commands_are_ready()
+    ensures ready { (s : State) → IsValid s → IsReady s }
+    ensures fits { (s : State) → IsValid s → (ask : Ask) → first_fault s ask ≡ None → FormFits s ask.command }
+{}
+
+/// The download of a service from some versions is unchanged in each part exactly where that part's version is the present
+/// one, and so in all parts exactly where all three are.
 pub fn unchanged_from_present_versions()
-    ensures { (a : Administration) (service : List ℕ) (before after : Facts) (d : Download) → view a service ≡ Some after
+    ensures policies { (a : Administration) (service : List ℕ) (before after : Facts) (d : Download) → view a service ≡ Some after
+        → download a service (from_of before) ≡ Some d → same_policies d.policies ≡ (before.policy_version.0 == after.policy_version.0) }
+    ensures tags { (a : Administration) (service : List ℕ) (before after : Facts) (d : Download) → view a service ≡ Some after
+        → download a service (from_of before) ≡ Some d → same_tags d.tags ≡ (before.tag_version.0 == after.tag_version.0) }
+    ensures roles { (a : Administration) (service : List ℕ) (before after : Facts) (d : Download) → view a service ≡ Some after
+        → download a service (from_of before) ≡ Some d → same_roles d.roles ≡ (before.role_version.0 == after.role_version.0) }
+    ensures together { (a : Administration) (service : List ℕ) (before after : Facts) (d : Download) → view a service ≡ Some after
         → download a service (from_of before) ≡ Some d → is_unchanged d ≡ same_versions (versions before) (versions after) }
 {}
 

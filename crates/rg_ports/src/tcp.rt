@@ -71,11 +71,14 @@ impl<S: Read + Write + Send + Drop> Link for TcpLink<S> {
 /// How many seconds a read or a write of a link waits for its client at most. One that takes longer fails.
 const PATIENCE: u64 = 30;
 
-// Sets the time limit of reads and writes. A connection that its client has reset already refuses it, and fails at its first call.
-fn with_limit(stream: TcpStream) -> TcpStream {
+// Sets the time limit of reads and writes, and has each answer leave at once: where requests come without waiting for answers, the
+// second answer would wait until the first is acknowledged, which clients put off. A connection that its client has reset already
+// refuses it, and fails at its first call.
+fn prepared(stream: TcpStream) -> TcpStream {
     let limit = Some(Duration::from_secs(PATIENCE));
     let _ = stream.set_read_timeout(limit);
     let _ = stream.set_write_timeout(limit);
+    let _ = stream.set_nodelay(true);
     stream
 }
 
@@ -84,7 +87,7 @@ fn with_limit(stream: TcpStream) -> TcpStream {
 fn next_stream(listener: &TcpListener) -> Result<TcpStream, Failed> {
     for _ in 0..u64::MAX {
         match listener.accept() {
-            Ok((stream, _)) => return Ok(with_limit(stream)),
+            Ok((stream, _)) => return Ok(prepared(stream)),
             Err(error) if is_passed_over(error.kind()) => {}
             Err(_) => return Err(Failed),
         }

@@ -8,4 +8,5 @@ pub mod Steps
 pub mod Tags
 pub mod Users
 pub mod Valid
+pub mod ValidTest
 pub mod Zones

@@ -29,7 +29,7 @@ pub use policies::{
 };
 pub use rg_zones::zones_apart_by_pairs;
 pub use roles::role_is_unused;
-pub use rules::first_fault;
+pub use rules::{counts_of, first_fault, first_fault_counted};
 pub use services::{
     keeps_definition, plugin_fits, service_is_unused, service_name_is_new, tag_service_fits,
 };

@@ -8,7 +8,7 @@ ghost use Rattle.rg_validate.specs.Valid.{IsValid};
 use crate::commands::command_fault;
 use rg_base::NoMemory;
 use rg_cmd::{AdminCommand, Ask, Rule, State};
-use rg_same_resources::PrintCounts;
+use rg_same_resources::{PrintCounts, prints_of};
 use std::alloc::Global;
 
 /// The most entries that a history has before changes are refused.
@@ -41,10 +41,20 @@ fn limit_fault(state: &State, command: &AdminCommand) -> Option<Rule>
     }
 }
 
-/// The first rule that the command breaks in the state, up to the rules of authority: L1 where it is asked, then the
-/// command's rules in order; None where all hold. It changes nothing. The counts, which are those of the state's policies,
-/// spare most looks at their names and maps.
-pub fn first_fault(
+/// How many of the state's policies have each print.
+pub fn counts_of(alloc: Global, state: &State) -> Result<PrintCounts, NoMemory>
+    ensures { IfOk result (λ counts. IsCounted counts state.now.policies.items) }
+{
+    let mut counts = PrintCounts::new(alloc);
+    for policy in state.policies.as_slice() {
+        counts.add(prints_of(policy))?;
+    }
+    Ok(counts)
+}
+
+/// The same as `first_fault`, for a caller that keeps the counts of the state's policies from one command to the next. They
+/// spare most looks at the policies' names and maps.
+pub fn first_fault_counted(
     alloc: Global,
     state: &State,
     counts: &PrintCounts,
@@ -58,4 +68,15 @@ pub fn first_fault(
         return Ok(Some(rule));
     }
     command_fault(alloc, state, counts, &ask.command)
+}
+
+/// The first rule that the command breaks in the state, up to the rules of authority: L1 where it is asked, then the
+/// command's rules in order; None where all hold. It changes nothing. The policies are counted first, which takes memory and
+/// work for each.
+pub fn first_fault(alloc: Global, state: &State, ask: &Ask) -> Result<Option<Rule>, NoMemory>
+    requires { IsValid state.now }
+    ensures first { IfOk result (λ fault. fault ≡ first_fault state.now ask.now) }
+{
+    let counts = counts_of(alloc, state)?;
+    first_fault_counted(alloc, state, &counts, ask)
 }

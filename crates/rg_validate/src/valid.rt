@@ -1,15 +1,15 @@
 // Whether a state is valid, as the rules ask.
-ghost use Rattle.std.specs.Prelude.{◌≡◌, IfOk, is_none, true};
+ghost use Rattle.std.specs.Prelude.{◌≡◌, ◌↔◌, IfOk, IsTrue, true};
 ghost use Rattle.std.specs.List.{list_all, list_any};
 ghost use Rattle.std.specs.Ordering.{int_eq};
 ghost use Rattle.rg_base.specs.Texts.{all_distinct};
 ghost use Rattle.rg_policy.specs.declared.policy.Policy.{Policy};
-ghost use Rattle.rg_roles.specs.Faults.{fault_of};
 ghost use Rattle.rg_tags.specs.declared.row.TagRow.{TagRow};
 ghost use Rattle.rg_cmd.specs.Lookups.{def_of};
 ghost use Rattle.rg_validate.specs.Definitions.{policy_suits, under};
 ghost use Rattle.rg_validate.specs.Users.{time_zones_read};
 ghost use Rattle.rg_validate.specs.Valid.{IsValid, are_distinct, definition_valid, policy_valid, service_valid, tag_row_valid, zone_valid};
+ghost use Rattle.rg_validate.specs.ValidTest.{state_valid};
 ghost use Rattle.rg_validate.specs.Zones.{are_apart, are_apart_for};
 
 use crate::definitions::policy_suits;
@@ -255,10 +255,8 @@ fn are_distinct(alloc: Global, state: &State) -> Result<bool, NoMemory>
     )
 }
 
-/// Whether the state is valid, which `first_fault` asks of it. The work is quadratic in the numbers of policies and of
-/// tag rows.
-pub fn is_valid(alloc: Global, state: &State) -> Result<bool, NoMemory>
-    ensures { IfOk result (λ valid. valid ≡ true → IsValid state.now) }
+fn state_valid(alloc: Global, state: &State) -> Result<bool, NoMemory>
+    ensures { IfOk result (λ valid. valid ≡ state_valid state.now) }
 {
     if !definitions_valid(alloc, state.defs.as_slice())? || !time_zones_read(alloc, state)? {
         return Ok(false);
@@ -275,4 +273,12 @@ pub fn is_valid(alloc: Global, state: &State) -> Result<bool, NoMemory>
     let fault = role_fault(alloc, state.roles.as_slice())?;
     let distinct = are_distinct(alloc, state)?;
     Ok(fault.is_none() && distinct)
+}
+
+/// Whether the state is valid, which `first_fault` asks of it. The work is quadratic in the numbers of policies and of
+/// tag rows.
+pub fn is_valid(alloc: Global, state: &State) -> Result<bool, NoMemory>
+    ensures exact { IfOk result (λ valid. IsTrue valid ↔ IsValid state.now) }
+{
+    state_valid(alloc, state)
 }

@@ -4,7 +4,7 @@ use crate::texts::Draft;
 use rg_admin::Admin;
 use rg_base::PolicyId;
 use rg_cmd::{AdminCommand, AdminReply, Ask};
-use rg_validate::first_fault;
+use rg_validate::first_fault_counted;
 use std::alloc::Global;
 
 /// The policies that are updated are spread by this step. It has no divisor in common with a power of ten.
@@ -110,7 +110,7 @@ impl Works {
 
     /// 1 where the ask breaks no rule, else 0.
     fn is_faultless(&self, alloc: Global, ask: &Ask) -> Option<u32> {
-        match first_fault(alloc, self.admin.state(), self.admin.counts(), ask) {
+        match first_fault_counted(alloc, self.admin.state(), self.admin.counts(), ask) {
             Ok(fault) => Some(u32::from(fault.is_none())),
             Err(_) => None,
         }

@@ -1,6 +1,6 @@
 use Rattle.std.proofs.Common.{rules, ◌≡◌, None}
 use Rattle.rg_validate.specs.Rules.{first_fault}
-use Rattle.rg_admin.proofs.Readying.{form_fits, ready}
+use Rattle.rg_admin_laws.proofs.Readying.{form_fits, ready}
 use Rattle.rg_admin.proofs.admin.fault.Goals as goal
 
 pub authority_fault-requires-clause-ready : goal.authority_fault-requires-clause-ready

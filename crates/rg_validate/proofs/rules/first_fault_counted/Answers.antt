@@ -2,7 +2,7 @@ use Rattle.std.proofs.Common.{rules, ◌≡◌, IfOk, Some, None, subst}
 use Rattle.rg_validate.specs.Failing.{first_failing}
 use Rattle.rg_validate.specs.Rules.{command_rules, limit_rules}
 use Rattle.rg_validate.proofs.Firsts.{by_first, by_more}
-use Rattle.rg_validate.proofs.rules.first_fault.Goals as goal
+use Rattle.rg_validate.proofs.rules.first_fault_counted.Goals as goal
 
 pub returns-in-Some : goal.returns-in-Some
 returns-in-Some c =
