@@ -5,7 +5,7 @@ laws : (c : goal.After-unchanged_from_present_versions) → Laws
 laws c = record {
   leads = c.downloads_lead.ensures;
   rise = c.versions_never_fall.ensures;
-  unchanged = c.unchanged_from_present_versions.ensures;
+  unchanged = c.unchanged_from_present_versions.ensures.together;
 }
 
 pub returns-clause-on : goal.returns-clause-on

@@ -10,6 +10,6 @@ returns c = told (record {
   rise = c.versions_never_fall.ensures;
   stays = c.plugin_is_always_viewed.ensures.stays;
   viewed = c.plugin_is_always_viewed.ensures.viewed;
-  unchanged = c.unchanged_from_present_versions.ensures;
+  unchanged = c.unchanged_from_present_versions.ensures.together;
   soundly = c.views_are_sound.ensures;
 })
