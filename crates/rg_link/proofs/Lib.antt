@@ -1,5 +1,4 @@
 pub mod Actors
-pub mod Alike
 pub mod Ends
 pub mod Faults
 pub mod Held

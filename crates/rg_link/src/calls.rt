@@ -1,11 +1,9 @@
 // A call of the administration, answered.
-ghost use Rattle.std.specs.Prelude.{◌≡◌, ◌⊎◌, [], true, Bool, IfOk, OnOk, OnErr, MatchResult, List, ℕ};
+ghost use Rattle.std.specs.Prelude.{◌≡◌, ◌⊎◌, [], IfOk, OnOk, OnErr, MatchResult, List, ℕ};
 ghost use mathlib.Core.List.{IsPrefix};
 ghost use Rattle.http.specs.StatusCode.{IsStatusCode};
 ghost use Rattle.rg_http.specs.declared.message.Response.{Response};
 ghost use Rattle.rg_http.specs.Print.{response_text};
-ghost use Rattle.rg_cmd.specs.declared.ask.AdminReply.{AdminReply};
-ghost use Rattle.rg_rest.specs.Responses.{is_command, response_of};
 ghost use Rattle.rg_turn.specs.Values.{IsCalled};
 ghost use Rattle.rg_link.specs.Answers.{actor_of, ask_of};
 ghost use Rattle.rg_link.specs.Loop.{IsCall, IsUncalled};
@@ -19,7 +17,7 @@ use rg_base::{NoMemory, Text};
 use rg_cmd::{AdminCommand, AdminReply, Ask, Part};
 use rg_http::{Message, Response};
 use rg_ports::{Gate, Link};
-use rg_rest::{Call, response_of};
+use rg_rest::{AnswerForm, reply_response};
 use rg_session::{Admin, Bell, Recorder};
 use rg_turn::Seat;
 use std::alloc::Global;
@@ -36,25 +34,6 @@ fn actor_of(alloc: Global, message: &Message) -> Result<Text, NoMemory>
             Ok(text) => Text::copy_of(alloc, text),
             Err(_) => Ok(Text::empty(alloc)),
         },
-    }
-}
-
-/// A command that is answered as this one is. It takes no memory, so that the command itself can be moved into the turn.
-fn answered_alike(alloc: Global, command: &AdminCommand, part: Part) -> Call
-    ensures command { is_command result ≡ true }
-    ensures alike { (reply : AdminReply) (close : Bool) → response_of result reply close ≡ response_of (Call.Admin command.now part) reply close }
-{
-    let nobody = Text::empty(alloc);
-    match command {
-        AdminCommand::DeleteService { .. }
-        | AdminCommand::DeletePolicy { .. }
-        | AdminCommand::DeleteRole { .. }
-        | AdminCommand::DeleteZone { .. }
-        | AdminCommand::DeleteTags { .. }
-        | AdminCommand::DeleteUser { .. } => {
-            Call::Admin(AdminCommand::DeleteUser { name: nobody }, part)
-        }
-        _ => Call::Admin(AdminCommand::ListPolicies { service: nobody }, part),
     }
 }
 
@@ -100,24 +79,8 @@ fn ring_for<R: Wait>(rt: &R, bell: &Bell, for_views: bool, reply: &AdminReply) {
     }
 }
 
-/// The answer to the command with this reply.
-fn respond(
-    alloc: Global,
-    answered: Call,
-    reply: AdminReply,
-    close: bool,
-) -> Result<Response, NoMemory>
-    requires { is_command answered ≡ true }
-    ensures answer { IfOk result (λ r. r ≡ response_of answered reply close) }
-    ensures status { IfOk result (λ r. IsStatusCode r.status) }
-{
-    let response = response_of(alloc, &answered, &reply, close);
-    drop(answered);
-    drop(reply);
-    response
-}
-
 /// Calls the administration, and makes the answer. The bell is rung where something was changed that a plugin may see.
+#[tactic(auto, unfolding(rg_rest::specs::Responses::response_of))]
 fn administer<P: Recorder, G: Gate, R: Wait>(
     setting: &Setting<P, G, R>,
     seat: &mut Seat<Admin<P>>,
@@ -131,25 +94,22 @@ fn administer<P: Recorder, G: Gate, R: Wait>(
     ensures uncalled { OnErr result (IsUncalled seat.old seat.new ⊎ ((r : Response) × IsCall seat.old seat.new message.now command part r)) }
 {
     let alloc = setting.alloc();
-    let answered = answered_alike(alloc, &command, part);
+    let form = AnswerForm::of(&command, part);
     let for_views = is_for_views(&command);
     match call_turn(setting, seat, message, command) {
         Ok(reply) => {
             ring_for(setting.rt, setting.bell, for_views, &reply);
-            match respond(alloc, answered, reply, message.close) {
+            match reply_response(alloc, form, &reply, message.close) {
                 Ok(response) => return Ok(response),
                 Err(refused) => return Err(refused),
             }
         }
-        Err(refused) => {
-            drop(answered);
-            return Err(refused);
-        }
+        Err(refused) => return Err(refused),
     }
 }
 
 /// Calls the administration, and writes the answer.
-pub(crate) fn serve_call<P: Recorder, T: Link, G: Gate, R: Wait>(
+pub(crate) fn answer_call<P: Recorder, T: Link, G: Gate, R: Wait>(
     setting: &Setting<P, G, R>,
     link: &mut T,
     seat: &mut Seat<Admin<P>>,

@@ -50,7 +50,7 @@ fn judge<G: Gate, H: RequestHooks>(
 }
 
 /// Decides the request, writes the answer, and then audits it. The gate's second point stands behind the answer.
-pub fn serve_decision<T: Link, G: Gate, H: RequestHooks>(
+pub fn answer_decision<T: Link, G: Gate, H: RequestHooks>(
     deciding: &Deciding<G>,
     link: &mut T,
     pass: &mut Pass,

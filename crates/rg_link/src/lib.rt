@@ -13,9 +13,9 @@ mod setting;
 mod writing;
 
 pub use coming::{Coming, next_message};
-pub use decisions::serve_decision;
+pub use decisions::answer_decision;
 pub use laws::{answers_are_one, lines_are_held};
-pub use link::serve_link;
+pub use link::{answer_link, serve_link};
 pub use report::{LinkFault, Report};
-pub use setting::Deciding;
+pub use setting::{Deciding, Setting};
 pub use writing::{refuse, send};

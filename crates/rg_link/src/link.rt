@@ -8,7 +8,7 @@ ghost use Rattle.rg_link.specs.Sessions.{Broken, Counts, Served, wire};
 ghost use Rattle.rg_link.specs.Workers.{worker_of};
 
 use crate::coming::{Coming, next_message};
-use crate::message::serve_one;
+use crate::message::answer_message;
 use crate::report::{LinkFault, Report};
 use crate::setting::{Deciding, Setting};
 use rg_hook::RequestHooks;
@@ -26,7 +26,7 @@ const MESSAGE_LIMIT: u32 = 10000;
 
 /// Answers the messages of a link, one after another, up to the link's end, a message that asks to close, a bad place, or the
 /// 10,000th message.
-fn serve_messages<P: Recorder, T: Link, C: Clock, H: RequestHooks, G: Gate, R: Wait>(
+fn answer_messages<P: Recorder, T: Link, C: Clock, H: RequestHooks, G: Gate, R: Wait>(
     setting: &Setting<P, G, R>,
     link: &mut T,
     seat: &mut Seat<Admin<P>>,
@@ -57,7 +57,7 @@ fn serve_messages<P: Recorder, T: Link, C: Clock, H: RequestHooks, G: Gate, R: W
             Ok(Coming::Over(end)) => return Ok(Report { end, messages }),
             Err(fault) => return Err(fault),
         };
-        match serve_one(setting, link, seat, pass, clock, hooks, &message) {
+        match answer_message(setting, link, seat, pass, clock, hooks, &message) {
             Ok(()) => {}
             Err(fault) => return Err(fault),
         }
@@ -81,6 +81,41 @@ fn serve_messages<P: Recorder, T: Link, C: Clock, H: RequestHooks, G: Gate, R: W
 /// read.
 ///
 /// After a fault the link is of no more use. The seat's last entry, or the pass's last decision, may stand unanswered.
+pub fn answer_link<P: Recorder, T: Link, C: Clock, H: RequestHooks, G: Gate, R: Wait>(
+    setting: &Setting<P, G, R>,
+    link: &mut T,
+    seat: &mut Seat<Admin<P>>,
+    pass: &mut Pass,
+    clock: &mut C,
+    hooks: &mut H,
+) -> Result<Report, LinkFault>
+    requires { seat.old.turn ≡ setting.now.turn.now.turn }
+    ensures served { IfOk result (λ report. Served (chars setting.now.deciding.plugin.now)
+        (worker_of seat.old pass.old (C.given clock.old) (H.sinks hooks.old) (H.enrichers hooks.old))
+        (worker_of seat.new pass.new (C.given clock.new) (H.sinks hooks.new) (H.enrichers hooks.new))
+        (wire (T.left link.old) (T.held link.old) (T.ended link.old)) (wire (T.left link.new) (T.held link.new) (T.ended link.new)) report.end report.messages) }
+    ensures broken { OnErr result (Broken (chars setting.now.deciding.plugin.now)
+        (worker_of seat.old pass.old (C.given clock.old) (H.sinks hooks.old) (H.enrichers hooks.old))
+        (worker_of seat.new pass.new (C.given clock.new) (H.sinks hooks.new) (H.enrichers hooks.new))
+        (wire (T.left link.old) (T.held link.old) (T.ended link.old)) (wire (T.left link.new) (T.held link.new) (T.ended link.new))) }
+    ensures same { (seat.new.turn ≡ seat.old.turn) × (pass.new.book ≡ pass.old.book) }
+    ensures begins { IsPrefix seat.old.history seat.new.history × IsPrefix pass.old.list pass.new.list }
+    ensures legal { IsLegal step setting.now.turn.now.start seat.new.history }
+    ensures faults { MatchResult result (λ _. T.faults link.new ≡ T.faults link.old) (λ f. Counts f (T.faults link.old) (T.faults link.new)) }
+{
+    match answer_messages(setting, link, seat, pass, clock, hooks) {
+        Ok(report) => {
+            setting.turn.knows(seat);
+            return Ok(report);
+        }
+        Err(fault) => {
+            setting.turn.knows(seat);
+            return Err(fault);
+        }
+    }
+}
+
+/// Answers the messages of a link by [`answer_link`], with routes of its own.
 pub fn serve_link<P: Recorder, T: Link, C: Clock, H: RequestHooks, G: Gate, R: Wait>(
     rt: &R,
     alloc: Global,
@@ -126,14 +161,8 @@ pub fn serve_link<P: Recorder, T: Link, C: Clock, H: RequestHooks, G: Gate, R: W
             worker,
         },
     };
-    match serve_messages(&setting, link, seat, pass, clock, hooks) {
-        Ok(report) => {
-            turn.knows(seat);
-            return Ok(report);
-        }
-        Err(fault) => {
-            turn.knows(seat);
-            return Err(fault);
-        }
+    match answer_link(&setting, link, seat, pass, clock, hooks) {
+        Ok(report) => return Ok(report),
+        Err(fault) => return Err(fault),
     }
 }

@@ -5,8 +5,8 @@ ghost use Rattle.rg_link.specs.Loop.{IsServed, Unserved};
 ghost use Rattle.rg_link.specs.Sessions.{Counts};
 ghost use Rattle.rg_link.specs.Workers.{worker_of};
 
-use crate::calls::serve_call;
-use crate::decisions::serve_decision;
+use crate::calls::answer_call;
+use crate::decisions::answer_decision;
 use crate::report::LinkFault;
 use crate::setting::Setting;
 use crate::writing::send;
@@ -20,7 +20,7 @@ use rg_turn::Seat;
 use std::sync::Wait;
 
 /// Reads what the message asks at a moment of the clock, and answers it.
-pub(crate) fn serve_one<P: Recorder, T: Link, C: Clock, H: RequestHooks, G: Gate, R: Wait>(
+pub(crate) fn answer_message<P: Recorder, T: Link, C: Clock, H: RequestHooks, G: Gate, R: Wait>(
     setting: &Setting<P, G, R>,
     link: &mut T,
     seat: &mut Seat<Admin<P>>,
@@ -48,13 +48,13 @@ pub(crate) fn serve_one<P: Recorder, T: Link, C: Clock, H: RequestHooks, G: Gate
         .read_call(deciding.alloc, message, deciding.plugin, now)
     {
         Ok(Call::Admin(command, part)) => {
-            match serve_call(setting, link, seat, message, command, part) {
+            match answer_call(setting, link, seat, message, command, part) {
                 Ok(()) => return Ok(()),
                 Err(fault) => return Err(fault),
             }
         }
         Ok(Call::Decide(mut request)) => {
-            match serve_decision(deciding, link, pass, hooks, &mut request, message.close) {
+            match answer_decision(deciding, link, pass, hooks, &mut request, message.close) {
                 Ok(()) => return Ok(()),
                 Err(fault) => return Err(fault),
             }

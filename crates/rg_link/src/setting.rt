@@ -16,18 +16,19 @@ pub struct Deciding<'g, 'p, G> {
     pub worker: u32,
 }
 
-/// What a worker serves links in.
+/// What a worker answers links in.
 #[derive(Drop)]
-pub(crate) struct Setting<'r, 't, 'b, 'o, 'g, 'p, P: Recorder, G, R> {
-    pub rt: &'r R,
-    pub turn: &'t Turn<Admin<P>>,
-    pub bell: &'b Bell,
-    pub router: &'o Router,
-    pub deciding: Deciding<'g, 'p, G>,
+pub struct Setting<'s, P: Recorder, G, R> {
+    pub rt: &'s R,
+    pub turn: &'s Turn<Admin<P>>,
+    /// Rung after each change that a plugin may see.
+    pub bell: &'s Bell,
+    pub router: &'s Router,
+    pub deciding: Deciding<'s, 's, G>,
 }
 
-impl<'r, 't, 'b, 'o, 'g, 'p, P: Recorder, G: Gate, R> Setting<'r, 't, 'b, 'o, 'g, 'p, P, G, R> {
-    pub fn alloc(&self) -> Global {
+impl<'s, P: Recorder, G: Gate, R> Setting<'s, P, G, R> {
+    pub(crate) fn alloc(&self) -> Global {
         self.deciding.alloc
     }
 }

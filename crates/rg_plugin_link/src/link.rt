@@ -6,7 +6,7 @@ ghost use Rattle.rg_link.specs.Sessions.{Counts, wire};
 ghost use Rattle.rg_plugin_link.specs.Exchanges.{decider_of};
 ghost use Rattle.rg_plugin_link.specs.Sessions.{Broken, Served};
 
-use crate::message::serve_one;
+use crate::message::answer_message;
 use crate::standing::Standing;
 use rg_hook::RequestHooks;
 use rg_http::{End, Framer, judged_stays_judged};
@@ -65,7 +65,7 @@ impl<'g, 's, 'p, G: Gate, S: Standing> Desk<'g, 's, 'p, G, S> {
                 Ok(Coming::Over(end)) => return Ok(Report { end, messages }),
                 Err(fault) => return Err(fault),
             };
-            match serve_one(self, &router, link, pass, clock, hooks, &message) {
+            match answer_message(self, &router, link, pass, clock, hooks, &message) {
                 Ok(()) => {}
                 Err(fault) => return Err(fault),
             }

@@ -10,13 +10,13 @@ use crate::link::Desk;
 use crate::standing::Standing;
 use rg_hook::RequestHooks;
 use rg_http::Message;
-use rg_link::{LinkFault, send, serve_decision};
+use rg_link::{LinkFault, answer_decision, send};
 use rg_ports::{Clock, Gate, Link};
 use rg_publish::Pass;
 use rg_rest::Router;
 
 /// Reads what the message asks at a moment of the clock, and answers it.
-pub(crate) fn serve_one<T: Link, C: Clock, H: RequestHooks, G: Gate, S: Standing>(
+pub(crate) fn answer_message<T: Link, C: Clock, H: RequestHooks, G: Gate, S: Standing>(
     desk: &Desk<G, S>,
     router: &Router,
     link: &mut T,
@@ -43,7 +43,7 @@ pub(crate) fn serve_one<T: Link, C: Clock, H: RequestHooks, G: Gate, S: Standing
             Err(fault) => return Err(fault),
         },
         Ok(Asked::Decision(mut request)) => {
-            match serve_decision(
+            match answer_decision(
                 &desk.deciding,
                 link,
                 pass,

@@ -11,7 +11,7 @@ ghost use Rattle.rg_publish.specs.Publications.{published};
 use crate::shown::{Beginnings, Known, Sees, Shown};
 use left_right::reader::Reader;
 use rg_base::{Ledger, NoMemory, Serial, Steps};
-use rg_engine::numbered;
+use rg_engine::{Engine, numbered};
 use rg_facts::{Answer, Decision};
 use rg_policy::AccessRequest;
 use std::alloc::Global;
@@ -92,6 +92,13 @@ impl Pass {
         if self.kept.is_before(&shown) {
             let _old = mem::replace(&mut self.kept, shown);
         }
+    }
+
+    /// The engine of the publication that it decides by.
+    pub fn engine(&self) -> &Engine
+        ensures { Ends self.now.list (λ p. result.now ≡ p.facts) }
+    {
+        &*self.kept.engine
     }
 
     /// The number of the publication that it decides by.

@@ -347,14 +347,14 @@ fn copies<R: Wait>(
     Some(settle(rt, writer))
 }
 
-/// The first publication, of serial 1 and seq 0, with its publisher and 1 to 64 passes. Where memory is refused all is let go.
+/// The first publication, of serial 1 and seq 0, with its publisher and 1 to 65 passes. Where memory is refused all is let go.
 pub fn begin<R: Wait + Drop>(
     rt: R,
     alloc: Global,
     engine: Engine,
     passes: u32,
 ) -> Result<(Publisher<R>, Vec<Pass>), NoMemory>
-    requires { (1 ≤ passes) × (passes ≤ 64) }
+    requires { (1 ≤ passes) × (passes ≤ 65) }
     ensures publisher { IfOk result (λ t. t.0.list ≡ publication 1 0 engine ∷ []) }
     ensures passes { IfOk result (λ t. t.1.items ≡ replicate passes (new_pass t.0)) }
 {

@@ -28,6 +28,7 @@ use Rattle.rg_cmd.specs.declared.rule.Rule.TheVariants as rule
 use Rattle.rg_json.specs.declared.fault.Fault.{Fault}
 use Rattle.rg_rest.specs.declared.call.Call.{Call}
 use Rattle.rg_rest.specs.declared.call.Call.TheVariants.{Decide}
+use Rattle.rg_rest.specs.declared.response.AnswerForm.{AnswerForm}
 use Rattle.rg_rest.specs.declared.route.Route.{Route}
 use Rattle.rg_rest.specs.declared.route.Route.TheVariants as the
 use Rattle.rg_json.specs.Reading.{reading}
@@ -41,7 +42,7 @@ use Rattle.rg_rest.specs.Routes.{asked, call_of, has_user, path_of, query_of, ta
 
 -- ---- of a reply
 
-refusal_known : (r : Rule) → IsStatusCode (refusal_status r)
+pub refusal_known : (r : Rule) → IsStatusCode (refusal_status r)
 unfolding refusal_status
 refusal_known rule.L1 = omega arith
 refusal_known rule.E1 = omega arith
@@ -81,16 +82,16 @@ part_known Policies d close = policies_known d.policies close
 part_known Tags d close = tags_known d.tags close
 part_known Roles d close = roles_known d.roles close
 
-reply_known : (c : AdminCommand) (part : Part) (reply : AdminReply) (close : Bool) → IsStatusCode (reply_answer c part reply close).status
-reply_known c part Done close = done_known (deletes c) close
-reply_known c part (Kept id version) close = omega arith
-reply_known c part (Found policy) close = omega arith
-reply_known c part (Listed ps) close = omega arith
-reply_known c part (Downloaded d) close = part_known part d close
-reply_known c part (Refused r) close = refusal_known r
+reply_known : (form : AnswerForm) (reply : AdminReply) (close : Bool) → IsStatusCode (reply_answer form reply close).status
+reply_known form Done close = done_known form.deletes close
+reply_known form (Kept id version) close = omega arith
+reply_known form (Found policy) close = omega arith
+reply_known form (Listed ps) close = omega arith
+reply_known form (Downloaded d) close = part_known form.part d close
+reply_known form (Refused r) close = refusal_known r
 
-pub reply_status : (c : AdminCommand) (part : Part) (reply : AdminReply) (close : Bool) (r : Response) → r ≡ reply_answer c part reply close → IsStatusCode r.status
-reply_status c part reply close r e = subst (λ (x : Response). IsStatusCode x.status) (sym e) (reply_known c part reply close)
+pub reply_status : (form : AnswerForm) (reply : AdminReply) (close : Bool) (r : Response) → r ≡ reply_answer form reply close → IsStatusCode r.status
+reply_status form reply close r e = subst (λ (x : Response). IsStatusCode x.status) (sym e) (reply_known form reply close)
 
 -- ---- of what answers itself
 
@@ -152,4 +153,4 @@ call_known plugin m now = named_known (is_known plugin (path_of m)) _ _ (taken_k
 pub call_status : (plugin : List ℕ) (m : Message) (now : Moment) (c : Call) → c ≡ call_of plugin m now → HasStatus c
 call_status plugin m now c e = subst HasStatus (sym e) (call_known plugin m now)
 
-pub ruleset statuses = (reply_status, call_status)
+pub ruleset statuses = (reply_status, refusal_known, call_status)

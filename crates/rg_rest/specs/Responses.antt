@@ -23,6 +23,7 @@ use Rattle.rg_cmd_wire.specs.PrintedParts.{policy_part_text, role_part_text, tag
 use Rattle.rg_cmd_wire.specs.PrintedReplies.{kept_text, policies_text, refusal_text}
 use Rattle.rg_rest.specs.declared.call.Call.{Call}
 use Rattle.rg_rest.specs.declared.call.Call.TheVariants.{Admin, Decide, Answer}
+use Rattle.rg_rest.specs.declared.response.AnswerForm.{AnswerForm}
 use Rattle.rg_rest.specs.Bodies.{answer}
 
 -- ---- the call
@@ -92,18 +93,22 @@ part_answer Policies download close = policies_answer download.policies close
 part_answer Tags download close = tags_answer download.tags close
 part_answer Roles download close = roles_answer download.roles close
 
--- what is answered to a command with the part that its route answers
-abbrev pub reply_answer : AdminCommand → Part → AdminReply → Bool → Response
-reply_answer c part Done close = done (deletes c) close
-reply_answer c part (Kept id version) close = answer 200 (kept_text id version) close
-reply_answer c part (Found policy) close = answer 200 (policy_text policy) close
-reply_answer c part (Listed ps) close = answer 200 (policies_text ps) close
-reply_answer c part (Downloaded download) close = part_answer part download close
-reply_answer c part (Refused rule) close = answer (refusal_status rule) (refusal_text rule) close
+-- what the answer to a command follows from beside its reply: whether it deletes, and the part that its route answers
+abbrev pub answer_form : AdminCommand → Part → AnswerForm
+answer_form c part = record { deletes = deletes c; part = part }
+
+-- what is answered in this form
+abbrev pub reply_answer : AnswerForm → AdminReply → Bool → Response
+reply_answer form Done close = done form.deletes close
+reply_answer form (Kept id version) close = answer 200 (kept_text id version) close
+reply_answer form (Found policy) close = answer 200 (policy_text policy) close
+reply_answer form (Listed ps) close = answer 200 (policies_text ps) close
+reply_answer form (Downloaded download) close = part_answer form.part download close
+reply_answer form (Refused rule) close = answer (refusal_status rule) (refusal_text rule) close
 
 -- what answers itself is answered so, and no reply is made to a decision
 unfoldable pub response_of : Call → AdminReply → Bool → Response
-response_of (Admin c part) reply close = reply_answer c part reply close
+response_of (Admin c part) reply close = reply_answer (answer_form c part) reply close
 response_of (Decide q) reply close = answer 200 [] close
 response_of (Answer r) reply close = r
 

@@ -14,5 +14,5 @@ mod split;
 
 pub use bodies::{answer, no_path};
 pub use call::Call;
-pub use response::{decision_response, response_of};
+pub use response::{AnswerForm, decision_response, reply_response, response_of};
 pub use router::Router;

@@ -4,7 +4,7 @@ ghost use Rattle.std.specs.Str.{encode_utf8_all};
 ghost use Rattle.http.specs.StatusCode.{IsStatusCode};
 ghost use Rattle.rg_cmd_wire.specs.PrintedReplies.{refusal_text};
 ghost use Rattle.rg_rest.specs.Bodies.{answer};
-ghost use Rattle.rg_rest.specs.Responses.{decision_response, deletes, done, is_command, part_answer, policies_answer, refusal_status, reply_answer, response_of, roles_answer, tags_answer};
+ghost use Rattle.rg_rest.specs.Responses.{answer_form, decision_response, deletes, done, is_command, part_answer, policies_answer, refusal_status, reply_answer, response_of, roles_answer, tags_answer};
 
 use crate::bodies::answer;
 use crate::call::Call;
@@ -18,6 +18,27 @@ use rg_facts::Decision;
 use rg_http::Response;
 use rg_wire::{print_decision, print_policy};
 use std::alloc::Global;
+
+/// What the answer to a command follows from beside its reply. It is known before the command is moved into its call.
+#[derive(Clone, Copy, Debug, PartialEq, Eq)]
+pub struct AnswerForm {
+    /// Whether the command deletes something.
+    pub deletes: bool,
+    /// The part of a download that is answered.
+    pub part: Part,
+}
+
+impl AnswerForm {
+    /// That of the command, whose route answers this part.
+    pub fn of(command: &AdminCommand, part: Part) -> AnswerForm
+        ensures { result ≡ answer_form command.now part }
+    {
+        AnswerForm {
+            deletes: deletes(command),
+            part,
+        }
+    }
+}
 
 // Whether the command deletes something.
 #[tactic(auto, unfolding(crate::specs::Responses::deletes))]
@@ -135,18 +156,19 @@ fn refused(alloc: Global, rule: Rule, close: bool) -> Result<Response, NoMemory>
     answer(alloc, refusal_status(rule), text.as_str(), close)
 }
 
-// The answer to a command with this reply.
-fn reply_answer(
+/// The answer of this form to a command with this reply. After it the connection is closed where `close` says so.
+#[tactic(auto, using(crate::proofs::Statuses::statuses))]
+pub fn reply_response(
     alloc: Global,
-    command: &AdminCommand,
-    part: Part,
+    form: AnswerForm,
     reply: &AdminReply,
     close: bool,
 ) -> Result<Response, NoMemory>
-    ensures { IfOk result (λ r. r ≡ reply_answer command.now part reply.now close) }
+    ensures answer { IfOk result (λ r. r ≡ reply_answer form reply.now close) }
+    ensures status { IfOk result (λ r. IsStatusCode r.status) }
 {
     match reply {
-        AdminReply::Done => done(alloc, deletes(command), close),
+        AdminReply::Done => done(alloc, form.deletes, close),
         AdminReply::Kept { id, version } => {
             let text = print_kept(alloc, *id, *version)?;
             told(alloc, &text, close)
@@ -159,7 +181,7 @@ fn reply_answer(
             let text = print_policies(alloc, policies)?;
             told(alloc, &text, close)
         }
-        AdminReply::Downloaded(download) => part_answer(alloc, part, download, close),
+        AdminReply::Downloaded(download) => part_answer(alloc, form.part, download, close),
         AdminReply::Refused(rule) => refused(alloc, *rule, close),
     }
 }
@@ -177,7 +199,9 @@ pub fn response_of(
     ensures status { IfOk result (λ r. IsStatusCode r.status) }
 {
     match call {
-        Call::Admin(command, part) => reply_answer(alloc, command, *part, reply, close),
+        Call::Admin(command, part) => {
+            reply_response(alloc, AnswerForm::of(command, *part), reply, close)
+        }
         Call::Decide(_) | Call::Answer(_) => unreachable!(),
     }
 }

@@ -55,7 +55,7 @@ fn first_refresher<P: Recorder, R: Wait + Drop, L: Ledger>(
     steps: &mut Steps<L>,
 ) -> Result<(Refresher<R>, Vec<Pass>), NoMemory>
     requires start { IsStart admin.now }
-    requires count { (1 ≤ passes) × (passes ≤ 64) }
+    requires count { (1 ≤ passes) × (passes ≤ 65) }
     ensures plugin { IfOk result (λ t. (t.0.service ≡ admin.now.state.plugin) × (t.0.seq ≡ 0)) }
     ensures list { IfOk result (λ t. (f : Facts) × (view admin.now admin.now.state.plugin ≡ Some f) × (t.0.publisher.list ≡ publication 1 0 f ∷ [])) }
     ensures passes { IfOk result (λ t. t.1.items ≡ replicate passes (new_pass t.0.publisher)) }
@@ -81,7 +81,7 @@ fn first_refresher<P: Recorder, R: Wait + Drop, L: Ledger>(
     }
 }
 
-/// Opens a service over an administration that starts, with 1 to 65 seats and 1 to 64 passes. What the plugin sees is the first
+/// Opens a service over an administration that starts, with 1 to 65 seats and 1 to 65 passes. What the plugin sees is the first
 /// publication, of serial 1 and seq 0. Where memory is refused all is let go.
 pub fn open<P: Recorder, R: Wait + Drop, L: Ledger>(
     rt: R,
@@ -93,7 +93,7 @@ pub fn open<P: Recorder, R: Wait + Drop, L: Ledger>(
 ) -> Result<Service<R, P>, NoMemory>
     requires start { IsStart admin }
     requires seats { (1 ≤ seats) × (seats ≤ 65) }
-    requires passes { (1 ≤ passes) × (passes ≤ 64) }
+    requires passes { (1 ≤ passes) × (passes ≤ 65) }
     ensures turn { IfOk result (λ s. (s.turn.start ≡ admin) × (s.turn.seats ≡ seats)) }
     ensures seats { IfOk result (λ s. s.seats.items ≡ replicate seats (new_seat s.turn.turn)) }
     ensures plugin { IfOk result (λ s. (s.refresher.service ≡ admin.state.plugin) × (s.refresher.seq ≡ 0)) }

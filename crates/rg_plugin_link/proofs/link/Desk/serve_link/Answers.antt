@@ -54,29 +54,29 @@ returns-in-Err-clause-same g c = let l = c.loop-messages.invariant.going.leads i
 pub returns-in-Err-clause-faults : goal.returns-in-Err-clause-faults
 returns-in-Err-clause-faults g c = counts_after _ _ _ _ c.loop-messages.invariant.faults c.in-Err.ensures.faults
 
-pub returns-in-Err-serve_one-clause-broken : goal.returns-in-Err-serve_one-clause-broken
-returns-in-Err-serve_one-clause-broken g c =
+pub returns-in-Err-answer_message-clause-broken : goal.returns-in-Err-answer_message-clause-broken
+returns-in-Err-answer_message-clause-broken g c =
     let x = rw c.in-Ok-Message.field-0-is at c.in-Ok-Message.ensures.comes in
-    let r = subst (IsRead (g.T.Link.left c.loop-messages.link) x.0) (sym c.serve_one.ensures.unread.0) x.1 in
+    let r = subst (IsRead (g.T.Link.left c.loop-messages.link) x.0) (sym c.answer_message.ensures.unread.0) x.1 in
     let l = c.loop-messages in
-    let n = c.serve_one.new in
+    let n = c.answer_message.new in
     let a = decider_of l.pass (g.C.Clock.given l.clock) (g.H.RequestHooks.sinks l.hooks) (g.H.RequestHooks.enrichers l.hooks) in
     let b = decider_of n.pass (g.C.Clock.given n.clock) (g.H.RequestHooks.sinks n.hooks) (g.H.RequestHooks.enrichers n.hooks) in
-    let u = subst (λ k. Unserved (chars c.args.self.now.deciding.plugin.now) a b k (g.T.Link.held n.link) c.in-Ok-Message.message) x.2.2 c.in-Err-serve_one.ensures.unserved in
+    let u = subst (λ k. Unserved (chars c.args.self.now.deciding.plugin.now) a b k (g.T.Link.held n.link) c.in-Ok-Message.message) x.2.2 c.in-Err-answer_message.ensures.unserved in
     broken_unserved _ _ _ _ _ _ _ l.invariant.going c.judged_stays_judged.ensures.message b _ x.0 _ c.in-Ok-Message.message r x.2.0 u
 
-pub returns-in-Err-serve_one-clause-same : goal.returns-in-Err-serve_one-clause-same
-returns-in-Err-serve_one-clause-same g c = let l = (returns-in-Err-serve_one-clause-broken g c).leads in (l.publisher, l.list)
+pub returns-in-Err-answer_message-clause-same : goal.returns-in-Err-answer_message-clause-same
+returns-in-Err-answer_message-clause-same g c = let l = (returns-in-Err-answer_message-clause-broken g c).leads in (l.publisher, l.list)
 
 pub returns-then-message-clause-served : goal.returns-then-message-clause-served
 returns-then-message-clause-served g c =
     let x = rw c.in-Ok-Message.field-0-is at c.in-Ok-Message.ensures.comes in
-    let r = subst (IsRead (g.T.Link.left c.loop-messages.link) x.0) (sym c.serve_one.ensures.unread.0) x.1 in
+    let r = subst (IsRead (g.T.Link.left c.loop-messages.link) x.0) (sym c.answer_message.ensures.unread.0) x.1 in
     let l = c.loop-messages in
-    let n = c.serve_one.new in
+    let n = c.answer_message.new in
     let a = decider_of l.pass (g.C.Clock.given l.clock) (g.H.RequestHooks.sinks l.hooks) (g.H.RequestHooks.enrichers l.hooks) in
     let b = decider_of n.pass (g.C.Clock.given n.clock) (g.H.RequestHooks.sinks n.hooks) (g.H.RequestHooks.enrichers n.hooks) in
-    let s = subst (λ k. IsServed (chars c.args.self.now.deciding.plugin.now) a b k (g.T.Link.held n.link) c.in-Ok-Message.message) x.2.2 c.in-Ok-serve_one.ensures.served in
+    let s = subst (λ k. IsServed (chars c.args.self.now.deciding.plugin.now) a b k (g.T.Link.held n.link) c.in-Ok-Message.message) x.2.2 c.in-Ok-answer_message.ensures.served in
     served_close _ _ _ _ _ _ _ l.invariant.going c.judged_stays_judged.ensures.message b _ x.0 _ c.in-Ok-Message.message r x.2.0 s c.if-message.true c.loop-messages-test.true
 
 pub returns-then-message-clause-same : goal.returns-then-message-clause-same
@@ -85,15 +85,15 @@ returns-then-message-clause-same g c = let l = (returns-then-message-clause-serv
 pub loop-messages-preserved : goal.loop-messages-preserved
 loop-messages-preserved g c =
     let x = rw c.in-Ok-Message.field-0-is at c.in-Ok-Message.ensures.comes in
-    let r = subst (IsRead (g.T.Link.left c.loop-messages.link) x.0) (sym c.serve_one.ensures.unread.0) x.1 in
+    let r = subst (IsRead (g.T.Link.left c.loop-messages.link) x.0) (sym c.answer_message.ensures.unread.0) x.1 in
     let l = c.loop-messages in
-    let n = c.serve_one.new in
+    let n = c.answer_message.new in
     let a = decider_of l.pass (g.C.Clock.given l.clock) (g.H.RequestHooks.sinks l.hooks) (g.H.RequestHooks.enrichers l.hooks) in
     let b = decider_of n.pass (g.C.Clock.given n.clock) (g.H.RequestHooks.sinks n.hooks) (g.H.RequestHooks.enrichers n.hooks) in
-    let s = subst (λ k. IsServed (chars c.args.self.now.deciding.plugin.now) a b k (g.T.Link.held n.link) c.in-Ok-Message.message) x.2.2 c.in-Ok-serve_one.ensures.served in
+    let s = subst (λ k. IsServed (chars c.args.self.now.deciding.plugin.now) a b k (g.T.Link.held n.link) c.in-Ok-Message.message) x.2.2 c.in-Ok-answer_message.ensures.served in
     record {
       live = x.2.1;
-      faults = c.in-Ok-serve_one.ensures.faults ∙ c.in-Ok-Message.ensures.faults ∙ l.invariant.faults;
+      faults = c.in-Ok-answer_message.ensures.faults ∙ c.in-Ok-Message.ensures.faults ∙ l.invariant.faults;
       within = omega (arith, c.loop-messages-test.true);
       going = going_more _ _ _ _ _ _ _ l.invariant.going c.judged_stays_judged.ensures.message b _ x.0 _ c.in-Ok-Message.message r x.2.0 s c.if-message.false;
     }

@@ -8,7 +8,7 @@ use Rattle.rg_link.specs.Loop.{IsJudged, decided}
 use Rattle.rg_http.specs.Answers.{Wrote}
 use Rattle.rg_http.proofs.Written.{wrote_none}
 use Rattle.rg_link.proofs.Steps.{begins_refl}
-use Rattle.rg_link.proofs.decisions.serve_decision.Goals as goal
+use Rattle.rg_link.proofs.decisions.answer_decision.Goals as goal
 
 pub returns-in-Err-decision_response-clause-unserved : goal.returns-in-Err-decision_response-clause-unserved
 returns-in-Err-decision_response-clause-unserved g c = (

@@ -1,6 +1,6 @@
 use Rattle.std.proofs.Common.{inr}
 use Rattle.rg_link.proofs.Steps.{call_unserved}
-use Rattle.rg_link.proofs.calls.serve_call.Goals as goal
+use Rattle.rg_link.proofs.calls.answer_call.Goals as goal
 
 pub returns-in-Err-clause-unserved : goal.returns-in-Err-clause-unserved
 returns-in-Err-clause-unserved g c = call_unserved _ _ _ _ _ _ c.in-Err.ensures.uncalled

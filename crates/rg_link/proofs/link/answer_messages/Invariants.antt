@@ -3,7 +3,7 @@ use Rattle.std.specs.Str.{chars}
 use Rattle.rg_link.specs.Loop.{Going}
 use Rattle.rg_link.specs.Sessions.{message_limit, wire}
 use Rattle.rg_link.specs.Workers.{worker_of}
-use Rattle.rg_link.proofs.link.serve_messages.Given as goal
+use Rattle.rg_link.proofs.link.answer_messages.Given as goal
 
 abbrev pub invariant-loop-messages : goal.invariant-loop-messages
 invariant-loop-messages g l = record {
