@@ -87,19 +87,14 @@ impl<R: Wait + Drop, P: Recorder> Opened<R, P> {
         ensures workers { IfOk result (λ o. o.workers ≡ workers) }
     {
         downloaded_lists_stay();
+        // A seat more for the refresher, and a pass more for one who watches.
+        let more = workers + 1;
         let Service {
             turn,
             mut seats,
             refresher,
             mut passes,
-        } = open(
-            rt,
-            alloc,
-            admin,
-            workers + 1,
-            workers + 1,
-            &mut Steps::silent(),
-        )?;
+        } = open(rt, alloc, admin, more, more, &mut Steps::silent())?;
         let Some(seat) = seats.pop() else {
             return Err(NoMemory);
         };
