@@ -29,7 +29,7 @@ abbrev pub begun : Published → Published
 begun publisher = record { book = publisher.book; list = take 1 publisher.list }
 
 -- the seat beside those of the workers is the turn's, what is published is right for its history and was made of downloads there, and the
--- workers' seats and passes are as they were at the opening, and so is that of one who watches, where it is still there
+-- workers' seats and passes are as they were at the opening, and so is the pass of one who watches, while it is here
 pub record IsHeld (turn : TurnValue Administration) (seat : Seated) (service : List ℕ) (publisher : Published) (seats : List Seated) (passes : List Seeing) (watching : Option Seeing) : Type 0 where
   pub seated : seat.turn ≡ turn.turn
   pub others : All (λ (s : Seated). s ≡ new_seat turn.turn) seats

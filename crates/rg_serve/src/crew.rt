@@ -63,7 +63,9 @@ fn accept_all<
     given: &mut Given<J>,
 ) -> Result<u64, Failed>
     requires none { given.old.book.total ≡ 0 }
-    ensures { HasAccepted given.old.most (heard (N.given net.old) (N.ended net.old) (N.faults net.old)) (heard (N.given net.new) (N.ended net.new) (N.faults net.new)) given.new.book.total result }
+    ensures { HasAccepted given.old.most
+        (heard (N.given net.old) (N.ended net.old) (N.faults net.old))
+        (heard (N.given net.new) (N.ended net.new) (N.faults net.new)) given.new.book.total result }
 {
     let most = given.most;
     for accepted in 0..most {
@@ -95,7 +97,9 @@ fn with_workers<
     given: Given<J>,
 ) -> (Result<u64, Failed>, Given<J>)
     requires none { given.book.total ≡ 0 }
-    ensures { HasAccepted given.most (heard (N.given net.old) (N.ended net.old) (N.faults net.old)) (heard (N.given net.new) (N.ended net.new) (N.faults net.new)) result.1.book.total result.0 }
+    ensures { HasAccepted given.most
+        (heard (N.given net.old) (N.ended net.old) (N.faults net.old))
+        (heard (N.given net.new) (N.ended net.new) (N.faults net.new)) result.1.book.total result.0 }
 {
     let (net, accepted, given) = thread::scope(
         thread::scope_env(),
@@ -103,7 +107,9 @@ fn with_workers<
         move |scope| -> (&mut N, Result<u64, Failed>, Given<J>)
             requires { given.book.total ≡ 0 }
             ensures name { result.0.ghost_name ≡ net.entry.ghost_name }
-            ensures accepted { HasAccepted given.most (heard (N.given net.entry.now) (N.ended net.entry.now) (N.faults net.entry.now)) (heard (N.given result.0.now) (N.ended result.0.now) (N.faults result.0.now)) result.2.book.total result.1 }
+            ensures accepted { HasAccepted given.most
+                (heard (N.given net.entry.now) (N.ended net.entry.now) (N.faults net.entry.now))
+                (heard (N.given result.0.now) (N.ended result.0.now) (N.faults result.0.now)) result.2.book.total result.1 }
         {
             let mut given = given;
             let mut any_started = false;
@@ -146,7 +152,9 @@ pub(crate) fn with_watcher<
 ) -> (Result<u64, Failed>, Given<J>)
     requires none { given.book.total ≡ 0 }
     requires watcher { V.can_watch watcher.now }
-    ensures { HasAccepted given.most (heard (N.given net.old) (N.ended net.old) (N.faults net.old)) (heard (N.given net.new) (N.ended net.new) (N.faults net.new)) result.1.book.total result.0 }
+    ensures { HasAccepted given.most
+        (heard (N.given net.old) (N.ended net.old) (N.faults net.old))
+        (heard (N.given net.new) (N.ended net.new) (N.faults net.new)) result.1.book.total result.0 }
 {
     let (net, accepted, given) = thread::scope(
         thread::scope_env(),
@@ -154,7 +162,9 @@ pub(crate) fn with_watcher<
         move |scope| -> (&mut N, Result<u64, Failed>, Given<J>)
             requires { (given.book.total ≡ 0) × V.can_watch watcher.now }
             ensures name { result.0.ghost_name ≡ net.entry.ghost_name }
-            ensures accepted { HasAccepted given.most (heard (N.given net.entry.now) (N.ended net.entry.now) (N.faults net.entry.now)) (heard (N.given result.0.now) (N.ended result.0.now) (N.faults result.0.now)) result.2.book.total result.1 }
+            ensures accepted { HasAccepted given.most
+                (heard (N.given net.entry.now) (N.ended net.entry.now) (N.faults net.entry.now))
+                (heard (N.given result.0.now) (N.ended result.0.now) (N.faults result.0.now)) result.2.book.total result.1 }
         {
             let _started = scope.spawn(
                 move ||

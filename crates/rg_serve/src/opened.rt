@@ -123,7 +123,8 @@ impl<R: Wait + Drop, P: Recorder> Opened<R, P> {
         Opened { begun }
     }
 
-    /// A pass for one who only watches, given once. It has seen the first publication.
+    /// A pass for one who only watches what is published, the first time that it is asked for; none later. It has seen the first
+    /// publication alone.
     pub fn watch(self) -> (Opened<R, P>, Option<Pass>)
         ensures same { result.0 ≡ self }
         ensures pass { IfSome result.1 (λ p. p.list ≡ take 1 self.published) }

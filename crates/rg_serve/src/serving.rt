@@ -93,7 +93,9 @@ fn attend<
     given: Given<J>,
 ) -> (Result<u64, Failed>, Counted<J>)
     requires none { given.book.total ≡ 0 }
-    ensures { HasAccepted given.most (heard (N.given net.old) (N.ended net.old) (N.faults net.old)) (heard (N.given net.new) (N.ended net.new) (N.faults net.new)) result.1.book.total result.0 }
+    ensures { HasAccepted given.most
+        (heard (N.given net.old) (N.ended net.old) (N.faults net.old))
+        (heard (N.given net.new) (N.ended net.new) (N.faults net.new)) result.1.book.total result.0 }
 {
     let crew = Crew {
         sessions,
