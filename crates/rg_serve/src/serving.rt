@@ -165,14 +165,20 @@ fn run_named<
         watching: _,
         halt,
     } = service;
+    let Outside {
+        address,
+        clock,
+        gate,
+        most,
+    } = outside;
     let (book, mut mine) = blank.open::<J>();
     let waiting = mine.split_off(1, 0);
     let queue = Queue::new(alloc, waiting)?;
     let plugin = refresher.service.try_copy(alloc)?;
     let workers = workers_of::<J, P, H>(alloc, seats, passes, hooks, &mut mine)?;
     let router = Router::new(alloc)?;
-    let clock = Mutex::new(outside.clock);
-    net.listen(outside.address.as_str())?;
+    let clock = Mutex::new(clock);
+    net.listen(address.as_str())?;
     let following = Mutex::new(Following::new(refresher, seat));
     let common: Common<J, P> = Common {
         alloc,
@@ -186,13 +192,9 @@ fn run_named<
     let sessions = Sessions {
         common: &common,
         clock: &clock,
-        gate: outside.gate,
+        gate,
     };
-    let given = Given {
-        most: outside.most,
-        book,
-        mine,
-    };
+    let given = Given { most, book, mine };
     let (accepted, counted) = attend(rt, &sessions, &following, &workers, queue, net, given);
     let links = accepted?;
     let Workers { places, hooks: _ } = workers;
