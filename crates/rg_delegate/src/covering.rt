@@ -5,10 +5,15 @@ ghost use Rattle.rg_resmatch.specs.Tests.{is_open};
 ghost use Rattle.rg_delegate.specs.Compiled.{LevelForm, form_covered, form_covers, form_map_covered, form_map_covers, form_maps_cover, form_values_cover, is_form_shared_or_open};
 ghost use Rattle.rg_delegate.specs.Covering.{are_among, same_flag, same_resource, some_covers};
 
+use crate::filing::filed_cover;
 use crate::reading::{ReadLevel, ReadMap};
-use rg_base::{Named, Text, find_named, is_among, is_named};
+use rg_base::{NameIndex, Named, Text, find_named, is_among, is_named};
 use rg_pattern::Pattern;
 use rg_policy::PolicyResource;
+use std::alloc::Global;
+
+/// Where one of two lists has at most so many values, each of them is looked at for each of the other's.
+const FEW: usize = 64;
 
 fn some_covers(patterns: &[Pattern], other: &Pattern, fold: bool) -> bool
     ensures { result ≡ some_covers fold patterns.now other.now }
@@ -16,12 +21,26 @@ fn some_covers(patterns: &[Pattern], other: &Pattern, fold: bool) -> bool
     patterns.iter().any(|pattern| pattern.covers(other, fold))
 }
 
-fn values_cover(m: &ReadLevel, n: &ReadLevel) -> bool
+fn all_by_scan(m: &ReadLevel, n: &ReadLevel) -> bool
     ensures { result ≡ form_values_cover m.now n.now }
 {
     n.patterns
         .iter()
         .all(|pattern| some_covers(&m.patterns, pattern, m.fold))
+}
+
+/// Where both have many values, by those of the first that begin as one of the second does; each by each where one has few, or
+/// memory is refused.
+fn values_cover(m: &ReadLevel, n: &ReadLevel) -> bool
+    ensures { result ≡ form_values_cover m.now n.now }
+{
+    if m.patterns.len() <= FEW || n.patterns.len() <= FEW {
+        return all_by_scan(m, n);
+    }
+    match filed_cover(*m.patterns.allocator(), &m.patterns, &n.patterns, m.fold) {
+        Ok(covered) => covered,
+        Err(_) => all_by_scan(m, n),
+    }
 }
 
 fn same_flag(a: bool, b: bool) -> bool
@@ -30,20 +49,40 @@ fn same_flag(a: bool, b: bool) -> bool
     if a { b } else { !b }
 }
 
-fn are_among(texts: &[Text], others: &[Text]) -> bool
+fn are_among_by_scan(texts: &[Text], others: &[Text]) -> bool
     ensures { result ≡ are_among texts.now others.now }
 {
     texts.iter().all(|text| is_among(text.as_str(), others))
 }
 
+/// By an index of the others, and by a scan where there is no memory for it.
+fn are_among_by_index(alloc: Global, texts: &[Text], others: &[Text]) -> bool
+    ensures { result ≡ are_among texts.now others.now }
+{
+    match NameIndex::build(alloc, others) {
+        Ok(index) => texts.iter().all(|text| index.contains(text.as_str())),
+        Err(_) => are_among_by_scan(texts, others),
+    }
+}
+
+fn are_among(alloc: Global, texts: &[Text], others: &[Text]) -> bool
+    ensures { result ≡ are_among texts.now others.now }
+{
+    if texts.len() <= FEW || others.len() <= FEW {
+        are_among_by_scan(texts, others)
+    } else {
+        are_among_by_index(alloc, texts, others)
+    }
+}
+
 /// Whether the two are equal up to the order and repeats of values.
-fn same_resource(m: &PolicyResource, n: &PolicyResource) -> bool
+fn same_resource(alloc: Global, m: &PolicyResource, n: &PolicyResource) -> bool
     ensures { result ≡ same_resource m.now n.now }
 {
     same_flag(m.excludes, n.excludes)
         && (same_flag(m.recursive, n.recursive)
-            && (are_among(m.values.as_slice(), n.values.as_slice())
-                && are_among(n.values.as_slice(), m.values.as_slice())))
+            && (are_among(alloc, m.values.as_slice(), n.values.as_slice())
+                && are_among(alloc, n.values.as_slice(), m.values.as_slice())))
 }
 
 /// Whether the resource isn't excluding and has the written value `*`.
@@ -59,7 +98,7 @@ fn level_covers(m: &ReadLevel, n: &ReadLevel) -> bool
     ensures { result ≡ form_covers m.now n.now }
 {
     if m.written.excludes || n.written.excludes {
-        same_resource(m.written, n.written) || is_open(m.written)
+        same_resource(*m.patterns.allocator(), m.written, n.written) || is_open(m.written)
     } else {
         values_cover(m, n)
     }
