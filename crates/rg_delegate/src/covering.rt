@@ -77,10 +77,11 @@ fn level_covers(alloc: Global, m: &ReadLevel, n: &ReadLevel) -> Result<bool, NoM
 fn level_covered(alloc: Global, m: &[ReadLevel], n: &ReadLevel) -> Result<bool, NoMemory>
     ensures { IfOk result (λ b. b ≡ form_covered m.now n.now) }
 {
-    match find_named(m, n.name()) {
-        Some(level) => level_covers(alloc, level, n),
-        None => Ok(false),
-    }
+    let Some(level) = find_named(m, n.name()) else {
+        return Ok(false);
+    };
+    let covered = level_covers(alloc, level, n)?;
+    Ok(covered)
 }
 
 fn all_covered(alloc: Global, m: &[ReadLevel], n: &[ReadLevel]) -> Result<bool, NoMemory>

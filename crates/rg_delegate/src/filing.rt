@@ -24,12 +24,9 @@ fn with_pattern(
     ensures filed { IfOk result (λ t. Contains t (filed_at fold pattern.now place)) }
 {
     let key = pattern.literal_prefix(alloc, fold)?;
-    trie.insert(
-        alloc,
-        key.as_str(),
-        Filed { id: 0, place },
-        &mut Steps::silent(),
-    )
+    let entry = Filed { id: 0, place };
+    let filed = trie.insert(alloc, key.as_str(), entry, &mut Steps::silent())?;
+    Ok(filed)
 }
 
 /// The patterns, each filed at its place. More than have places of 32 bits are want of memory.
