@@ -14,7 +14,7 @@ use rg_ports::{Clock, Gate, Listener, Sink, Source};
 use rg_record_store::Keeper;
 use rg_recorder::{Configured, ListRecorder, recorder_of};
 use rg_run_script::{Status, follow, name_bad_line, read_script, write_all};
-use rg_serve::{ServeFault, Served, serve};
+use rg_serve::{Outside, ServeFault, Served, serve};
 use rg_session::Totals;
 use rg_threads::HaltCause;
 use std::alloc::Global;
@@ -247,17 +247,13 @@ fn serve_named<
         Ok(opened) => opened,
         Err(cause) => return give_up(status_of(alloc, sink, cause)),
     };
-    match serve(
-        rt,
-        alloc,
-        opened,
-        hooks,
-        net,
+    let outside = Outside {
         address,
         clock,
         gate,
-        u64::MAX,
-    ) {
+        most: u64::MAX,
+    };
+    match serve(rt, alloc, opened, hooks, net, outside) {
         Ok(served) => end(alloc, served, sink),
         Err(fault) => give_up(broken(&signals, fault)),
     }

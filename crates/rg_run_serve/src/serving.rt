@@ -11,7 +11,7 @@ use rg_base::{NoMemory, Text};
 use rg_hook::RequestHooks;
 use rg_ports::{Clock, Gate, Listener, Sink, Source};
 use rg_run_script::{Status, read_script, write_all};
-use rg_serve::{Opened, ServeFault, Served, serve};
+use rg_serve::{Opened, Outside, ServeFault, Served, serve};
 use std::alloc::Global;
 use std::sync::Wait;
 use std::thread::Threads;
@@ -75,17 +75,13 @@ fn take_links<
     ensures served { IfOk result (λ text. TellsTotals links opened (door (N.given net.old) (N.ended net.old) (N.faults net.old)) (door (N.given net.new) (N.ended net.new) (N.faults net.new)) (string_bytes text)) }
     ensures stopped { IfErr result (IsStopped (N.faults net.old) (N.faults net.new)) }
 {
-    match serve(
-        rt,
-        alloc,
-        opened,
-        hooks,
-        net,
+    let outside = Outside {
         address,
         clock,
         gate,
-        links as u64,
-    ) {
+        most: links as u64,
+    };
+    match serve(rt, alloc, opened, hooks, net, outside) {
         Ok(served) => match totals_of(alloc, served) {
             Ok(text) => Ok(text),
             Err(_) => Err(Status::NoMemory),

@@ -1,3 +1,4 @@
+pub mod Accepting
 pub mod Held
 pub mod Names
 pub mod Opened

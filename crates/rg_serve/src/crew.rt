@@ -1,5 +1,6 @@
 // Workers on threads of their own, and the calling thread, which gives them links.
-ghost use Rattle.std.specs.Prelude.{◌≡◌, ◌⊎◌, ◌+◌, ◌≤◌, ◌<◌, true, IfOk, OnOk, OnErr};
+ghost use Rattle.std.specs.Prelude.{◌≡◌};
+ghost use Rattle.rg_serve.specs.Accepting.{HasAccepted, heard};
 
 use crate::given::Given;
 use crate::naming::Naming;
@@ -40,7 +41,7 @@ fn work<J: Naming, P: Recorder, T: Link + Drop, C: Clock, G: Gate, H: RequestHoo
     let mut parts = place.lock(rt);
     let mut hooks = own.lock(rt);
     for _ in rt.forever() {
-        if !parts.serve_next(rt, crew.sessions, &mut *hooks, crew.queue) {
+        if !parts.take_next(rt, crew.sessions, &mut *hooks, crew.queue) {
             break;
         }
     }
@@ -62,11 +63,9 @@ fn accept_all<
     given: &mut Given<J>,
 ) -> Result<u64, Failed>
     requires none { given.old.book.total ≡ 0 }
-    ensures counted { IfOk result (λ n. given.new.book.total ≡ n) }
-    ensures given { IfOk result (λ n. N.given net.new ≡ N.given net.old + n) }
-    ensures all { IfOk result (λ n. (n ≤ given.old.most) × ((n ≡ given.old.most) ⊎ (N.ended net.new ≡ true))) }
-    ensures kept { OnOk result (N.faults net.new ≡ N.faults net.old) }
-    ensures failed { OnErr result (N.faults net.old < N.faults net.new) }
+    ensures { HasAccepted given.old.most
+        (heard (N.given net.old) (N.ended net.old) (N.faults net.old))
+        (heard (N.given net.new) (N.ended net.new) (N.faults net.new)) given.new.book.total result }
 {
     let most = given.most;
     for accepted in 0..most {
@@ -98,11 +97,9 @@ fn with_workers<
     given: Given<J>,
 ) -> (Result<u64, Failed>, Given<J>)
     requires none { given.book.total ≡ 0 }
-    ensures counted { IfOk result.0 (λ n. result.1.book.total ≡ n) }
-    ensures given { IfOk result.0 (λ n. N.given net.new ≡ N.given net.old + n) }
-    ensures all { IfOk result.0 (λ n. (n ≤ given.most) × ((n ≡ given.most) ⊎ (N.ended net.new ≡ true))) }
-    ensures kept { OnOk result.0 (N.faults net.new ≡ N.faults net.old) }
-    ensures failed { OnErr result.0 (N.faults net.old < N.faults net.new) }
+    ensures { HasAccepted given.most
+        (heard (N.given net.old) (N.ended net.old) (N.faults net.old))
+        (heard (N.given net.new) (N.ended net.new) (N.faults net.new)) result.1.book.total result.0 }
 {
     let (net, accepted, given) = thread::scope(
         thread::scope_env(),
@@ -110,11 +107,9 @@ fn with_workers<
         move |scope| -> (&mut N, Result<u64, Failed>, Given<J>)
             requires { given.book.total ≡ 0 }
             ensures name { result.0.ghost_name ≡ net.entry.ghost_name }
-            ensures counted { IfOk result.1 (λ n. result.2.book.total ≡ n) }
-            ensures given { IfOk result.1 (λ n. N.given result.0.now ≡ N.given net.entry.now + n) }
-            ensures all { IfOk result.1 (λ n. (n ≤ given.most) × ((n ≡ given.most) ⊎ (N.ended result.0.now ≡ true))) }
-            ensures kept { OnOk result.1 (N.faults result.0.now ≡ N.faults net.entry.now) }
-            ensures failed { OnErr result.1 (N.faults net.entry.now < N.faults result.0.now) }
+            ensures accepted { HasAccepted given.most
+                (heard (N.given net.entry.now) (N.ended net.entry.now) (N.faults net.entry.now))
+                (heard (N.given result.0.now) (N.ended result.0.now) (N.faults result.0.now)) result.2.book.total result.1 }
         {
             let mut given = given;
             let mut any_started = false;
@@ -136,11 +131,10 @@ fn with_workers<
     (accepted, given)
 }
 
-/// Accepts up to so many links, which the workers serve, each on a thread of its own, while the watcher watches on another.
-/// It says how many links were given. When it returns no
-/// thread is left, and the queue is closed. Where a thread can't be started the others do its work, and where none can the
-/// calling thread does; only the watcher's is then left undone.
-pub(crate) fn serve_links<
+/// Accepts up to so many links, which the workers serve, each on a thread of its own, while the watcher watches on another. It says
+/// how many links were given. When it returns no thread is left, and the queue is closed. Where a thread can't be started the others
+/// do its work, and where none can the calling thread does; only the watcher's is then left undone.
+pub(crate) fn with_watcher<
     J: Naming + Send + Sync,
     P: Recorder + Send,
     N: Listener,
@@ -158,11 +152,9 @@ pub(crate) fn serve_links<
 ) -> (Result<u64, Failed>, Given<J>)
     requires none { given.book.total ≡ 0 }
     requires watcher { V.can_watch watcher.now }
-    ensures counted { IfOk result.0 (λ n. result.1.book.total ≡ n) }
-    ensures given { IfOk result.0 (λ n. N.given net.new ≡ N.given net.old + n) }
-    ensures all { IfOk result.0 (λ n. (n ≤ given.most) × ((n ≡ given.most) ⊎ (N.ended net.new ≡ true))) }
-    ensures kept { OnOk result.0 (N.faults net.new ≡ N.faults net.old) }
-    ensures failed { OnErr result.0 (N.faults net.old < N.faults net.new) }
+    ensures { HasAccepted given.most
+        (heard (N.given net.old) (N.ended net.old) (N.faults net.old))
+        (heard (N.given net.new) (N.ended net.new) (N.faults net.new)) result.1.book.total result.0 }
 {
     let (net, accepted, given) = thread::scope(
         thread::scope_env(),
@@ -170,11 +162,9 @@ pub(crate) fn serve_links<
         move |scope| -> (&mut N, Result<u64, Failed>, Given<J>)
             requires { (given.book.total ≡ 0) × V.can_watch watcher.now }
             ensures name { result.0.ghost_name ≡ net.entry.ghost_name }
-            ensures counted { IfOk result.1 (λ n. result.2.book.total ≡ n) }
-            ensures given { IfOk result.1 (λ n. N.given result.0.now ≡ N.given net.entry.now + n) }
-            ensures all { IfOk result.1 (λ n. (n ≤ given.most) × ((n ≡ given.most) ⊎ (N.ended result.0.now ≡ true))) }
-            ensures kept { OnOk result.1 (N.faults result.0.now ≡ N.faults net.entry.now) }
-            ensures failed { OnErr result.1 (N.faults net.entry.now < N.faults result.0.now) }
+            ensures accepted { HasAccepted given.most
+                (heard (N.given net.entry.now) (N.ended net.entry.now) (N.faults net.entry.now))
+                (heard (N.given result.0.now) (N.ended result.0.now) (N.faults result.0.now)) result.2.book.total result.1 }
         {
             let _started = scope.spawn(
                 move ||
@@ -191,7 +181,7 @@ pub(crate) fn serve_links<
 }
 
 /// Serves the links that are left in the queue.
-pub(crate) fn serve_rest<
+pub(crate) fn finish_queue<
     J: Naming,
     P: Recorder,
     T: Link + Drop,
@@ -204,5 +194,5 @@ pub(crate) fn serve_rest<
 {
     let mut parts = workers.places[0].lock(rt);
     let mut hooks = workers.hooks[0].lock(rt);
-    while parts.serve_left(rt, sessions, &mut *hooks, left) {}
+    while parts.take_left(rt, sessions, &mut *hooks, left) {}
 }

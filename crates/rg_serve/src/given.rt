@@ -54,7 +54,7 @@ impl<J: Naming> Given<J> {
                 let Workers { places, hooks } = crew.workers;
                 let mut parts = places[0].lock(rt);
                 let mut hooks = hooks[0].lock(rt);
-                parts.serve(rt, crew.sessions, &mut *hooks, link, mine);
+                parts.take_handed(rt, crew.sessions, &mut *hooks, link, mine);
             }
         }
     }

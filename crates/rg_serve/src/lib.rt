@@ -15,4 +15,4 @@ mod sessions;
 pub use ending::Served;
 pub use laws::ends_are_runs;
 pub use opened::Opened;
-pub use serving::{ServeFault, serve};
+pub use serving::{Outside, ServeFault, serve};

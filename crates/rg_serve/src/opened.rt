@@ -1,5 +1,5 @@
 // A service before it serves links.
-ghost use Rattle.std.specs.Prelude.{◌≡◌, ◌≤◌, ◌+◌, Some, IfOk, IfSome};
+ghost use Rattle.std.specs.Prelude.{◌≡◌, ◌≤◌, ◌+◌, Some, IfOk, IfSome, take};
 ghost use Rattle.rg_admin.specs.Starting.{start_fault};
 ghost use Rattle.rg_admin_laws.specs.Starts.{IsStart};
 ghost use Rattle.rg_serve.specs.Opened.{IsAsked, IsRefreshed, opened, opened_unless};
@@ -28,6 +28,8 @@ pub(crate) struct Begun<R: Wait + Drop, P: Recorder> {
     /// Those of the workers, as many as passes.
     pub seats: Vec<Seat<Admin<P>>>,
     pub passes: Vec<Pass>,
+    /// That of one who only watches, until it is given away.
+    pub watching: Option<Pass>,
     /// Why links break off, where changes aren't taken any more.
     pub halt: Arc<Halt>,
 }
@@ -47,7 +49,7 @@ impl<R: Wait + Drop, P: Recorder> Model for Opened<R, P> {
 
     ghost view = { λ o. held o.begun.turn o.begun.seat o.begun.refresher.publisher.list o.begun.seats.items };
 
-    ghost invariant = { λ o. let b = o.begun in IsHeld b.turn b.seat b.refresher.service b.refresher.publisher b.seats.items b.passes.items };
+    ghost invariant = { λ o. let b = o.begun in IsHeld b.turn b.seat b.refresher.service b.refresher.publisher b.seats.items b.passes.items b.watching };
 }
 
 impl<R: Wait + Drop> Opened<R> {
@@ -85,13 +87,18 @@ impl<R: Wait + Drop, P: Recorder> Opened<R, P> {
         ensures workers { IfOk result (λ o. o.workers ≡ workers) }
     {
         downloaded_lists_stay();
+        // A seat more for the refresher, and a pass more for one who watches.
+        let more = workers + 1;
         let Service {
             turn,
             mut seats,
             refresher,
-            passes,
-        } = open(rt, alloc, admin, workers + 1, workers, &mut Steps::silent())?;
+            mut passes,
+        } = open(rt, alloc, admin, more, more, &mut Steps::silent())?;
         let Some(seat) = seats.pop() else {
+            return Err(NoMemory);
+        };
+        let Some(watching) = passes.pop() else {
             return Err(NoMemory);
         };
         let halt = Arc::new(alloc, Halt::new())?;
@@ -101,6 +108,7 @@ impl<R: Wait + Drop, P: Recorder> Opened<R, P> {
             refresher,
             seats,
             passes,
+            watching: Some(watching),
             halt,
         };
         Ok(Opened { begun })
@@ -113,6 +121,17 @@ impl<R: Wait + Drop, P: Recorder> Opened<R, P> {
         let Opened { mut begun } = self;
         begun.halt = halt;
         Opened { begun }
+    }
+
+    /// A pass for one who only watches what is published, the first time that it is asked for; none later. It has seen the first
+    /// publication alone.
+    pub fn watch(self) -> (Opened<R, P>, Option<Pass>)
+        ensures same { result.0 ≡ self }
+        ensures pass { IfSome result.1 (λ p. p.list ≡ take 1 self.published) }
+    {
+        let Opened { mut begun } = self;
+        let pass = begun.watching.take();
+        (Opened { begun }, pass)
     }
 
     /// Asks the administration. It waits for its turn.
@@ -146,6 +165,7 @@ impl<R: Wait + Drop, P: Recorder> Opened<R, P> {
             mut refresher,
             seats,
             passes,
+            watching,
             halt,
         } = begun;
         let calls = seat.calls();
@@ -161,6 +181,7 @@ impl<R: Wait + Drop, P: Recorder> Opened<R, P> {
                     refresher,
                     seats,
                     passes,
+                    watching,
                     halt,
                 };
                 return Ok((Opened { begun }, refresh));

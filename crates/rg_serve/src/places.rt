@@ -69,7 +69,7 @@ impl<J: Naming, P: Recorder> Parts<J, P> {
     }
 
     /// Serves a link of the other's amount.
-    pub fn serve<T: Link + Drop, C: Clock, G: Gate, H: RequestHooks, R: Wait + Sync>(
+    pub fn take_handed<T: Link + Drop, C: Clock, G: Gate, H: RequestHooks, R: Wait + Sync>(
         &mut self,
         rt: &R,
         sessions: &Sessions<J, P, C, G>,
@@ -82,13 +82,13 @@ impl<J: Naming, P: Recorder> Parts<J, P> {
         ensures amount { mine.new.amount + 1 ≡ mine.old.amount }
     {
         mine.transfer(&mut self.share, 1);
-        if sessions.serve(rt, &mut self.seat, &mut self.pass, hooks, self.number, link) {
+        if sessions.hold_session(rt, &mut self.seat, &mut self.pass, hooks, self.number, link) {
             self.is_short = true;
         }
     }
 
     /// Serves the next link of the queue. False once the queue is closed and has none.
-    pub fn serve_next<T: Link + Drop, C: Clock, G: Gate, H: RequestHooks, R: Wait + Sync>(
+    pub fn take_next<T: Link + Drop, C: Clock, G: Gate, H: RequestHooks, R: Wait + Sync>(
         &mut self,
         rt: &R,
         sessions: &Sessions<J, P, C, G>,
@@ -98,14 +98,14 @@ impl<J: Naming, P: Recorder> Parts<J, P> {
         let Some(link) = queue.take(rt, &mut self.share) else {
             return false;
         };
-        if sessions.serve(rt, &mut self.seat, &mut self.pass, hooks, self.number, link) {
+        if sessions.hold_session(rt, &mut self.seat, &mut self.pass, hooks, self.number, link) {
             self.is_short = true;
         }
         true
     }
 
     /// Serves one of those that are left. False where there is none.
-    pub fn serve_left<T: Link + Drop, C: Clock, G: Gate, H: RequestHooks, R: Wait + Sync>(
+    pub fn take_left<T: Link + Drop, C: Clock, G: Gate, H: RequestHooks, R: Wait + Sync>(
         &mut self,
         rt: &R,
         sessions: &Sessions<J, P, C, G>,
@@ -117,7 +117,7 @@ impl<J: Naming, P: Recorder> Parts<J, P> {
         let Some(link) = left.pop(&mut self.share) else {
             return false;
         };
-        if sessions.serve(rt, &mut self.seat, &mut self.pass, hooks, self.number, link) {
+        if sessions.hold_session(rt, &mut self.seat, &mut self.pass, hooks, self.number, link) {
             self.is_short = true;
         }
         true

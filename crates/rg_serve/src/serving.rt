@@ -1,14 +1,15 @@
 // Links served by threads.
-ghost use Rattle.std.specs.Prelude.{◌≡◌, ◌⊎◌, ◌≤◌, ◌<◌, ◌+◌, true, Some, length, IfOk, OnOk, OnErr, MatchResult};
+ghost use Rattle.std.specs.Prelude.{◌≡◌, ◌⊎◌, ◌≤◌, ◌+◌, true, Some, length, IfOk, MatchResult};
 ghost use mathlib.Core.List.{IsPrefix};
 ghost use Rattle.rg_admin_laws.specs.Steps.{step};
 ghost use Rattle.rg_turn.specs.History.{IsLegal, state_after};
+ghost use Rattle.rg_serve.specs.Accepting.{HasAccepted, heard};
 ghost use Rattle.rg_serve.specs.Held.{IsHeld, begun};
 ghost use Rattle.rg_session.specs.Right.{AreDownloadedFor, AreRightFor};
 ghost use Rattle.rg_serve.specs.Served.{Counts, HasServed, IsCurrent};
 ghost use Rattle.rg_serve.specs.Trails.{AreServed};
 
-use crate::crew::{Crew, serve_links, serve_rest};
+use crate::crew::{Crew, finish_queue, with_watcher};
 use crate::ending::{Served, end};
 use crate::following::{Follower, Following};
 use crate::given::{Counted, Given};
@@ -20,6 +21,7 @@ use rg_admin::Recorder;
 use rg_base::{Failed, NoMemory, Text, TryCopy};
 use rg_hook::RequestHooks;
 use rg_ports::{Clock, Gate, Listener};
+use rg_rest::Router;
 use rg_session::{Bell, Totals};
 use rg_threads::Queue;
 use std::alloc::Global;
@@ -60,12 +62,15 @@ impl From<Failed> for ServeFault {
 
 /// What lies outside of a service, beside its listener.
 #[derive(Drop)]
-struct Outside<'a, 'k, 'c, 'g, C, G> {
-    address: &'a Text,
-    clock: &'k Mutex<&'c mut C>,
-    gate: &'g G,
-    /// How many links are to be served at most.
-    most: u64,
+pub struct Outside<'a, 'c, 'g, C, G> {
+    /// Where the listener listens.
+    pub address: &'a Text,
+    /// The workers share it: each message takes its moment.
+    pub clock: &'c mut C,
+    /// To which the workers come before and after each decision.
+    pub gate: &'g G,
+    /// How many links are served at most.
+    pub most: u64,
 }
 
 /// The threads: the workers, and what refreshes beside them. Then what is left in the queue is served. Gives how many links were given.
@@ -88,11 +93,9 @@ fn attend<
     given: Given<J>,
 ) -> (Result<u64, Failed>, Counted<J>)
     requires none { given.book.total ≡ 0 }
-    ensures counted { IfOk result.0 (λ n. result.1.book.total ≡ n) }
-    ensures given { IfOk result.0 (λ n. N.given net.new ≡ N.given net.old + n) }
-    ensures all { IfOk result.0 (λ n. (n ≤ given.most) × ((n ≡ given.most) ⊎ (N.ended net.new ≡ true))) }
-    ensures kept { OnOk result.0 (N.faults net.new ≡ N.faults net.old) }
-    ensures failed { OnErr result.0 (N.faults net.old < N.faults net.new) }
+    ensures { HasAccepted given.most
+        (heard (N.given net.old) (N.ended net.old) (N.faults net.old))
+        (heard (N.given net.new) (N.ended net.new) (N.faults net.new)) result.1.book.total result.0 }
 {
     let crew = Crew {
         sessions,
@@ -103,14 +106,14 @@ fn attend<
         common: sessions.common,
         following,
     };
-    let (accepted, given) = serve_links(rt, &crew, &follower, net, given);
+    let (accepted, given) = with_watcher(rt, &crew, &follower, net, given);
     let mut left = queue.into_rest();
-    serve_rest(rt, sessions, &mut left, workers);
+    finish_queue(rt, sessions, &mut left, workers);
     (accepted, given.settle(left))
 }
 
 /// The same from start to end, under names for the turn and the publisher that no type of a parameter has.
-fn serve_named<
+fn run_named<
     J: Naming + Send + Sync,
     P: Recorder + Send,
     N: Listener,
@@ -131,7 +134,7 @@ fn serve_named<
     requires ledger { (blank.name ≡ J.name) × (blank.parts ≡ J.parts) × (J.parts ≡ length service.seats.items + 2) }
     requires names { (service.turn.turn ≡ J.turn) × (J.opening ≡ begun service.refresher.publisher) × (service.refresher.service ≡ J.plugin) }
     requires before { (service.seat ≡ J.before) × (service.refresher.publisher.list ≡ J.published) }
-    requires held { IsHeld service.turn service.seat service.refresher.service service.refresher.publisher service.seats.items service.passes.items }
+    requires held { IsHeld service.turn service.seat service.refresher.service service.refresher.publisher service.seats.items service.passes.items service.watching }
     requires workers { length hooks.items ≡ length service.seats.items }
     ensures given { IfOk result (λ s. N.given net.new ≡ N.given net.old + s.links) }
     ensures all { IfOk result (λ s. (s.links ≤ outside.entry.most) × ((s.links ≡ outside.entry.most) ⊎ (N.ended net.new ≡ true))) }
@@ -159,33 +162,39 @@ fn serve_named<
         refresher,
         seats,
         passes,
+        watching: _,
         halt,
     } = service;
+    let Outside {
+        address,
+        clock,
+        gate,
+        most,
+    } = outside;
     let (book, mut mine) = blank.open::<J>();
     let waiting = mine.split_off(1, 0);
     let queue = Queue::new(alloc, waiting)?;
     let plugin = refresher.service.try_copy(alloc)?;
     let workers = workers_of::<J, P, H>(alloc, seats, passes, hooks, &mut mine)?;
-    net.listen(outside.address.as_str())?;
+    let router = Router::new(alloc)?;
+    let clock = Mutex::new(clock);
+    net.listen(address.as_str())?;
     let following = Mutex::new(Following::new(refresher, seat));
     let common: Common<J, P> = Common {
         alloc,
         turn,
         bell: Bell::new(),
+        router,
         halt,
         plugin,
         of: PhantomData,
     };
     let sessions = Sessions {
         common: &common,
-        clock: outside.clock,
-        gate: outside.gate,
+        clock: &clock,
+        gate,
     };
-    let given = Given {
-        most: outside.most,
-        book,
-        mine,
-    };
+    let given = Given { most, book, mine };
     let (accepted, counted) = attend(rt, &sessions, &following, &workers, queue, net, given);
     let links = accepted?;
     let Workers { places, hooks: _ } = workers;
@@ -195,7 +204,7 @@ fn serve_named<
 
 /// Listens at the address, and serves up to so many links, with a thread for each of the hooks, which are those of a worker.
 /// Beside them another thread keeps the publications up with the history. When the last link is served it refreshes once more,
-/// and closes the service. The memory of the queue and the locks is taken before it listens.
+/// and closes the service. The memory of the queue, the locks and the routes is taken before it listens.
 ///
 /// A fault of a link ends that link alone. Where `accept` fails the links taken before are served too. Want of memory that a
 /// worker or a refresh meets is answered when all are served. The work of a worker whose thread can't be started is done by the
@@ -215,15 +224,12 @@ pub fn serve<
     opened: Opened<Q, P>,
     hooks: Vec<H>,
     net: &mut N,
-    address: &Text,
-    clock: &mut C,
-    gate: &G,
-    most: u64,
+    outside: Outside<C, G>,
 ) -> Result<Served<P>, ServeFault>
     requires { length hooks.items ≡ opened.workers }
     // The links are those that the listener gave, and they are as many as were asked for, or the listener has ended.
     ensures given { IfOk result (λ s. N.given net.new ≡ N.given net.old + s.links) }
-    ensures all { IfOk result (λ s. (s.links ≤ most) × ((s.links ≡ most) ⊎ (N.ended net.new ≡ true))) }
+    ensures all { IfOk result (λ s. (s.links ≤ outside.entry.most) × ((s.links ≡ outside.entry.most) ⊎ (N.ended net.new ≡ true))) }
     // The past is one legal history from the start, which goes on from what was known with one entry at least.
     ensures legal { IfOk result (λ s. (s.totals.past.start ≡ Some opened.start) × IsLegal step opened.start s.totals.past.history) }
     ensures admin { IfOk result (λ s. s.totals.admin ≡ state_after step opened.start s.totals.past.history) }
@@ -247,14 +253,7 @@ pub fn serve<
 {
     let Opened { begun: service } = opened;
     let parts = service.seats.len() as u64 + 2;
-    let clock = Mutex::new(clock);
-    let outside = Outside {
-        address,
-        clock: &clock,
-        gate,
-        most,
-    };
-    match serve_named::<Brand, P, N, C, G, H, Q, R>(
+    match run_named::<Brand, P, N, C, G, H, Q, R>(
         rt,
         alloc,
         Blank::new(parts),

@@ -8,9 +8,10 @@ use rg_admin::{Admin, Recorder};
 use rg_base::Text;
 use rg_hook::RequestHooks;
 use rg_http::{Response, bytes_of};
-use rg_link::{LinkFault, send, serve_link};
+use rg_link::{Deciding, LinkFault, Setting, answer_link, send};
 use rg_ports::{Clock, Gate, Link};
 use rg_publish::Pass;
+use rg_rest::Router;
 use rg_session::Bell;
 use rg_threads::{Halt, HaltCause, SharedClock};
 use rg_turn::{Seat, Turn};
@@ -24,6 +25,7 @@ pub(crate) struct Common<J: Naming, P: Recorder> {
     pub alloc: Global,
     pub turn: Turn<Admin<P>>,
     pub bell: Bell,
+    pub router: Router,
     /// Why a link breaks off, where changes aren't taken any more.
     pub halt: Arc<Halt>,
     /// The plugin's service.
@@ -51,9 +53,9 @@ impl<'a, 'k, 'c, 'g, J: Naming, P: Recorder, C: Clock, G: Gate> Sessions<
     C,
     G,
 > {
-    /// Serves a link, and says whether it met want of memory, which is also what a change meets that isn't taken any more. A fault of
-    /// the link ends that link alone.
-    pub fn serve<T: Link + Drop, H: RequestHooks, R: Wait + Sync>(
+    /// The session of a link. Says whether it met want of memory, which is also what a change meets that isn't taken any more. A
+    /// fault of the link ends that link alone.
+    pub fn hold_session<T: Link + Drop, H: RequestHooks, R: Wait + Sync>(
         &self,
         rt: &R,
         seat: &mut Seat<Admin<P>>,
@@ -69,20 +71,19 @@ impl<'a, 'k, 'c, 'g, J: Naming, P: Recorder, C: Clock, G: Gate> Sessions<
         let common = self.common;
         let mut link = link;
         let mut clock = SharedClock::new(rt, self.clock);
-        match serve_link(
+        let setting = Setting {
             rt,
-            common.alloc,
-            &mut link,
-            &common.turn,
-            seat,
-            pass,
-            &mut clock,
-            hooks,
-            self.gate,
-            &common.bell,
-            common.plugin.as_str(),
-            number,
-        ) {
+            turn: &common.turn,
+            bell: &common.bell,
+            router: &common.router,
+            deciding: Deciding {
+                alloc: common.alloc,
+                gate: self.gate,
+                plugin: common.plugin.as_str(),
+                worker: number,
+            },
+        };
+        match answer_link(&setting, &mut link, seat, pass, &mut clock, hooks) {
             Ok(_) => return false,
             Err(LinkFault::Failed) => return false,
             Err(LinkFault::NoMemory) => {

@@ -1,7 +1,7 @@
 use mir.Syntax.{of_param}
 use denote.Exit.{unseen}
 use denote.Param.Send.{Quiet-if, sendable}
-use Rattle.rg_serve.proofs.crew.serve_links.Goals as goal
+use Rattle.rg_serve.proofs.crew.with_watcher.Goals as goal
 
 pub scoped-net-requires : goal.scoped-net-requires
 scoped-net-requires g c =
