@@ -49,10 +49,11 @@ impl<S: AuditSink> SinkHooks<S> {
 
     /// Counts the sink, where it has failed so often that it is given no more lines.
     fn note(&self) {
-        if self.failures == MOST_FAILURES {
-            if let Some(drops) = &self.drops {
-                drops.add();
-            }
+        if self.failures < MOST_FAILURES {
+            return;
+        }
+        if let Some(drops) = &self.drops {
+            drops.add();
         }
     }
 }
