@@ -6,6 +6,7 @@ ghost use Rattle.rg_admin.specs.Starting.{start_fault, started};
 ghost use Rattle.rg_keep.specs.Keeping.{IsCause, Reopens};
 ghost use Rattle.rg_run_kept.specs.Opening.{Begins};
 
+use crate::watch::Watch;
 use rg_admin::{Admin, StartFault};
 use rg_ask_wire::read_ask;
 use rg_base::{NoMemory, TryCopy};
@@ -19,11 +20,12 @@ use rg_threads::Halt;
 use std::alloc::{AllocError, Global};
 use std::sync::{Arc, Wait};
 
-/// A keeper, and what is set where it takes no more changes.
+/// A keeper, what is set where it takes no more changes, and what the service hands to those who watch it.
 #[derive(Drop)]
 pub struct Keeping<P: Drop> {
     pub keeper: P,
     pub halt: Arc<Halt>,
+    pub watch: Arc<Watch>,
 }
 
 /// A service that is kept, before it serves links.
@@ -189,12 +191,17 @@ pub(crate) fn open_kept<J: Configured, P: Keeper + Drop, Q: Wait + Drop, R: Wait
     ensures { IfOk result (λ t. Begins config workers t.0) }
 {
     let (recording, refreshing) = handles;
-    let Keeping { keeper, halt } = keeping;
+    let Keeping {
+        keeper,
+        halt,
+        watch,
+    } = keeping;
     let (mine, other) = both_signals(alloc, halt)?;
     let seen = halt_of(&mine)?;
     let admin = record::<J, P, Q>(recording, alloc, config, keeper, other)?;
     let mut opened = Opened::over(refreshing, alloc, admin, workers)?.halted_by(seen);
     ask_again::<J, P, Q, R>(rt, alloc, &mut opened, &mine)?;
     let (opened, _) = opened.refresh(rt, alloc)?;
+    watch.begin(rt, None);
     Ok((opened, mine))
 }
