@@ -176,6 +176,19 @@ fn record<J: Configured, P: Keeper + Drop, Q: Wait + Drop>(
     }
 }
 
+/// The service, of which those who watch it have a pass from now on.
+fn watched<J: Configured, P: Keeper + Drop, Q: Wait + Drop, R: Wait>(
+    rt: &R,
+    opened: Kept<J, P, Q>,
+    watch: &Watch,
+) -> Kept<J, P, Q>
+    ensures { result ≡ opened }
+{
+    let (opened, pass) = opened.watch();
+    watch.begin(rt, pass);
+    opened
+}
+
 /// The service of the configuration over the records, which are asked again, and what it tells of its recorder. Its recorder and its
 /// refresher wait by a handle each.
 pub(crate) fn open_kept<J: Configured, P: Keeper + Drop, Q: Wait + Drop, R: Wait>(
@@ -202,6 +215,6 @@ pub(crate) fn open_kept<J: Configured, P: Keeper + Drop, Q: Wait + Drop, R: Wait
     let mut opened = Opened::over(refreshing, alloc, admin, workers)?.halted_by(seen);
     ask_again::<J, P, Q, R>(rt, alloc, &mut opened, &mine)?;
     let (opened, _) = opened.refresh(rt, alloc)?;
-    watch.begin(rt, None);
+    let opened = watched::<J, P, Q, R>(rt, opened, &watch);
     Ok((opened, mine))
 }
