@@ -1,5 +1,5 @@
 -- What an opening, a call and a refresh make of a service that is held.
-use Rattle.std.proofs.Common.{◌≡◌, false, ◌∙◌, ℕ, ◌+◌, ◌≤◌, All, List, [], ◌∷◌, ◌++◌, length, length-append, IfSome, Option, Some, ap, sym, subst, arith, refl, option_map, replicate, take}
+use Rattle.std.proofs.Common.{◌≡◌, false, ◌∙◌, ℕ, ◌+◌, ◌≤◌, All, List, [], ◌∷◌, ◌++◌, length, length-append, IfSome, None, Option, Some, ap, sym, subst, arith, refl, option_map, replicate, take}
 use mathlib.Core.List.{IsPrefix}
 use Rattle.std.proofs.lemmas.List.{length-replicate}
 use Rattle.std.proofs.lemmas.List.Elements.{All-replicate}
@@ -76,23 +76,23 @@ module _ (workers : ℕ) (admin : Administration) (turn : TurnNow) (seat : Seate
   pub opened_held : (service : List ℕ) (p : Shown) (passes : List Seeing) (watching : Seeing) → IsStart admin → (1 ≤ workers) × (workers ≤ 64) → turn.seats ≡ workers + 1 → service ≡ admin.state.plugin
       → ((h : H) → AreRightFor admin h p.list) → ((a : Administration) (h : H) (q : Publication) → AreDownloadedFor a h (q ∷ [])) → (first : Publication) → p.list ≡ first ∷ [] → passes ++ watching ∷ [] ≡ replicate (workers + 1) (new_pass p) → IsHeld turn seat service p rest passes (Some watching)
   opened_held service p passes watching starts some seats serves right alone first listed passes_are =
-    let IsNew : Seeing → Type 0 = λ q. q ≡ new_pass (begun p) in
-    let each_new : All IsNew (passes ++ watching ∷ []) = subst (All IsNew) (sym passes_are) (All-replicate IsNew (workers + 1) (new_pass p) (ap new_pass (sym (begun_first p first listed)))) in record {
-    seated = ap (λ (s : Seated). s.turn) seat_unused;
-    others = all_front IsUnused rest seat each_unused;
-    all = omega (arith, many, seats);
-    some = omega (arith, many, some.0);
-    few = omega (arith, many, some.1);
-    pairs = omega (arith, many, length-append passes (watching ∷ []), ap length passes_are, length-replicate (workers + 1) (new_pass p));
-    counted = omega (arith, ap (λ (s : Seated). length s.calls) seat_unused);
-    starts = subst IsStart (sym start) starts;
-    serves = serves ∙ ap (λ (a : Administration). a.state.plugin) (sym start);
-    right = subst (λ (a : Administration). AreRightFor a seat.history p.list) (sym start) (right seat.history);
-    made = subst (λ (l : List Publication). AreDownloadedFor turn.start seat.history l) (sym listed) (alone turn.start seat.history first);
-    first = omega (arith, ap length listed);
-    reads = all_front IsNew passes watching each_new;
-    watches = all_last IsNew passes watching each_new;
-  }
+      let IsNew : Seeing → Type 0 = λ q. q ≡ new_pass (begun p) in
+      let each_new : All IsNew (passes ++ watching ∷ []) = subst (All IsNew) (sym passes_are) (All-replicate IsNew (workers + 1) (new_pass p) (ap new_pass (sym (begun_first p first listed)))) in record {
+        seated = ap (λ (s : Seated). s.turn) seat_unused;
+        others = all_front IsUnused rest seat each_unused;
+        all = omega (arith, many, seats);
+        some = omega (arith, many, some.0);
+        few = omega (arith, many, some.1);
+        pairs = omega (arith, many, length-append passes (watching ∷ []), ap length passes_are, length-replicate (workers + 1) (new_pass p));
+        counted = omega (arith, ap (λ (s : Seated). length s.calls) seat_unused);
+        starts = subst IsStart (sym start) starts;
+        serves = serves ∙ ap (λ (a : Administration). a.state.plugin) (sym start);
+        right = subst (λ (a : Administration). AreRightFor a seat.history p.list) (sym start) (right seat.history);
+        made = subst (λ (l : List Publication). AreDownloadedFor turn.start seat.history l) (sym listed) (alone turn.start seat.history first);
+        first = omega (arith, ap length listed);
+        reads = all_front IsNew passes watching each_new;
+        watches = all_last IsNew passes watching each_new;
+      }
 
   pub opened_is : (list : List Publication) → ((f : Facts) × (view admin admin.state.plugin ≡ Some f) × (list ≡ publication 1 0 f ∷ [])) → opened workers admin ≡ Some (held turn seat list rest)
   opened_is list (f, viewed, listed) =
@@ -103,6 +103,33 @@ module _ (workers : ℕ) (admin : Administration) (turn : TurnNow) (seat : Seate
       ∙ ap (λ l. made admin [] 0 l (length rest)) listed
       ∙ ap (made admin [] 0 (publication 1 0 f ∷ [])) many
       ))
+
+-- ---- the pass of one who watches
+
+module _ (turn : TurnNow) (seat : Seated) (service : List ℕ) (p : Shown) (seats : List Seated) (passes : List Seeing) (watching : Option Seeing)
+    (at : IsHeld turn seat service p seats passes watching) where
+  -- it is given away
+  pub without_watching : IsHeld turn seat service p seats passes None
+  without_watching = record {
+    seated = at.seated;
+    others = at.others;
+    all = at.all;
+    some = at.some;
+    few = at.few;
+    pairs = at.pairs;
+    counted = at.counted;
+    starts = at.starts;
+    serves = at.serves;
+    right = at.right;
+    made = at.made;
+    first = at.first;
+    reads = at.reads;
+    watches = tt;
+  }
+
+pub watching_first : (p : Shown) (watching : Option Seeing) → IfSome watching (λ (q : Seeing). q ≡ new_pass (begun p)) → IfSome watching (λ (q : Seeing). q.list ≡ take 1 p.list)
+watching_first p None at = tt
+watching_first p (Some q) at = ap (λ (s : Seeing). s.list) at
 
 -- ---- a call
 
