@@ -56,10 +56,10 @@ watching_send : IsSend I.the_row
 watching_send = declared_send I.the_type (search sendable depth 20, (search (sendable, pass_send) depth 20, (search sendable depth 20, tt)))
 
 watch_send : IsSend W.the_row
-watch_send = declared_send W.the_type (search (crosses, sendable) depth 20, (search (crosses, sendable, watching_send) depth 40, tt))
+watch_send = declared_send W.the_type (search (crosses, sendable, watching_send) depth 40, tt)
 
 watch_sync : IsSync W.the_row
-watch_sync = declared_sync W.the_type (search (crosses, sendable) depth 20, (search (crosses, sendable, watching_send) depth 40, tt))
+watch_sync = declared_sync W.the_type (search (crosses, sendable, watching_send) depth 40, tt)
 
 pub seen_send : IsSend N.the_row
 seen_send = declared_send N.the_type (search (crosses, sendable, drops.the_send, drops.the_sync) depth 40, (search (crosses, sendable, watch_send, watch_sync) depth 40, tt))

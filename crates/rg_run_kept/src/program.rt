@@ -81,7 +81,7 @@ impl Shared {
             halt,
             metrics: Arc::new(alloc, metrics)?,
             drops: Arc::new(alloc, Drops::new())?,
-            watch: Arc::new(alloc, Watch::new(alloc))?,
+            watch: Arc::new(alloc, Watch::new())?,
         })
     }
 

@@ -1,10 +1,7 @@
 // What is seen of a service that keeps, while it works.
 use rg_audit_file::Drops;
-use rg_base::{Moment, Seq, Steps, Text};
 use rg_metrics::{Epoch, Inside, Newest, Watched};
-use rg_policy::{AccessRequest, Resource};
 use rg_publish::Pass;
-use std::alloc::Global;
 use std::sync::{Arc, Mutex, Wait};
 
 /// What is watched by.
@@ -20,34 +17,18 @@ struct Watching {
 /// What a service hands to those who watch it, under a lock that nobody holds for long.
 #[derive(Drop)]
 pub struct Watch {
-    alloc: Global,
     watching: Mutex<Watching>,
 }
 
-/// A request for nothing, by nobody. It takes no memory.
-fn nothing(alloc: Global) -> AccessRequest {
-    AccessRequest {
-        user: Text::empty(alloc),
-        groups: Seq::new(alloc),
-        resource: Resource {
-            elements: Seq::new(alloc),
-            owner: Text::empty(alloc),
-        },
-        access: Text::empty(alloc),
-        moment: Moment(0),
-        address: Text::empty(alloc),
-        context: Seq::new(alloc),
-    }
-}
-
-/// The numbers of the newest publication, which a decision on nothing tells.
-fn newest_of(alloc: Global, pass: &mut Pass) -> Newest {
-    let answer = pass.verdict(&nothing(alloc), &mut Steps::silent());
+/// The numbers of the newest publication that it finds.
+fn newest_of(pass: &mut Pass) -> Newest {
+    let _entered = pass.enter();
+    let engine = pass.engine();
     Newest {
-        serial: answer.serial,
-        policy_version: answer.policy_version,
-        role_version: answer.role_version,
-        tag_version: answer.tag_version,
+        serial: pass.serial(),
+        policy_version: engine.policy_version(),
+        role_version: engine.role_version(),
+        tag_version: engine.tag_version(),
     }
 }
 
@@ -57,9 +38,9 @@ impl Watching {
         Some(epoch.number())
     }
 
-    fn newest(&mut self, alloc: Global) -> Option<Newest> {
+    fn newest(&mut self) -> Option<Newest> {
         match &mut self.pass {
-            Some(pass) => Some(newest_of(alloc, pass)),
+            Some(pass) => Some(newest_of(pass)),
             None => None,
         }
     }
@@ -67,9 +48,8 @@ impl Watching {
 
 impl Watch {
     /// Nothing is known yet.
-    pub fn new(alloc: Global) -> Watch {
+    pub fn new() -> Watch {
         Watch {
-            alloc,
             watching: Mutex::new(Watching {
                 epoch: None,
                 pass: None,
@@ -99,7 +79,7 @@ impl Watch {
         if !watching.has_begun {
             return (None, None);
         }
-        let newest = watching.newest(self.alloc);
+        let newest = watching.newest();
         (watching.epoch(), newest)
     }
 }
