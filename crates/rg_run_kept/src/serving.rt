@@ -267,11 +267,10 @@ fn serve_named<
     };
     let outside = Outside {
         address,
-        clock,
         gate,
         most: u64::MAX,
     };
-    match serve(rt, alloc, opened, hooks, net, outside) {
+    match serve(rt, alloc, opened, hooks, net, clock, outside) {
         Ok(served) => end(alloc, served, sink),
         Err(fault) => give_up(broken(&signals, fault)),
     }

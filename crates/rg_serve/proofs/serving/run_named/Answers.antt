@@ -13,4 +13,4 @@ new-requires-2 g c =
 
 pub returns-clause-all : goal.returns-clause-all
 returns-clause-all g c =
-    let got = subst (λ r. HasAccepted c.args.outside.most _ _ _ r) c.in_ok-links.was c.attend-accepted.ensures in (got.2, got.3)
+    let got = subst (λ r. HasAccepted c.args.around.most _ _ _ r) c.in_ok-links.was c.attend-accepted.ensures in (got.2, got.3)
