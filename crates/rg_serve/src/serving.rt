@@ -1,9 +1,8 @@
 // Links served by threads.
-ghost use Rattle.std.specs.Prelude.{◌≡◌, ◌⊎◌, ◌≤◌, ◌+◌, true, Some, length, IfOk, MatchResult};
+ghost use Rattle.std.specs.Prelude.{◌≡◌, ◌⊎◌, ◌≤◌, ◌<◌, ◌+◌, true, Some, length, IfOk, OnOk, OnErr, MatchResult};
 ghost use mathlib.Core.List.{IsPrefix};
 ghost use Rattle.rg_admin_laws.specs.Steps.{step};
 ghost use Rattle.rg_turn.specs.History.{IsLegal, state_after};
-ghost use Rattle.rg_serve.specs.Accepting.{HasAccepted, heard};
 ghost use Rattle.rg_serve.specs.Held.{IsHeld, begun};
 ghost use Rattle.rg_session.specs.Right.{AreDownloadedFor, AreRightFor};
 ghost use Rattle.rg_serve.specs.Served.{Counts, HasServed, IsCurrent};
@@ -99,9 +98,11 @@ fn attend<
     given: Given<J>,
 ) -> (Result<u64, Failed>, Counted<J>)
     requires none { given.book.total ≡ 0 }
-    ensures { HasAccepted given.most
-        (heard (N.given net.old) (N.ended net.old) (N.faults net.old))
-        (heard (N.given net.new) (N.ended net.new) (N.faults net.new)) result.1.book.total result.0 }
+    ensures counted { IfOk result.0 (λ n. result.1.book.total ≡ n) }
+    ensures given { IfOk result.0 (λ n. N.given net.new ≡ N.given net.old + n) }
+    ensures all { IfOk result.0 (λ n. (n ≤ given.most) × ((n ≡ given.most) ⊎ (N.ended net.new ≡ true))) }
+    ensures kept { OnOk result.0 (N.faults net.new ≡ N.faults net.old) }
+    ensures failed { OnErr result.0 (N.faults net.old < N.faults net.new) }
 {
     let crew = Crew {
         sessions,
