@@ -11,8 +11,9 @@ leads to what is downloaded whole.
 Before that, what can't be begun with ends the service with a status and a line, and nothing is changed: records that don't read, configurations that
 aren't the one line, a file that may not be read, one that isn't a database, one that was cut, one that another process has. Where a file system of its
 own can be mounted, one that fills up has changes answered 503 while decisions go on, and nothing that was acknowledged is lost. The pages on health and
-metrics are asked while every worker has a silent client, and their counts are compared with what was asked. A copy of the files of a stopped moment has
-what was acknowledged before it.
+metrics are asked while every worker has a silent client, and their counts are compared with what was asked; the epoch is worked out once more, and so is
+what a new start over the same file, another file and another configuration makes of it. What tools/back_up_kept.py copies has what was acknowledged before
+it. A file of audit lines that takes no more is told by health.
 
 A kill takes nothing that the operating system has been given, so this shows nothing of a power cut. It is no part of the gate, since it takes minutes
 and a socket."""
@@ -81,8 +82,8 @@ def listening(process):
 class Service:
     """The program over the file."""
 
-    def __init__(self, file, script=SCRIPT, pages=None):
-        words = [PROGRAM, str(file), "127.0.0.1:0"] + (["--metrics", f"127.0.0.1:{pages}"] if pages else [])
+    def __init__(self, file, script=SCRIPT, pages=None, audit=None):
+        words = [PROGRAM, str(file), "127.0.0.1:0"] + ([str(audit)] if audit else []) + (["--metrics", f"127.0.0.1:{pages}"] if pages else [])
         self.process = subprocess.Popen(words, stdin=subprocess.PIPE, stdout=subprocess.PIPE)
         self.process.stdin.write(script.encode())
         self.process.stdin.close()
@@ -407,6 +408,64 @@ def free_port():
         return free.getsockname()[1]
 
 
+def epoch_of(script, first):
+    """What health tells: FNV-1a in 64 bits of the configuration line, a byte 0 and the first record, without its last 11 bits."""
+    number = 0xCBF29CE484222325
+    for byte in script.splitlines()[0].encode() + b"\0" + first:
+        number = (number ^ byte) * 0x100000001B3 % 2**64
+    return number >> 11
+
+
+def health_of(port):
+    return json.loads(page(port, "/service/health")[1])
+
+
+def settled_health(port, role_version):
+    """Health, once the roles of this version are published."""
+    for _ in range(100):
+        health = health_of(port)
+        if health["roleVersion"] == role_version:
+            break
+        time.sleep(.05)
+    return health
+
+
+def epoch_at(file, script, port):
+    """What a start over the file tells."""
+    service = Service(file, script, pages=port)
+    epoch = health_of(port)["epoch"]
+    service.kill()
+    return epoch
+
+
+def first_record_of(service, file):
+    """The first record of a service that runs, from a copy of its file."""
+    to = file.with_suffix(".look")
+    judge("a copy to look at", backed_up(service.process.pid, file, to), 0)
+    return bytes(rows_of(to)[0][1])
+
+
+def backed_up(pid, file, to):
+    """The status of the tool."""
+    return subprocess.run([sys.executable, str(TOP / "tools/back_up_kept.py"), str(pid), str(file), str(to)], capture_output=True, timeout=60, check=False).returncode
+
+
+def dropped(folder):
+    """A file of audit lines that takes none."""
+    port = free_port()
+    service = Service(folder / "dropped.db", pages=port, audit="/dev/full")
+    link = service.link()
+    link.ask("POST", f"{API}/policy", policy("p", "sales", "ann"))
+    request = {"user": "ann", "resource": {"elements": {"database": "sales"}}, "accessType": "select"}
+    told = []
+    for _ in range(4):
+        judge("a decision whose line is lost", link.ask("POST", "/service/decide/hive1", request)[0], 200)
+        told.append(health_of(port)["droppedSinks"])
+    judge("dropped sinks, after each decision of one worker", told, [0, 0, 1, 1])
+    judge("the metric", metrics_of(port)["rangerd_dropped_sinks"], 1)
+    service.kill()
+
+
 def watched(folder):
     """The pages, while nothing else is answered."""
     port = free_port()
@@ -418,48 +477,76 @@ def watched(folder):
     for user in ("ann", "bob"):
         link.ask("POST", "/service/decide/hive1", {"user": user, "resource": {"elements": {"database": "sales"}}, "accessType": "select"})
     silent = [socket.create_connection(("127.0.0.1", service.port)) for _ in range(64)]
+    settled_health(port, 6)
     status, body = page(port, "/service/health")
     health = json.loads(body)
-    judge("health", (status, health.pop("secondsSinceStart") < 60, health), (200, True, {"keptCommands": 5, "serving": True, "stopped": None}))
+    versions = {"policyVersion": 1, "roleVersion": 6, "tagVersion": 1}
+    judge("health", (status, health.pop("secondsSinceStart") < 60, health.pop("serial") > 1, health),
+          (200, True, True, {"droppedSinks": 0, "epoch": epoch_of(SCRIPT, b""), "keptCommands": 5, "serving": True, "stopped": None, **versions}))
+    judge("the order of its members", list(json.loads(body)), sorted(json.loads(body)))
     found = metrics_of(port)
     wanted = {
         'rangerd_answers_total{status="200"}': 7, 'rangerd_answers_total{status="400"}': 1, 'rangerd_decisions_total{access="DENIED"}': 2, "rangerd_kept_commands": 5,
-        "rangerd_serving": 1, "rangerd_stopped": 0,
+        "rangerd_serving": 1, "rangerd_stopped": 0, "rangerd_dropped_sinks": 0, "rangerd_policy_version": 1, "rangerd_role_version": 6, "rangerd_tag_version": 1,
     }
     judge("metrics", {key: found.get(key) for key in wanted}, wanted)
+    judge("publications", found["rangerd_publications"] > 1, True)
     judge("refusals", sum(value for key, value in found.items() if key.startswith("rangerd_refusals_total")), 1)
     judge("other pages", [page(port, path)[0] for path in ("/", "/service/decide/hive1", "/service/health?x")], [404, 404, 404])
     for it in silent:
         it.close()
     service.kill()
     service = Service(folder / "watched.db", pages=port)
-    judge("health of the next start", json.loads(page(port, "/service/health")[1])["keptCommands"], 5)
+    health = health_of(port)
+    first = first_record_of(service, folder / "watched.db")
+    judge("health of the next start", {key: health[key] for key in ("keptCommands", "epoch", *versions)}, {"keptCommands": 5, "epoch": epoch_of(SCRIPT, first), **versions})
     service.kill()
+    judge("the epoch of one start more", epoch_at(folder / "watched.db", SCRIPT, port), health["epoch"])
+    judge("a comment plays no part in it", epoch_at(folder / "watched.db", "# other\n\n" + SCRIPT, port), health["epoch"])
+    other = SCRIPT.replace('"root"', '"root", "eve"')
+    judge("the epoch of another configuration", epoch_at(folder / "watched.db", other, port), epoch_of(other, first))
+    judge("the epoch of another file", epoch_at(folder / "watched_too.db", SCRIPT, port), epoch_of(SCRIPT, b""))
+    judge("all of them differ", len({epoch_of(SCRIPT, b""), epoch_of(SCRIPT, first), epoch_of(other, first)}), 3)
     with socket.create_server(("127.0.0.1", 0)) as taken:
         ran = subprocess.run([PROGRAM, str(folder / "watched.db"), "127.0.0.1:0", "--metrics", f"127.0.0.1:{taken.getsockname()[1]}"], input=SCRIPT.encode(), capture_output=True, timeout=60, check=False)
     judge("a taken address of the pages", (ran.returncode, ran.stdout), (5, b""))
 
 
+class Maker(threading.Thread):
+    """Makes one role after another. `made` of them were answered."""
+
+    def __init__(self, port):
+        super().__init__(daemon=True)
+        self.port, self.made = port, 0
+
+    def run(self):
+        link = Link(self.port)
+        with contextlib.suppress(OSError, http.client.HTTPException, ValueError):
+            while link.ask("POST", f"{API}/roles", {"name": f"r{self.made}", "users": []})[0] == 200:
+                self.made += 1
+
+
 def copied(folder):
-    """Both files of a service that was stopped for a moment, as docs/OPERATIONS.md has it."""
-    service, known = Service(folder / "copied.db"), {}
-    client = Client(0, known, 1)
-    client.port = service.port
-    client.start()
+    """The copy of a service that goes on, by tools/back_up_kept.py."""
+    service = Service(folder / "copied.db")
+    pid, maker = service.process.pid, Maker(service.port)
+    maker.start()
     time.sleep(.5)
-    service.process.send_signal(signal.SIGSTOP)
-    told = dict(known)
-    for part in ("copied.db", "copied.db-wal"):
-        shutil.copy(folder / part, folder / part.replace("copied", "copy"))
-    service.process.send_signal(signal.SIGCONT)
+    before = maker.made
+    judge("a copy", backed_up(pid, folder / "copied.db", folder / "copy.db"), 0)
+    behind = maker.made
     time.sleep(.2)
-    judge("it goes on behind the copy", known != told, True)
+    judge("it goes on behind the copy", maker.made > behind, True)
+    judge("a copy that is there already", backed_up(pid, folder / "copied.db", folder / "copy.db"), 1)
+    judge("a process that doesn't have the file", backed_up(os.getpid(), folder / "copied.db", folder / "other.db"), 1)
+    judge("a folder that isn't there", backed_up(pid, folder / "copied.db", folder / "none" / "copy.db"), 1)
+    judge("it goes on behind those", service.link().ask("GET", f"{API}/policies/hive1")[0], 200)
     service.kill()
-    client.join()
+    maker.join()
     service = Service(folder / "copy.db")
-    found, _ = standing(service.link())
-    # (of the one change that was under way the copy may have either state)
-    judge("what the copy has", [key for key in set(told) | set(found) if found.get(key) != told.get(key)][1:], [])
+    found = {it["name"] for it in service.link().ask("GET", PARTS["roles"])[1]["whole"]["roles"]}
+    judge("what the copy has", found, {f"r{number}" for number in range(len(found))})
+    judge("each of them that was answered before it, and none that was asked later", before <= len(found) <= behind + 1, True)
     service.kill()
 
 
@@ -513,6 +600,7 @@ with tempfile.TemporaryDirectory() as room:
     room = pathlib.Path(room)
     refused(room)
     watched(room)
+    dropped(room)
     copied(room)
     filled(room)
     killed(room)

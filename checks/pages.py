@@ -47,7 +47,7 @@ LEFT_OUT = [
     ("README.md", "bin/rangerd-plugin", "it runs until it is ended; checks/plugin.py runs plugins"),
     ("README.md", "grep '^config ' examples/hive.config | bin/rangerd-kept", "it runs until it is ended; checks/kept_service.py runs services that keep"),
     ("docs/OPERATIONS.md", "grep '^config ' examples/hive.config | bin/rangerd-kept", "it runs until it is ended; checks/kept_service.py runs services that keep"),
-    ("docs/OPERATIONS.md", "kill -STOP", "it copies the file of a service that runs, as checks/kept_service.py does"),
+    ("docs/OPERATIONS.md", "tools/back_up_kept.py", "it copies the file of a service that runs, as checks/kept_service.py does"),
     ("docs/PLUGIN.md", "bin/rangerd-plugin", "it runs until it is ended; checks/plugin.py runs plugins"),
     ("docs/PLUGIN.md", "curl", "it asks a plugin, as checks/plugin.py does"),
 ]

@@ -4,20 +4,13 @@ ghost use Rattle.rg_cmd.specs.Lookups.{has_def, has_tag_service, service_at, tag
 ghost use Rattle.rg_validate.specs.Valid.{IsValid};
 ghost use Rattle.rg_admin.specs.Planning.{policy_named, tag_def_named, tag_row_named};
 
-use rg_base::{Text, find_named, is_empty, same_text};
-use rg_cmd::{AdminCommand, ServiceRow, State};
+use rg_base::{Text, is_empty, same_text};
+use rg_cmd::{AdminCommand, ServiceRow, State, service_at};
 use rg_defs::tag_name;
 use rg_policy::Policy;
 use rg_shared::Shared;
 use rg_tags::TagRow;
 use rg_validate::policy_at;
-
-/// The service of this name.
-pub(crate) fn service_at<'a>(state: &'a State, name: &Text) -> Option<&'a ServiceRow>
-    ensures { option_map (λ r. r.now) result ≡ service_at state.now name.now }
-{
-    find_named(state.services.as_slice(), name.as_str())
-}
 
 /// The name of the row's tag service, if it has one.
 pub(crate) fn tag_service_in(row: &ServiceRow) -> Option<&Text>

@@ -9,9 +9,9 @@ ghost use Rattle.rg_admin_laws.specs.Views.{tag_def_of, tag_policies_of, view};
 ghost use Rattle.rg_admin.specs.Held.{administration_of, logs_of};
 
 use crate::logs::ServiceLog;
-use crate::lookups::{service_at, tag_service_in};
+use crate::lookups::tag_service_in;
 use rg_base::{Named, NoMemory, Seq, Text, TryCopy, find_named, same_text};
-use rg_cmd::{PolicyWhole, RoleWhole, ServiceRow, State, TagWhole};
+use rg_cmd::{PolicyWhole, RoleWhole, ServiceRow, State, TagWhole, def_at, service_at};
 use rg_defs::ServiceDef;
 use rg_facts::Facts;
 use rg_policy::Policy;
@@ -59,12 +59,6 @@ fn service_named<'a>(state: &'a State, name: &str) -> Option<&'a ServiceRow>
     ensures { option_map (λ r. r.now) result ≡ service_at state.now (chars name.now) }
 {
     find_named(state.services.as_slice(), name)
-}
-
-fn def_at<'a>(state: &'a State, name: &Text) -> Option<&'a ServiceDef>
-    ensures { option_map (λ d. d.now) result ≡ def_at state.now name.now }
-{
-    find_named(state.defs.as_slice(), name.as_str())
 }
 
 /// The name of the service's tag service, if it has one.

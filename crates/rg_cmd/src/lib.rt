@@ -5,6 +5,7 @@ mod ask;
 mod changes;
 mod config;
 mod download;
+mod lookups;
 mod rule;
 mod state;
 
@@ -15,5 +16,6 @@ pub use download::{
     Download, Part, PolicyDelta, PolicyPart, PolicyWhole, RoleDelta, RolePart, RoleWhole, TagDelta,
     TagPart, TagWhole,
 };
+pub use lookups::{def_at, def_of, has_def, is_tag, is_tag_service, service_at};
 pub use rule::Rule;
 pub use state::{ServiceRow, State, UserRow};

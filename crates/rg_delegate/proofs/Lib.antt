@@ -1,3 +1,4 @@
+pub mod Filed
 pub mod Finding
 pub mod Fitting
 pub mod Forms

@@ -10,7 +10,8 @@ use Rattle.rg_pattern.specs.Reading.{atoms_of, with_twin}
 use Rattle.rg_pattern.specs.Tests.{covers}
 use Rattle.rg_policy.specs.declared.policy.PolicyResource.{PolicyResource}
 use Rattle.rg_resmatch.specs.Tests.{is_open, star}
-use Rattle.rg_delegate.specs.Covering.{are_among, has_wildcards, ignores_case, patterns_at, resource_covers, same_flag, same_resource, some_covers, values_cover}
+use Rattle.rg_same_resources.specs.Twins.{each_among, same_flag}
+use Rattle.rg_delegate.specs.Covering.{equals, has_wildcards, ignores_case, patterns_at, resource_covers, some_covers, values_cover}
 use Rattle.rg_delegate.specs.Laws.{writes_star}
 use Rattle.rg_delegate.proofs.Patterns.{CoversLaw, third_covered}
 
@@ -19,8 +20,8 @@ use Rattle.rg_delegate.proofs.Patterns.{CoversLaw, third_covered}
 pub record AreSame (m n : PolicyResource) : Type 0 where
   pub excludes : m.excludes ≡ n.excludes
   pub recursive : m.recursive ≡ n.recursive
-  pub these : are_among m.values.items n.values.items ≡ true
-  pub those : are_among n.values.items m.values.items ≡ true
+  pub these : each_among m.values.items n.values.items ≡ true
+  pub those : each_among n.values.items m.values.items ≡ true
 
 flag_is : (a b : Bool) → same_flag a b ≡ true → a ≡ b
 flag_is true b h = sym h
@@ -30,23 +31,23 @@ flag_from : (a b : Bool) → a ≡ b → same_flag a b ≡ true
 flag_from true b h = sym h
 flag_from false b h = not_from_false b (sym h)
 
-pub same_holds : (m n : PolicyResource) → same_resource m n ≡ true → AreSame m n
+pub same_holds : (m n : PolicyResource) → equals m n ≡ true → AreSame m n
 same_holds m n h =
-    let these = are_among m.values.items n.values.items in
-    let those = are_among n.values.items m.values.items in
+    let these = each_among m.values.items n.values.items in
+    let those = each_among n.values.items m.values.items in
     let recursive = same_flag m.recursive n.recursive in
     let one = and_parts (same_flag m.excludes n.excludes) (recursive && (these && those)) h in
     let two = and_parts recursive (these && those) one.1 in
     let three = and_parts these those two.1 in
     record { excludes = flag_is _ _ one.0; recursive = flag_is _ _ two.0; these = three.0; those = three.1 }
 
-same_from : (m n : PolicyResource) → AreSame m n → same_resource m n ≡ true
+same_from : (m n : PolicyResource) → AreSame m n → equals m n ≡ true
 same_from m n s = and_from _ _ (flag_from _ _ s.excludes) (and_from _ _ (flag_from _ _ s.recursive) (and_from _ _ s.these s.those))
 
-pub value_among : (texts others : List (List ℕ)) → are_among texts others ≡ true → (t : List ℕ) → Contains texts t → Contains others t
+pub value_among : (texts others : List (List ℕ)) → each_among texts others ≡ true → (t : List ℕ) → Contains texts t → Contains others t
 value_among texts others h t within = among_holds t others (all_holds (λ t. is_among t others) texts h t within)
 
-among_third : (a b c : List (List ℕ)) → are_among a b ≡ true → are_among b c ≡ true → are_among a c ≡ true
+among_third : (a b c : List (List ℕ)) → each_among a b ≡ true → each_among b c ≡ true → each_among a c ≡ true
 among_third a b c h g = all_from (λ t. is_among t c) a (λ t within. among_from t c (value_among b c g t (value_among a b h t within)))
 
 same_third : (m n o : PolicyResource) → AreSame m n → AreSame n o → AreSame m o
@@ -73,26 +74,26 @@ clash b h g = absurd (false≢true (sym g ∙ h))
 
 pub way_of : (def : ServiceDef) (m n : PolicyResource) → resource_covers def m n ≡ true → Way def m n
 way_of def m n h = at m.excludes n.excludes refl refl h where
-  at : (a b : Bool) → m.excludes ≡ a → n.excludes ≡ b → (if a || b then same_resource m n || is_open m else values_cover def m n) ≡ true → Way def m n
-  at true b e f k = elim (or_cases (same_resource m n) (is_open m) k) [
+  at : (a b : Bool) → m.excludes ≡ a → n.excludes ≡ b → (if a || b then equals m n || is_open m else values_cover def m n) ≡ true → Way def m n
+  at true b e f k = elim (or_cases (equals m n) (is_open m) k) [
     | inl same ↦ by_equal (same_holds m n same) e
     | inr star ↦ clash m.excludes e (open_includes m star)
   ]
-  at false true e f k = elim (or_cases (same_resource m n) (is_open m) k) [
+  at false true e f k = elim (or_cases (equals m n) (is_open m) k) [
     | inl same ↦ clash m.excludes ((same_holds m n same).excludes ∙ f) e
     | inr star ↦ by_star star f
   ]
   at false false e f k = by_values e f k
 
 chosen_by : (def : ServiceDef) (m n : PolicyResource) (a b : Bool) → m.excludes ≡ a → n.excludes ≡ b
-    → (if a || b then same_resource m n || is_open m else values_cover def m n) ≡ true → resource_covers def m n ≡ true
-chosen_by def m n a b e f h = ap (λ c. if c || n.excludes then same_resource m n || is_open m else values_cover def m n) e ∙ ap (λ c. if a || c then same_resource m n || is_open m else values_cover def m n) f ∙ h
+    → (if a || b then equals m n || is_open m else values_cover def m n) ≡ true → resource_covers def m n ≡ true
+chosen_by def m n a b e f h = ap (λ c. if c || n.excludes then equals m n || is_open m else values_cover def m n) e ∙ ap (λ c. if a || c then equals m n || is_open m else values_cover def m n) f ∙ h
 
 from_equal : (def : ServiceDef) (m n : PolicyResource) → AreSame m n → m.excludes ≡ true → resource_covers def m n ≡ true
 from_equal def m n s e = chosen_by def m n true n.excludes e refl (or_left _ _ (same_from m n s))
 
 from_star : (def : ServiceDef) (m n : PolicyResource) → is_open m ≡ true → n.excludes ≡ true → resource_covers def m n ≡ true
-from_star def m n h e = chosen_by def m n false true (open_includes m h) e (or_right (same_resource m n) _ h)
+from_star def m n h e = chosen_by def m n false true (open_includes m h) e (or_right (equals m n) _ h)
 
 from_values : (def : ServiceDef) (m n : PolicyResource) → m.excludes ≡ false → n.excludes ≡ false → values_cover def m n ≡ true → resource_covers def m n ≡ true
 from_values def m n e f h = chosen_by def m n false false e f h

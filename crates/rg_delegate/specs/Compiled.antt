@@ -8,7 +8,7 @@ use Rattle.rg_pattern.specs.declared.atoms.Atom.{Atom}
 use Rattle.rg_policy.specs.declared.policy.PolicyResource.{PolicyResource}
 use Rattle.rg_policy.specs.declared.policy.ResourceMap.{ResourceMap}
 use Rattle.rg_resmatch.specs.Tests.{is_open}
-use Rattle.rg_delegate.specs.Covering.{ignores_case, patterns_at, same_resource, some_covers}
+use Rattle.rg_delegate.specs.Covering.{equals, ignores_case, patterns_at, some_covers}
 
 -- a resource, its values read once
 pub record LevelForm : Type 0 where
@@ -29,7 +29,7 @@ abbrev pub form_values_cover : LevelForm → LevelForm → Bool
 form_values_cover m n = list_all (some_covers m.fold m.patterns) n.patterns
 
 abbrev pub form_covers : LevelForm → LevelForm → Bool
-form_covers m n = if m.written.excludes || n.written.excludes then same_resource m.written n.written || is_open m.written else form_values_cover m n
+form_covers m n = if m.written.excludes || n.written.excludes then equals m.written n.written || is_open m.written else form_values_cover m n
 
 abbrev pub form_at : List LevelForm → List ℕ → Option LevelForm
 form_at forms name = find (λ (f : LevelForm). bytes_eq f.written.level name) forms

@@ -17,6 +17,7 @@ use Rattle.rg_policy.specs.declared.policy.ResourceMap.{ResourceMap}
 use Rattle.rg_policy.specs.Maps.{maps_of}
 use Rattle.rg_resmatch.specs.Rules.{named_levels}
 use Rattle.rg_resmatch.specs.Tests.{is_open, names_level}
+use Rattle.rg_same_resources.specs.Twins.{same_flag, same_texts}
 
 -- whether the level of this name has wildcards, and whether it ignores case; an unknown one does neither
 abbrev pub has_wildcards : ServiceDef → List ℕ → Bool
@@ -37,23 +38,14 @@ some_covers fold patterns p = list_any (λ q. covers fold q p) patterns
 abbrev pub values_cover : ServiceDef → PolicyResource → PolicyResource → Bool
 values_cover def m n = list_all (some_covers (ignores_case def m.level) (patterns_at def m)) (patterns_at def n)
 
-abbrev pub same_flag : Bool → Bool → Bool
-same_flag true b = b
-same_flag false b = not b
-
--- the texts are all among the others
-abbrev pub are_among : List (List ℕ) → List (List ℕ) → Bool
-are_among texts others = list_all (λ t. is_among t others) texts
-
 -- the two are equal up to the order and repeats of values
-abbrev pub same_resource : PolicyResource → PolicyResource → Bool
-same_resource m n = same_flag m.excludes n.excludes
-    && (same_flag m.recursive n.recursive
-    && (are_among m.values.items n.values.items && are_among n.values.items m.values.items))
+abbrev pub equals : PolicyResource → PolicyResource → Bool
+equals m n = same_flag m.excludes n.excludes
+    && (same_flag m.recursive n.recursive && same_texts m.values.items n.values.items)
 
 -- of two resources of one level the first covers the second: by their values where neither is excluding; else where they are equal, or where the first isn't excluding and lists `*`
 abbrev pub resource_covers : ServiceDef → PolicyResource → PolicyResource → Bool
-resource_covers def m n = if m.excludes || n.excludes then same_resource m n || is_open m else values_cover def m n
+resource_covers def m n = if m.excludes || n.excludes then equals m n || is_open m else values_cover def m n
 
 -- what these resources have for the level
 abbrev pub resource_at : List PolicyResource → List ℕ → Option PolicyResource

@@ -2,6 +2,7 @@ pub mod Accesses
 pub mod Authority
 pub mod Compiled
 pub mod Covering
+pub mod Filing
 pub mod Found
 pub mod Laws
 pub mod Listing

@@ -14,9 +14,9 @@ use crate::accesses::all_granted;
 use crate::actor::Actor;
 use crate::candidates::candidates;
 use crate::delegation::{Asked, delegating_items};
-use crate::lookups::{def_for, zone_at};
+use crate::lookups::zone_at;
 use rg_base::{NoMemory, is_among, is_empty};
-use rg_cmd::State;
+use rg_cmd::{State, def_of};
 use rg_defs::ServiceDef;
 use rg_items::Subjects;
 use rg_policy::Policy;
@@ -120,7 +120,7 @@ pub(crate) fn may_by_delegation(
     ensures same { actor.new ≡ actor.old }
     ensures answer { IfOk result (λ b. b ≡ may_by_delegation state.now actor.old.name policy.now) }
 {
-    match def_for(state, policy) {
+    match def_of(state, &policy.service) {
         Some(def) => all_delegated(alloc, state, def, delegating, actor, policy),
         None => Ok(false),
     }

@@ -1,14 +1,20 @@
 // Whether the maps of one policy cover those of another.
-ghost use Rattle.std.specs.Prelude.{◌≡◌, List};
+ghost use Rattle.std.specs.Prelude.{◌≡◌, IfOk, List};
 ghost use Rattle.std.specs.List.{list_all, list_any};
 ghost use Rattle.rg_resmatch.specs.Tests.{is_open};
 ghost use Rattle.rg_delegate.specs.Compiled.{LevelForm, form_covered, form_covers, form_map_covered, form_map_covers, form_maps_cover, form_values_cover, is_form_shared_or_open};
-ghost use Rattle.rg_delegate.specs.Covering.{are_among, same_flag, same_resource, some_covers};
+ghost use Rattle.rg_delegate.specs.Covering.{equals, some_covers};
 
+use crate::filing::filed_cover;
 use crate::reading::{ReadLevel, ReadMap};
-use rg_base::{Named, Text, find_named, is_among, is_named};
+use rg_base::{Named, NoMemory, find_named, is_among, is_named};
 use rg_pattern::Pattern;
 use rg_policy::PolicyResource;
+use rg_same_resources::{same_flag, same_texts};
+use std::alloc::Global;
+
+/// Where one of two lists has at most so many values, each of them is looked at for each of the other's.
+const FEW: usize = 64;
 
 fn some_covers(patterns: &[Pattern], other: &Pattern, fold: bool) -> bool
     ensures { result ≡ some_covers fold patterns.now other.now }
@@ -16,7 +22,7 @@ fn some_covers(patterns: &[Pattern], other: &Pattern, fold: bool) -> bool
     patterns.iter().any(|pattern| pattern.covers(other, fold))
 }
 
-fn values_cover(m: &ReadLevel, n: &ReadLevel) -> bool
+fn all_by_scan(m: &ReadLevel, n: &ReadLevel) -> bool
     ensures { result ≡ form_values_cover m.now n.now }
 {
     n.patterns
@@ -24,26 +30,27 @@ fn values_cover(m: &ReadLevel, n: &ReadLevel) -> bool
         .all(|pattern| some_covers(&m.patterns, pattern, m.fold))
 }
 
-fn same_flag(a: bool, b: bool) -> bool
-    ensures { result ≡ same_flag a b }
+/// Where both have many values, by those of the first that begin as one of the second does.
+fn values_cover(alloc: Global, m: &ReadLevel, n: &ReadLevel) -> Result<bool, NoMemory>
+    ensures { IfOk result (λ b. b ≡ form_values_cover m.now n.now) }
 {
-    if a { b } else { !b }
-}
-
-fn are_among(texts: &[Text], others: &[Text]) -> bool
-    ensures { result ≡ are_among texts.now others.now }
-{
-    texts.iter().all(|text| is_among(text.as_str(), others))
+    if m.patterns.len() <= FEW || n.patterns.len() <= FEW {
+        return Ok(all_by_scan(m, n));
+    }
+    filed_cover(alloc, &m.patterns, &n.patterns, m.fold)
 }
 
 /// Whether the two are equal up to the order and repeats of values.
-fn same_resource(m: &PolicyResource, n: &PolicyResource) -> bool
-    ensures { result ≡ same_resource m.now n.now }
+fn equals(alloc: Global, m: &PolicyResource, n: &PolicyResource) -> Result<bool, NoMemory>
+    ensures { IfOk result (λ b. b ≡ equals m.now n.now) }
 {
-    same_flag(m.excludes, n.excludes)
-        && (same_flag(m.recursive, n.recursive)
-            && (are_among(m.values.as_slice(), n.values.as_slice())
-                && are_among(n.values.as_slice(), m.values.as_slice())))
+    if !same_flag(m.excludes, n.excludes) {
+        return Ok(false);
+    }
+    if !same_flag(m.recursive, n.recursive) {
+        return Ok(false);
+    }
+    same_texts(alloc, m.values.as_slice(), n.values.as_slice())
 }
 
 /// Whether the resource isn't excluding and has the written value `*`.
@@ -55,29 +62,37 @@ fn is_open(resource: &PolicyResource) -> bool
 }
 
 /// Whether of two resources of one level the first covers the second.
-fn level_covers(m: &ReadLevel, n: &ReadLevel) -> bool
-    ensures { result ≡ form_covers m.now n.now }
+fn level_covers(alloc: Global, m: &ReadLevel, n: &ReadLevel) -> Result<bool, NoMemory>
+    ensures { IfOk result (λ b. b ≡ form_covers m.now n.now) }
 {
-    if m.written.excludes || n.written.excludes {
-        same_resource(m.written, n.written) || is_open(m.written)
-    } else {
-        values_cover(m, n)
+    if !m.written.excludes && !n.written.excludes {
+        return values_cover(alloc, m, n);
     }
+    if equals(alloc, m.written, n.written)? {
+        return Ok(true);
+    }
+    Ok(is_open(m.written))
 }
 
-fn level_covered(m: &[ReadLevel], n: &ReadLevel) -> bool
-    ensures { result ≡ form_covered m.now n.now }
+fn level_covered(alloc: Global, m: &[ReadLevel], n: &ReadLevel) -> Result<bool, NoMemory>
+    ensures { IfOk result (λ b. b ≡ form_covered m.now n.now) }
 {
-    match find_named(m, n.name()) {
-        Some(level) => level_covers(level, n),
-        None => false,
-    }
+    let Some(level) = find_named(m, n.name()) else {
+        return Ok(false);
+    };
+    let covered = level_covers(alloc, level, n)?;
+    Ok(covered)
 }
 
-fn all_covered(m: &[ReadLevel], n: &[ReadLevel]) -> bool
-    ensures { result ≡ list_all (form_covered m.now) n.now }
+fn all_covered(alloc: Global, m: &[ReadLevel], n: &[ReadLevel]) -> Result<bool, NoMemory>
+    ensures { IfOk result (λ b. b ≡ list_all (form_covered m.now) n.now) }
 {
-    n.iter().all(|level| level_covered(m, level))
+    for level in n {
+        if !level_covered(alloc, m, level)? {
+            return Ok(false);
+        }
+    }
+    Ok(true)
 }
 
 fn is_shared_or_open(n: &[ReadLevel], level: &ReadLevel) -> bool
@@ -93,21 +108,38 @@ fn all_shared_or_open(n: &[ReadLevel], m: &[ReadLevel]) -> bool
 }
 
 /// Whether the levels of the first map cover those of the second.
-fn map_covers(m: &[ReadLevel], n: &[ReadLevel]) -> bool
-    ensures { result ≡ form_map_covers m.now n.now }
+fn map_covers(alloc: Global, m: &[ReadLevel], n: &[ReadLevel]) -> Result<bool, NoMemory>
+    ensures { IfOk result (λ b. b ≡ form_map_covers m.now n.now) }
 {
-    all_covered(m, n) && all_shared_or_open(n, m)
+    if !all_covered(alloc, m, n)? {
+        return Ok(false);
+    }
+    Ok(all_shared_or_open(n, m))
 }
 
-fn map_covered(maps: &[ReadMap], n: &[ReadLevel]) -> bool
-    ensures { result ≡ form_map_covered maps.now n.now }
+fn map_covered(alloc: Global, maps: &[ReadMap], n: &[ReadLevel]) -> Result<bool, NoMemory>
+    ensures { IfOk result (λ b. b ≡ form_map_covered maps.now n.now) }
 {
-    maps.iter().any(|map| map_covers(&map.levels, n))
+    for map in maps {
+        if map_covers(alloc, &map.levels, n)? {
+            return Ok(true);
+        }
+    }
+    Ok(false)
 }
 
 /// Whether each of the other maps is covered by one of these.
-pub(crate) fn maps_cover(maps: &[ReadMap], others: &[ReadMap]) -> bool
-    ensures { result ≡ form_maps_cover maps.now others.now }
+pub(crate) fn maps_cover(
+    alloc: Global,
+    maps: &[ReadMap],
+    others: &[ReadMap],
+) -> Result<bool, NoMemory>
+    ensures { IfOk result (λ b. b ≡ form_maps_cover maps.now others.now) }
 {
-    others.iter().all(|map| map_covered(maps, &map.levels))
+    for other in others {
+        if !map_covered(alloc, maps, &other.levels)? {
+            return Ok(false);
+        }
+    }
+    Ok(true)
 }

@@ -60,7 +60,8 @@ fn covers(
     ensures { IfOk result (λ b. (p : Written) → maps.now ≡ map_forms def.now (maps_of p) → b ≡ policy_covers def.now policy.now p) }
 {
     let read = read_maps(alloc, def, policy)?;
-    Ok(maps_cover(&read, maps))
+    let covered = maps_cover(alloc, &read, maps)?;
+    Ok(covered)
 }
 
 impl<'a> Asked<'a> {

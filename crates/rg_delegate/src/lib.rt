@@ -7,6 +7,7 @@ mod authority;
 mod candidates;
 mod covering;
 mod delegation;
+mod filing;
 mod laws;
 mod listing;
 mod lookups;

@@ -1,24 +1,13 @@
 // What a state holds under a name or an id.
 ghost use Rattle.std.specs.Prelude.{◌≡◌, option_map};
 ghost use Rattle.std.specs.Str.{chars};
-ghost use Rattle.rg_cmd.specs.Lookups.{def_of, groups_of, policy_at, zone_at};
+ghost use Rattle.rg_cmd.specs.Lookups.{groups_of, policy_at, zone_at};
 
 use rg_base::{PolicyId, Text, find_named};
 use rg_cmd::State;
-use rg_defs::ServiceDef;
 use rg_policy::Policy;
 use rg_shared::Shared;
 use rg_zone_rules::ZoneRow;
-
-/// The definition of the policy's service.
-pub(crate) fn def_for<'a>(state: &'a State, policy: &Policy) -> Option<&'a ServiceDef>
-    ensures { option_map (λ d. d.now) result ≡ def_of state.now policy.now.service }
-{
-    match find_named(state.services.as_slice(), policy.service.as_str()) {
-        Some(row) => find_named(state.defs.as_slice(), row.def.as_str()),
-        None => None,
-    }
-}
 
 pub(crate) fn zone_at<'a>(state: &'a State, name: &str) -> Option<&'a ZoneRow>
     ensures { option_map (λ z. z.now) result ≡ zone_at state.now (chars name.now) }

@@ -1,3 +1,4 @@
+pub mod Epoch
 pub mod Exposition
 pub mod Page
 pub mod Standing

@@ -1,6 +1,7 @@
 // What a service has done since its start.
 use crate::family::{Family, Kind};
 use crate::tallies::Tallies;
+use crate::watched::{Inside, Newest};
 use rg_base::{Moment, NoMemory};
 use rg_threads::{Halt, HaltCause};
 use std::alloc::Global;
@@ -138,6 +139,7 @@ impl Metrics {
         &self,
         alloc: Global,
         families: &mut Vec<Family>,
+        inside: Inside,
         now: Moment,
     ) -> Result<(), NoMemory> {
         let gauges = [
@@ -145,17 +147,27 @@ impl Metrics {
             ("rangerd_serving", u64::from(self.is_serving())),
             ("rangerd_stopped", u64::from(self.stopped().is_some())),
             ("rangerd_kept_commands", self.kept()),
+            ("rangerd_dropped_sinks", inside.dropped_sinks),
         ];
         for (name, value) in gauges {
             add(families, Family::of(alloc, Kind::Gauge, name, value)?)?;
         }
-        Ok(())
+        match inside.newest {
+            Some(newest) => add_newest(alloc, families, newest),
+            None => Ok(()),
+        }
     }
 
-    /// All of it, as it stands at this moment.
-    pub fn families(&self, alloc: Global, now: Moment) -> Result<Vec<Family>, NoMemory> {
+    /// All of it, as it stands at this moment, with what is seen of the service. Where nothing is published yet its numbers are left
+    /// out.
+    pub fn families(
+        &self,
+        alloc: Global,
+        inside: Inside,
+        now: Moment,
+    ) -> Result<Vec<Family>, NoMemory> {
         let mut families = Vec::new(alloc);
-        self.add_gauges(alloc, &mut families, now)?;
+        self.add_gauges(alloc, &mut families, inside, now)?;
         let links = self.links.load(Ordering::Relaxed);
         add(
             &mut families,
@@ -185,4 +197,18 @@ fn add(families: &mut Vec<Family>, family: Family) -> Result<(), NoMemory> {
         Ok(()) => Ok(()),
         Err(_) => Err(NoMemory),
     }
+}
+
+/// The numbers of the newest publication.
+fn add_newest(alloc: Global, families: &mut Vec<Family>, newest: Newest) -> Result<(), NoMemory> {
+    let gauges = [
+        ("rangerd_publications", newest.serial.0),
+        ("rangerd_policy_version", newest.policy_version.0),
+        ("rangerd_role_version", newest.role_version.0),
+        ("rangerd_tag_version", newest.tag_version.0),
+    ];
+    for (name, value) in gauges {
+        add(families, Family::of(alloc, Kind::Gauge, name, value)?)?;
+    }
+    Ok(())
 }

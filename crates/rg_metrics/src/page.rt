@@ -5,6 +5,7 @@ ghost use Rattle.rg_metrics.specs.Page.{page_text};
 use crate::family::print_families;
 use crate::metrics::Metrics;
 use crate::standing::{Standing, print_standing};
+use crate::watched::{Inside, Watched};
 use rg_base::{Failed, Moment, NoMemory};
 use rg_http::{Framer, Message, Next, write_whole};
 use rg_ports::{Clock, Link, Listener};
@@ -34,29 +35,41 @@ fn page(alloc: Global, status: &str, of: &str, body: &str) -> Result<String, NoM
 }
 
 /// How the service stands.
-fn standing(alloc: Global, metrics: &Metrics, now: Moment) -> Result<String, NoMemory> {
+fn standing(
+    alloc: Global,
+    metrics: &Metrics,
+    inside: Inside,
+    now: Moment,
+) -> Result<String, NoMemory> {
     let standing = Standing {
         kept: metrics.kept(),
         seconds: metrics.seconds(now),
         serving: metrics.is_serving(),
         stopped: metrics.stopped(),
+        inside,
     };
     let body = print_standing(alloc, standing)?;
     page(alloc, "200 OK", JSON, body.as_str())
 }
 
 /// What it has done.
-fn exposition(alloc: Global, metrics: &Metrics, now: Moment) -> Result<String, NoMemory> {
-    let families = metrics.families(alloc, now)?;
+fn exposition(
+    alloc: Global,
+    metrics: &Metrics,
+    inside: Inside,
+    now: Moment,
+) -> Result<String, NoMemory> {
+    let families = metrics.families(alloc, inside, now)?;
     let body = print_families(alloc, families.as_slice())?;
     page(alloc, "200 OK", EXPOSITION, body.as_str())
 }
 
 /// The page that the message asks for.
-fn answer(
+fn answer<W: Watched>(
     alloc: Global,
     message: &Message,
     metrics: &Metrics,
+    watched: &W,
     now: Moment,
 ) -> Result<String, NoMemory> {
     if message.method.as_str() != "GET" {
@@ -68,18 +81,19 @@ fn answer(
         );
     }
     match message.target.as_str() {
-        "/service/health" => standing(alloc, metrics, now),
-        "/service/metrics" => exposition(alloc, metrics, now),
+        "/service/health" => standing(alloc, metrics, watched.look(), now),
+        "/service/metrics" => exposition(alloc, metrics, watched.look(), now),
         _ => page(alloc, "404 Not Found", JSON, "{\"error\":\"path\"}"),
     }
 }
 
 /// Answers the first message of the link: `GET /service/health` by how the service stands, `GET /service/metrics` by what it has done.
 /// Bytes that are no message aren't answered. Where the link fails, or memory is refused, so is this.
-pub fn serve_page<T: Link>(
+pub fn serve_page<T: Link, W: Watched>(
     alloc: Global,
     link: &mut T,
     metrics: &Metrics,
+    watched: &W,
     now: Moment,
 ) -> Result<(), Failed> {
     let Ok(mut framer) = Framer::new(alloc) else {
@@ -88,7 +102,7 @@ pub fn serve_page<T: Link>(
     let Ok(Next::Message(message)) = framer.next(alloc, link) else {
         return Err(Failed);
     };
-    match answer(alloc, &message, metrics, now) {
+    match answer(alloc, &message, metrics, watched, now) {
         Ok(text) => write_whole(link, text.as_str().as_bytes()),
         Err(NoMemory) => Err(Failed),
     }
@@ -98,17 +112,18 @@ pub fn serve_page<T: Link>(
 const PAUSE: u64 = 1;
 
 /// Serves a page over each link of the listener, one after another, until no link is to come. A link that fails is let go.
-pub fn serve_pages<R: rt::Clock, N: Listener, C: Clock>(
+pub fn serve_pages<R: rt::Clock, N: Listener, C: Clock, W: Watched>(
     rt: &R,
     alloc: Global,
     net: &mut N,
     clock: &mut C,
     metrics: &Metrics,
+    watched: &W,
 ) {
     for _ in 0..u64::MAX {
         match net.accept() {
             Ok(Some(mut link)) => {
-                let _ = serve_page(alloc, &mut link, metrics, clock.now());
+                let _ = serve_page(alloc, &mut link, metrics, watched, clock.now());
             }
             Ok(None) => return,
             Err(Failed) => thread::sleep(rt, Duration::from_secs(PAUSE)),

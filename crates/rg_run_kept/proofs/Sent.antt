@@ -1,7 +1,8 @@
--- The keeper of a file may cross threads. `search` alone stops at its bounds where the database's layers begin.
+-- The keeper of a file may cross threads, and so may what the pages see. `search` alone stops at its bounds where the database's layers
+-- begin, and where a pass does.
 use denote.RattleType.{RattleType}
-use denote.Param.Send.{IsSend, sendable}
-use denote.Param.SendFields.{declared_send}
+use denote.Param.Send.{IsSend, IsSync, sendable}
+use denote.Param.SendFields.{declared_send, declared_sync}
 use Rattle.std.proofs.Crossing.{crosses}
 use Rattle.std.proofs.fs.File.TheSendSync as file
 use Rattle.sqlite_disk.proofs.modelled.Modelled.TheSendSync as modelled
@@ -16,8 +17,13 @@ use Rattle.sqlite_store.proofs.store.FileStore.TheSendSync as store
 use Rattle.sqlite_store.specs.contracts.store.FileStore as S
 use Rattle.sqlite_disk.specs.declared.Disk as disk
 use Rattle.rg_record_store.proofs.sql_keeper.SqlKeeper.TheSendSync as sql_keeper
+use Rattle.rg_audit_file.proofs.drops.Drops.TheSendSync as drops
 use Rattle.rg_metrics.proofs.metrics.Metrics.TheSendSync as metrics
+use Rattle.rg_publish.proofs.Sent.{pass_send}
 use Rattle.rg_run_kept.specs.contracts.file_keeper.FileKeeper as K
+use Rattle.rg_run_kept.specs.contracts.watch.Seen as N
+use Rattle.rg_run_kept.specs.contracts.watch.Watch as W
+use Rattle.rg_run_kept.specs.contracts.watch.Watching as I
 
 -- what only contracts read owns nothing
 record_send : IsSend E.the_row
@@ -43,3 +49,17 @@ store_send = store.the_send FileRow FileGhosts file_send
 
 pub keeper_send : IsSend K.the_row
 keeper_send = declared_send K.the_type (search (sendable, sql_keeper.the_send, store_send) depth 20, (search sendable depth 20, (search (crosses, sendable, metrics.the_send, metrics.the_sync) depth 40, tt)))
+
+-- ---- what the pages see
+
+watching_send : IsSend I.the_row
+watching_send = declared_send I.the_type (search sendable depth 20, (search (sendable, pass_send) depth 20, (search sendable depth 20, tt)))
+
+watch_send : IsSend W.the_row
+watch_send = declared_send W.the_type (search (crosses, sendable, watching_send) depth 40, tt)
+
+watch_sync : IsSync W.the_row
+watch_sync = declared_sync W.the_type (search (crosses, sendable, watching_send) depth 40, tt)
+
+pub seen_send : IsSend N.the_row
+seen_send = declared_send N.the_type (search (crosses, sendable, drops.the_send, drops.the_sync) depth 40, (search (crosses, sendable, watch_send, watch_sync) depth 40, tt))

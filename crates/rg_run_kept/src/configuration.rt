@@ -6,6 +6,7 @@ ghost use Rattle.rg_run_kept.specs.Configuring.{config_taken};
 use rg_admin::{Admin, StartFault};
 use rg_base::{Moment, TryCopy};
 use rg_cmd::{Ask, Config};
+use rg_metrics::Epoch;
 use rg_run_script::Worker;
 use rg_script::{Line, LineFault, read_line};
 use std::alloc::Global;
@@ -15,6 +16,8 @@ use std::marker::Model;
 #[derive(Drop)]
 pub(crate) struct Configuration {
     pub config: Option<Config>,
+    /// That of the last line that told one, before any record.
+    pub epoch: Epoch,
     /// How many lines were read.
     pub lines: u64,
 }
@@ -45,6 +48,7 @@ impl Configuration {
     {
         Configuration {
             config: None,
+            epoch: Epoch::of_line(&[]),
             lines: 0,
         }
     }
@@ -88,7 +92,10 @@ impl Worker for Configuration {
         self.lines = self.lines.saturating_add(1);
         match read_line(alloc, line, now) {
             Ok(Line::Blank) => Ok(()),
-            Ok(Line::Config(config)) => self.take(alloc, config),
+            Ok(Line::Config(config)) => {
+                self.epoch = Epoch::of_line(line);
+                self.take(alloc, config)
+            }
             Ok(Line::Admin(ask)) => Err(refuse(ask)),
             Ok(Line::Facts(_)) => Err(LineFault::Bad),
             Ok(Line::Refresh) => Err(LineFault::Bad),

@@ -7,8 +7,10 @@ mod opening;
 mod pages;
 mod program;
 mod serving;
+mod watch;
 mod words;
 
 pub use opening::Keeping;
 pub use program::{out_of_memory, refused, start};
 pub use serving::{Ended, serve_kept};
+pub use watch::Watch;

@@ -6,6 +6,7 @@ ghost use Rattle.rg_admin.specs.Starting.{start_fault, started};
 ghost use Rattle.rg_keep.specs.Keeping.{IsCause, Reopens};
 ghost use Rattle.rg_run_kept.specs.Opening.{Begins};
 
+use crate::watch::Watch;
 use rg_admin::{Admin, StartFault};
 use rg_ask_wire::read_ask;
 use rg_base::{NoMemory, TryCopy};
@@ -19,11 +20,12 @@ use rg_threads::Halt;
 use std::alloc::{AllocError, Global};
 use std::sync::{Arc, Wait};
 
-/// A keeper, and what is set where it takes no more changes.
+/// A keeper, what is set where it takes no more changes, and what the service hands to those who watch it.
 #[derive(Drop)]
 pub struct Keeping<P: Drop> {
     pub keeper: P,
     pub halt: Arc<Halt>,
+    pub watch: Arc<Watch>,
 }
 
 /// A service that is kept, before it serves links.
@@ -174,6 +176,19 @@ fn record<J: Configured, P: Keeper + Drop, Q: Wait + Drop>(
     }
 }
 
+/// The service, of which those who watch it have a pass from now on.
+fn watched<J: Configured, P: Keeper + Drop, Q: Wait + Drop, R: Wait>(
+    rt: &R,
+    opened: Kept<J, P, Q>,
+    watch: &Watch,
+) -> Kept<J, P, Q>
+    ensures { result ≡ opened }
+{
+    let (opened, pass) = opened.watch();
+    watch.begin(rt, pass);
+    opened
+}
+
 /// The service of the configuration over the records, which are asked again, and what it tells of its recorder. Its recorder and its
 /// refresher wait by a handle each.
 pub(crate) fn open_kept<J: Configured, P: Keeper + Drop, Q: Wait + Drop, R: Wait>(
@@ -189,12 +204,17 @@ pub(crate) fn open_kept<J: Configured, P: Keeper + Drop, Q: Wait + Drop, R: Wait
     ensures { IfOk result (λ t. Begins config workers t.0) }
 {
     let (recording, refreshing) = handles;
-    let Keeping { keeper, halt } = keeping;
+    let Keeping {
+        keeper,
+        halt,
+        watch,
+    } = keeping;
     let (mine, other) = both_signals(alloc, halt)?;
     let seen = halt_of(&mine)?;
     let admin = record::<J, P, Q>(recording, alloc, config, keeper, other)?;
     let mut opened = Opened::over(refreshing, alloc, admin, workers)?.halted_by(seen);
     ask_again::<J, P, Q, R>(rt, alloc, &mut opened, &mine)?;
     let (opened, _) = opened.refresh(rt, alloc)?;
+    let opened = watched::<J, P, Q, R>(rt, opened, &watch);
     Ok((opened, mine))
 }

@@ -1,6 +1,7 @@
 // The pages on health and metrics.
 ghost use Rattle.std.specs.Prelude.{◌≡◌, ◌≢◌, IfErr};
 
+use crate::watch::Seen;
 use rg_metrics::{Metrics, serve_pages};
 use rg_ports::{Listener, TcpNet, WallClock};
 use rg_run_script::Status;
@@ -8,20 +9,16 @@ use std::sync::Arc;
 use std::thread;
 use std::thread::Threads;
 
-/// Serves the pages at the address, on a thread of its own that goes on until the program ends: a check isn't queued behind busy links.
-pub(crate) fn start_pages<R: Threads>(
-    rt: &HostRuntime,
+/// Serves the pages over these links, on a thread of its own.
+fn start_thread<R: Threads>(
+    host: HostRuntime,
     threads: &R,
-    address: &str,
+    net: TcpNet<HostRuntime>,
     metrics: Arc<Metrics>,
+    seen: Seen,
 ) -> Result<(), Status>
-    ensures { IfErr result (λ status. status ≢ Status.Usage) }
+    ensures { IfErr result (λ status. status ≡ Status.NoMemory) }
 {
-    let host = *rt;
-    let mut net = TcpNet::new(host);
-    if net.listen(address).is_err() {
-        return Err(Status::NetFault);
-    }
     match thread::spawn(threads, move || {
         let mut net = net;
         serve_pages(
@@ -30,9 +27,27 @@ pub(crate) fn start_pages<R: Threads>(
             &mut net,
             &mut WallClock(host),
             &metrics,
+            &seen,
         );
     }) {
         Ok(_) => Ok(()),
         Err(_) => Err(Status::NoMemory),
     }
+}
+
+/// Serves the pages at the address, on a thread of its own that goes on until the program ends: a check isn't queued behind busy links.
+pub(crate) fn start_pages<R: Threads>(
+    rt: &HostRuntime,
+    threads: &R,
+    address: &str,
+    metrics: Arc<Metrics>,
+    seen: Seen,
+) -> Result<(), Status>
+    ensures { IfErr result (λ status. status ≢ Status.Usage) }
+{
+    let mut net = TcpNet::new(*rt);
+    if net.listen(address).is_err() {
+        return Err(Status::NetFault);
+    }
+    start_thread(*rt, threads, net, metrics, seen)
 }

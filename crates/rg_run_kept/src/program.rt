@@ -8,8 +8,9 @@ use crate::file_keeper::FileKeeper;
 use crate::opening::Keeping;
 use crate::pages::start_pages;
 use crate::serving::{Ended, serve_kept};
+use crate::watch::{Seen, Watch};
 use crate::words::{Words, wanted_of};
-use rg_audit_file::{AuditFile, SinkHooks};
+use rg_audit_file::{AuditFile, Drops, SinkHooks};
 use rg_base::{Moment, NoMemory, Text};
 use rg_metrics::{CountedNet, Metrics};
 use rg_ports::{Clock, FreeGate, StdSink, StdSource, TcpNet, WallClock};
@@ -23,27 +24,38 @@ use std::thread::Threads;
 /// How many links are served at once. A worker serves its link to the end, so a silent client keeps it.
 const WORKERS: u32 = 64;
 
-/// The hooks of a worker: audit lines go to the file that the words name, if they name one.
-fn hooks_of(rt: &HostRuntime, words: &Words) -> Result<SinkHooks<AuditFile>, Status>
-    ensures { IfErr result (λ status. status ≡ Status.WriteFault) }
+/// The hooks of a worker: audit lines go to the file that the words name, if they name one. Once it takes no more it is counted.
+fn hooks_of(
+    rt: &HostRuntime,
+    words: &Words,
+    drops: &Arc<Drops>,
+) -> Result<SinkHooks<AuditFile>, Status>
+    ensures { IfErr result (λ status. status ≢ Status.Usage) }
 {
     let Some(path) = words.audit else {
         return Ok(SinkHooks::new(None));
     };
-    match AuditFile::open(rt, path) {
-        Ok(file) => Ok(SinkHooks::new(Some(file))),
-        Err(_) => Err(Status::WriteFault),
+    let Ok(file) = AuditFile::open(rt, path) else {
+        return Err(Status::WriteFault);
+    };
+    match Arc::try_clone(drops) {
+        Ok(drops) => Ok(SinkHooks::new(Some(file)).counted_by(drops)),
+        Err(_) => Err(Status::NoMemory),
     }
 }
 
 /// Those of all workers.
-fn hooks_of_all(rt: &HostRuntime, words: &Words) -> Result<Vec<SinkHooks<AuditFile>>, Status>
+fn hooks_of_all(
+    rt: &HostRuntime,
+    words: &Words,
+    drops: &Arc<Drops>,
+) -> Result<Vec<SinkHooks<AuditFile>>, Status>
     ensures number { IfOk result (λ hooks. length hooks.items ≡ 64) }
     ensures stopped { IfErr result (λ status. status ≢ Status.Usage) }
 {
     let mut all = Vec::new(rt.alloc());
     for made in 0..WORKERS {
-        let hooks = hooks_of(rt, words)?;
+        let hooks = hooks_of(rt, words, drops)?;
         if all.push(hooks).is_err() {
             return Err(Status::NoMemory);
         }
@@ -56,6 +68,8 @@ fn hooks_of_all(rt: &HostRuntime, words: &Words) -> Result<Vec<SinkHooks<AuditFi
 struct Shared {
     halt: Arc<Halt>,
     metrics: Arc<Metrics>,
+    drops: Arc<Drops>,
+    watch: Arc<Watch>,
 }
 
 impl Shared {
@@ -66,6 +80,16 @@ impl Shared {
         Ok(Shared {
             halt,
             metrics: Arc::new(alloc, metrics)?,
+            drops: Arc::new(alloc, Drops::new())?,
+            watch: Arc::new(alloc, Watch::new())?,
+        })
+    }
+
+    /// What the pages see.
+    fn seen(&self) -> Result<Seen, NoMemory> {
+        Ok(Seen {
+            drops: Arc::try_clone(&self.drops)?,
+            watch: Arc::try_clone(&self.watch)?,
         })
     }
 }
@@ -80,22 +104,23 @@ fn metrics_of(shared: &Shared) -> Result<Arc<Metrics>, Status>
     }
 }
 
-/// Those, the pages where the words ask for them, and the keeper.
+/// The pages where the words ask for them, and the keeper.
 fn prepare<R: Threads>(
     rt: &HostRuntime,
     threads: &R,
     words: &Words,
-) -> Result<(Shared, FileKeeper), Status>
+    shared: &Shared,
+) -> Result<FileKeeper, Status>
     ensures { IfErr result (λ status. status ≢ Status.Usage) }
 {
-    let Ok(shared) = Shared::new(rt.alloc(), WallClock(*rt).now()) else {
-        return Err(Status::NoMemory);
-    };
-    let keeper = FileKeeper::open(rt, words.file, metrics_of(&shared)?)?;
+    let keeper = FileKeeper::open(rt, words.file, metrics_of(shared)?)?;
     if let Some(address) = words.metrics {
-        start_pages(rt, threads, address, metrics_of(&shared)?)?;
+        let Ok(seen) = shared.seen() else {
+            return Err(Status::NoMemory);
+        };
+        start_pages(rt, threads, address, metrics_of(shared)?, seen)?;
     }
-    Ok((shared, keeper))
+    Ok(keeper)
 }
 
 /// Serves over what the machine has.
@@ -108,15 +133,28 @@ fn serve_words<R: Threads + Wait + Sync>(
     ensures stopped { IfErr result (λ status. status ≢ Status.Usage) }
 {
     let alloc = rt.alloc();
-    let hooks = hooks_of_all(rt, words)?;
+    let Ok(shared) = Shared::new(alloc, WallClock(*rt).now()) else {
+        return Err(Status::NoMemory);
+    };
+    let hooks = hooks_of_all(rt, words, &shared.drops)?;
     let Ok(address) = Text::copy_of(alloc, words.address) else {
         return Err(Status::NoMemory);
     };
-    let (Shared { halt, metrics }, keeper) = prepare(rt, threads, words)?;
+    let keeper = prepare(rt, threads, words, &shared)?;
+    let Shared {
+        halt,
+        metrics,
+        drops: _,
+        watch,
+    } = shared;
     let Ended { keeper, status } = serve_kept(
         threads,
         alloc,
-        Keeping { keeper, halt },
+        Keeping {
+            keeper,
+            halt,
+            watch,
+        },
         hooks,
         &mut StdSource::new(rt.stdin()),
         &mut StdSink::new(rt.stdout()),

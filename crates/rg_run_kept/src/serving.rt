@@ -10,8 +10,9 @@ use rg_base::{NoMemory, Text};
 use rg_cmd::Config;
 use rg_hook::RequestHooks;
 use rg_keep::ReopenCause;
+use rg_metrics::Epoch;
 use rg_ports::{Clock, Gate, Listener, Sink, Source};
-use rg_record_store::Keeper;
+use rg_record_store::{Keeper, KeeperFault};
 use rg_recorder::{Configured, ListRecorder, recorder_of};
 use rg_run_script::{Status, follow, name_bad_line, read_script, write_all};
 use rg_serve::{Outside, ServeFault, Served, serve};
@@ -95,24 +96,28 @@ fn status_of<K: Sink>(alloc: Global, sink: &mut K, cause: ReopenCause) -> Status
     }
 }
 
-/// The configuration that the script of these bytes tells; or else what the run ends with.
+/// The configuration that the script of these bytes tells, and the epoch under it before any record; or else what the run ends with.
 fn configuration<K: Sink, C: Clock>(
     alloc: Global,
     bytes: &[u8],
     sink: &mut K,
     clock: &mut C,
-) -> Result<Config, Status>
+) -> Result<(Config, Epoch), Status>
     requires { length bytes.now < 2 ^ 32 }
-    ensures told { IfOk result (λ config. IsTold bytes.now (C.given clock.old) (C.given clock.new) config × (start_fault config ≡ None)) }
+    ensures told { IfOk result (λ t. IsTold bytes.now (C.given clock.old) (C.given clock.new) t.0 × (start_fault t.0 ≡ None)) }
     ensures stopped { IfErr result (λ status. (status ≡ Status.BadLine) ⊎ ((status ≡ Status.WriteFault) ⊎ (status ≡ Status.NoMemory))) }
 {
     let mut told = Configuration::new();
     let Ok(worked) = follow(alloc, &mut told, bytes, clock) else {
         return Err(Status::NoMemory);
     };
-    let Configuration { config, lines } = told;
+    let Configuration {
+        config,
+        epoch,
+        lines,
+    } = told;
     let worked = match (worked.status, config) {
-        (Status::Done, Some(config)) => return Ok(config),
+        (Status::Done, Some(config)) => return Ok((config, epoch)),
         (Status::Done, None) => match name_bad_line(worked.text, lines.saturating_add(1)) {
             Ok(worked) => worked,
             Err(_) => return Err(Status::NoMemory),
@@ -120,6 +125,19 @@ fn configuration<K: Sink, C: Clock>(
         (_, _) => worked,
     };
     Err(name(sink, worked.text.as_str(), Status::BadLine))
+}
+
+/// The epoch with the first of the keeper's records, where it has one. The records stay as they are.
+fn epoch_over<P: Keeper>(alloc: Global, keeper: &mut P, epoch: Epoch) -> Result<Epoch, Status>
+    ensures same { P.kept keeper.new ≡ P.kept keeper.old }
+    ensures fault { IfErr result (λ status. (status ≡ Status.KeepFault) ⊎ (status ≡ Status.NoMemory)) }
+{
+    match keeper.fetch(alloc, 0) {
+        Ok(Some(first)) => Ok(epoch.with_record(first.as_slice())),
+        Ok(None) => Ok(epoch),
+        Err(KeeperFault::Failed) => Err(Status::KeepFault),
+        Err(KeeperFault::NoMemory) => Err(Status::NoMemory),
+    }
 }
 
 /// The last line of a service that has served its links.
@@ -249,11 +267,10 @@ fn serve_named<
     };
     let outside = Outside {
         address,
-        clock,
         gate,
         most: u64::MAX,
     };
-    match serve(rt, alloc, opened, hooks, net, outside) {
+    match serve(rt, alloc, opened, hooks, net, clock, outside) {
         Ok(served) => end(alloc, served, sink),
         Err(fault) => give_up(broken(&signals, fault)),
     }
@@ -292,23 +309,35 @@ pub fn serve_kept<
         option_map P.kept result.keeper ≡ Some (P.kept keeping.keeper) }
     ensures found { result.status ≡ Status.BadRecord → IsSome result.keeper → option_map P.kept result.keeper ≡ Some (P.kept keeping.keeper) }
 {
-    let Keeping { keeper, halt } = keeping;
+    let Keeping {
+        mut keeper,
+        halt,
+        watch,
+    } = keeping;
     let bytes = match read_script(alloc, source, sink) {
         Ok(bytes) => bytes,
         Err(status) => return give_back(keeper, status),
     };
-    let config = match configuration(alloc, bytes.as_slice(), sink, clock) {
-        Ok(config) => config,
+    let (config, epoch) = match configuration(alloc, bytes.as_slice(), sink, clock) {
+        Ok(told) => told,
         Err(status) => return give_back(keeper, status),
     };
     drop(bytes);
+    match epoch_over(alloc, &mut keeper, epoch) {
+        Ok(epoch) => watch.know(rt, epoch),
+        Err(status) => return give_back(keeper, status),
+    }
     let (keeper, checked) = check_records(alloc, &config, keeper);
     match checked {
         Ok(()) => serve_named::<Brand, P, K, C, N, G, H, R>(
             rt,
             alloc,
             config,
-            Keeping { keeper, halt },
+            Keeping {
+                keeper,
+                halt,
+                watch,
+            },
             hooks,
             sink,
             net,

@@ -77,11 +77,10 @@ fn take_links<
 {
     let outside = Outside {
         address,
-        clock,
         gate,
         most: links as u64,
     };
-    match serve(rt, alloc, opened, hooks, net, outside) {
+    match serve(rt, alloc, opened, hooks, net, clock, outside) {
         Ok(served) => match totals_of(alloc, served) {
             Ok(text) => Ok(text),
             Err(_) => Err(Status::NoMemory),

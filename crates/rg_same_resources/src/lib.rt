@@ -7,4 +7,4 @@ mod twins;
 
 pub use counts::{PrintCounts, has_print};
 pub use prints::{Prints, name_print_of, print_of, print_of_map, prints_of};
-pub use twins::{is_twin, same_levels, same_place};
+pub use twins::{is_twin, same_flag, same_levels, same_place, same_texts};

@@ -21,7 +21,8 @@ pub fn same_place(policy: &Policy, other: &Policy) -> bool
         && same_text(other.zone.as_str(), policy.zone.as_str())
 }
 
-fn same_flag(one: bool, other: bool) -> bool
+/// Whether both are set, or neither.
+pub fn same_flag(one: bool, other: bool) -> bool
     ensures { result ≡ same_flag one other }
 {
     if one { other } else { !other }
@@ -54,8 +55,8 @@ fn same_many_texts(alloc: Global, texts: &[Text], others: &[Text]) -> Result<boo
     Ok(all_among(&names, others))
 }
 
-/// Whether the lists have the same texts. What differs in its first text takes no memory.
-fn same_texts(alloc: Global, texts: &[Text], others: &[Text]) -> Result<bool, NoMemory>
+/// Whether the lists have the same texts, whatever their order and repeats. What differs in its first text takes no memory.
+pub fn same_texts(alloc: Global, texts: &[Text], others: &[Text]) -> Result<bool, NoMemory>
     ensures { IfOk result (λ same. same ≡ same_texts texts.now others.now) }
 {
     if !first_among(texts, others) || !first_among(others, texts) {

@@ -1,4 +1,3 @@
-pub mod Accepting
 pub mod Held
 pub mod Names
 pub mod Opened

@@ -1,6 +1,5 @@
 // Workers on threads of their own, and the calling thread, which gives them links.
-ghost use Rattle.std.specs.Prelude.{◌≡◌};
-ghost use Rattle.rg_serve.specs.Accepting.{HasAccepted, heard};
+ghost use Rattle.std.specs.Prelude.{◌≡◌, ◌⊎◌, ◌+◌, ◌≤◌, ◌<◌, true, IfOk, OnOk, OnErr};
 
 use crate::given::Given;
 use crate::naming::Naming;
@@ -63,9 +62,11 @@ fn accept_all<
     given: &mut Given<J>,
 ) -> Result<u64, Failed>
     requires none { given.old.book.total ≡ 0 }
-    ensures { HasAccepted given.old.most
-        (heard (N.given net.old) (N.ended net.old) (N.faults net.old))
-        (heard (N.given net.new) (N.ended net.new) (N.faults net.new)) given.new.book.total result }
+    ensures counted { IfOk result (λ n. given.new.book.total ≡ n) }
+    ensures given { IfOk result (λ n. N.given net.new ≡ N.given net.old + n) }
+    ensures all { IfOk result (λ n. (n ≤ given.old.most) × ((n ≡ given.old.most) ⊎ (N.ended net.new ≡ true))) }
+    ensures kept { OnOk result (N.faults net.new ≡ N.faults net.old) }
+    ensures failed { OnErr result (N.faults net.old < N.faults net.new) }
 {
     let most = given.most;
     for accepted in 0..most {
@@ -97,9 +98,11 @@ fn with_workers<
     given: Given<J>,
 ) -> (Result<u64, Failed>, Given<J>)
     requires none { given.book.total ≡ 0 }
-    ensures { HasAccepted given.most
-        (heard (N.given net.old) (N.ended net.old) (N.faults net.old))
-        (heard (N.given net.new) (N.ended net.new) (N.faults net.new)) result.1.book.total result.0 }
+    ensures counted { IfOk result.0 (λ n. result.1.book.total ≡ n) }
+    ensures given { IfOk result.0 (λ n. N.given net.new ≡ N.given net.old + n) }
+    ensures all { IfOk result.0 (λ n. (n ≤ given.most) × ((n ≡ given.most) ⊎ (N.ended net.new ≡ true))) }
+    ensures kept { OnOk result.0 (N.faults net.new ≡ N.faults net.old) }
+    ensures failed { OnErr result.0 (N.faults net.old < N.faults net.new) }
 {
     let (net, accepted, given) = thread::scope(
         thread::scope_env(),
@@ -107,9 +110,11 @@ fn with_workers<
         move |scope| -> (&mut N, Result<u64, Failed>, Given<J>)
             requires { given.book.total ≡ 0 }
             ensures name { result.0.ghost_name ≡ net.entry.ghost_name }
-            ensures accepted { HasAccepted given.most
-                (heard (N.given net.entry.now) (N.ended net.entry.now) (N.faults net.entry.now))
-                (heard (N.given result.0.now) (N.ended result.0.now) (N.faults result.0.now)) result.2.book.total result.1 }
+            ensures counted { IfOk result.1 (λ n. result.2.book.total ≡ n) }
+            ensures given { IfOk result.1 (λ n. N.given result.0.now ≡ N.given net.entry.now + n) }
+            ensures all { IfOk result.1 (λ n. (n ≤ given.most) × ((n ≡ given.most) ⊎ (N.ended result.0.now ≡ true))) }
+            ensures kept { OnOk result.1 (N.faults result.0.now ≡ N.faults net.entry.now) }
+            ensures failed { OnErr result.1 (N.faults net.entry.now < N.faults result.0.now) }
         {
             let mut given = given;
             let mut any_started = false;
@@ -152,9 +157,11 @@ pub(crate) fn with_watcher<
 ) -> (Result<u64, Failed>, Given<J>)
     requires none { given.book.total ≡ 0 }
     requires watcher { V.can_watch watcher.now }
-    ensures { HasAccepted given.most
-        (heard (N.given net.old) (N.ended net.old) (N.faults net.old))
-        (heard (N.given net.new) (N.ended net.new) (N.faults net.new)) result.1.book.total result.0 }
+    ensures counted { IfOk result.0 (λ n. result.1.book.total ≡ n) }
+    ensures given { IfOk result.0 (λ n. N.given net.new ≡ N.given net.old + n) }
+    ensures all { IfOk result.0 (λ n. (n ≤ given.most) × ((n ≡ given.most) ⊎ (N.ended net.new ≡ true))) }
+    ensures kept { OnOk result.0 (N.faults net.new ≡ N.faults net.old) }
+    ensures failed { OnErr result.0 (N.faults net.old < N.faults net.new) }
 {
     let (net, accepted, given) = thread::scope(
         thread::scope_env(),
@@ -162,9 +169,11 @@ pub(crate) fn with_watcher<
         move |scope| -> (&mut N, Result<u64, Failed>, Given<J>)
             requires { (given.book.total ≡ 0) × V.can_watch watcher.now }
             ensures name { result.0.ghost_name ≡ net.entry.ghost_name }
-            ensures accepted { HasAccepted given.most
-                (heard (N.given net.entry.now) (N.ended net.entry.now) (N.faults net.entry.now))
-                (heard (N.given result.0.now) (N.ended result.0.now) (N.faults result.0.now)) result.2.book.total result.1 }
+            ensures counted { IfOk result.1 (λ n. result.2.book.total ≡ n) }
+            ensures given { IfOk result.1 (λ n. N.given result.0.now ≡ N.given net.entry.now + n) }
+            ensures all { IfOk result.1 (λ n. (n ≤ given.most) × ((n ≡ given.most) ⊎ (N.ended result.0.now ≡ true))) }
+            ensures kept { OnOk result.1 (N.faults result.0.now ≡ N.faults net.entry.now) }
+            ensures failed { OnErr result.1 (N.faults net.entry.now < N.faults result.0.now) }
         {
             let _started = scope.spawn(
                 move ||

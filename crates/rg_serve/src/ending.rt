@@ -139,7 +139,6 @@ pub(crate) fn end<J: Naming, P: Recorder, R: Wait + Drop, W: Wait>(
         alloc,
         turn,
         bell: _,
-        router: _,
         halt: _,
         plugin: _,
         of: _,

@@ -129,9 +129,26 @@ impl<R: Wait + Drop, P: Recorder> Opened<R, P> {
         ensures same { result.0 ≡ self }
         ensures pass { IfSome result.1 (λ p. p.list ≡ take 1 self.published) }
     {
-        let Opened { mut begun } = self;
-        let pass = begun.watching.take();
-        (Opened { begun }, pass)
+        let Opened { begun } = self;
+        let Begun {
+            turn,
+            seat,
+            refresher,
+            seats,
+            passes,
+            watching,
+            halt,
+        } = begun;
+        let begun = Begun {
+            turn,
+            seat,
+            refresher,
+            seats,
+            passes,
+            watching: None,
+            halt,
+        };
+        (Opened { begun }, watching)
     }
 
     /// Asks the administration. It waits for its turn.

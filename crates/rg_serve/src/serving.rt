@@ -1,9 +1,8 @@
 // Links served by threads.
-ghost use Rattle.std.specs.Prelude.{◌≡◌, ◌⊎◌, ◌≤◌, ◌+◌, true, Some, length, IfOk, MatchResult};
+ghost use Rattle.std.specs.Prelude.{◌≡◌, ◌⊎◌, ◌≤◌, ◌<◌, ◌+◌, true, Some, length, IfOk, OnOk, OnErr, MatchResult};
 ghost use mathlib.Core.List.{IsPrefix};
 ghost use Rattle.rg_admin_laws.specs.Steps.{step};
 ghost use Rattle.rg_turn.specs.History.{IsLegal, state_after};
-ghost use Rattle.rg_serve.specs.Accepting.{HasAccepted, heard};
 ghost use Rattle.rg_serve.specs.Held.{IsHeld, begun};
 ghost use Rattle.rg_session.specs.Right.{AreDownloadedFor, AreRightFor};
 ghost use Rattle.rg_serve.specs.Served.{Counts, HasServed, IsCurrent};
@@ -21,7 +20,6 @@ use rg_admin::Recorder;
 use rg_base::{Failed, NoMemory, Text, TryCopy};
 use rg_hook::RequestHooks;
 use rg_ports::{Clock, Gate, Listener};
-use rg_rest::Router;
 use rg_session::{Bell, Totals};
 use rg_threads::Queue;
 use std::alloc::Global;
@@ -60,17 +58,24 @@ impl From<Failed> for ServeFault {
     }
 }
 
-/// What lies outside of a service, beside its listener.
+/// What lies outside of a service, beside its listener and its clock.
 #[derive(Drop)]
-pub struct Outside<'a, 'c, 'g, C, G> {
+pub struct Outside<'a, 'g, G> {
     /// Where the listener listens.
     pub address: &'a Text,
-    /// The workers share it: each message takes its moment.
-    pub clock: &'c mut C,
     /// To which the workers come before and after each decision.
     pub gate: &'g G,
     /// How many links are served at most.
     pub most: u64,
+}
+
+/// The same with the clock, which the workers share.
+#[derive(Drop)]
+struct Around<'a, 'k, 'c, 'g, C, G> {
+    address: &'a Text,
+    clock: &'k Mutex<&'c mut C>,
+    gate: &'g G,
+    most: u64,
 }
 
 /// The threads: the workers, and what refreshes beside them. Then what is left in the queue is served. Gives how many links were given.
@@ -93,9 +98,11 @@ fn attend<
     given: Given<J>,
 ) -> (Result<u64, Failed>, Counted<J>)
     requires none { given.book.total ≡ 0 }
-    ensures { HasAccepted given.most
-        (heard (N.given net.old) (N.ended net.old) (N.faults net.old))
-        (heard (N.given net.new) (N.ended net.new) (N.faults net.new)) result.1.book.total result.0 }
+    ensures counted { IfOk result.0 (λ n. result.1.book.total ≡ n) }
+    ensures given { IfOk result.0 (λ n. N.given net.new ≡ N.given net.old + n) }
+    ensures all { IfOk result.0 (λ n. (n ≤ given.most) × ((n ≡ given.most) ⊎ (N.ended net.new ≡ true))) }
+    ensures kept { OnOk result.0 (N.faults net.new ≡ N.faults net.old) }
+    ensures failed { OnErr result.0 (N.faults net.old < N.faults net.new) }
 {
     let crew = Crew {
         sessions,
@@ -129,7 +136,7 @@ fn run_named<
     service: Begun<Q, P>,
     hooks: Vec<H>,
     net: &mut N,
-    outside: Outside<C, G>,
+    around: Around<C, G>,
 ) -> Result<Served<P>, ServeFault>
     requires ledger { (blank.name ≡ J.name) × (blank.parts ≡ J.parts) × (J.parts ≡ length service.seats.items + 2) }
     requires names { (service.turn.turn ≡ J.turn) × (J.opening ≡ begun service.refresher.publisher) × (service.refresher.service ≡ J.plugin) }
@@ -137,7 +144,7 @@ fn run_named<
     requires held { IsHeld service.turn service.seat service.refresher.service service.refresher.publisher service.seats.items service.passes.items service.watching }
     requires workers { length hooks.items ≡ length service.seats.items }
     ensures given { IfOk result (λ s. N.given net.new ≡ N.given net.old + s.links) }
-    ensures all { IfOk result (λ s. (s.links ≤ outside.entry.most) × ((s.links ≡ outside.entry.most) ⊎ (N.ended net.new ≡ true))) }
+    ensures all { IfOk result (λ s. (s.links ≤ around.entry.most) × ((s.links ≡ around.entry.most) ⊎ (N.ended net.new ≡ true))) }
     ensures legal { IfOk result (λ s. (s.totals.past.start ≡ Some service.turn.start) × IsLegal step service.turn.start s.totals.past.history) }
     ensures admin { IfOk result (λ s. s.totals.admin ≡ state_after step service.turn.start s.totals.past.history) }
     ensures entries { IfOk result (λ s. length J.before.history + 1 ≤ length s.totals.past.history) }
@@ -165,36 +172,31 @@ fn run_named<
         watching: _,
         halt,
     } = service;
-    let Outside {
-        address,
-        clock,
-        gate,
-        most,
-    } = outside;
     let (book, mut mine) = blank.open::<J>();
     let waiting = mine.split_off(1, 0);
     let queue = Queue::new(alloc, waiting)?;
     let plugin = refresher.service.try_copy(alloc)?;
     let workers = workers_of::<J, P, H>(alloc, seats, passes, hooks, &mut mine)?;
-    let router = Router::new(alloc)?;
-    let clock = Mutex::new(clock);
-    net.listen(address.as_str())?;
+    net.listen(around.address.as_str())?;
     let following = Mutex::new(Following::new(refresher, seat));
     let common: Common<J, P> = Common {
         alloc,
         turn,
         bell: Bell::new(),
-        router,
         halt,
         plugin,
         of: PhantomData,
     };
     let sessions = Sessions {
         common: &common,
-        clock: &clock,
-        gate,
+        clock: around.clock,
+        gate: around.gate,
     };
-    let given = Given { most, book, mine };
+    let given = Given {
+        most: around.most,
+        book,
+        mine,
+    };
     let (accepted, counted) = attend(rt, &sessions, &following, &workers, queue, net, given);
     let links = accepted?;
     let Workers { places, hooks: _ } = workers;
@@ -204,7 +206,7 @@ fn run_named<
 
 /// Listens at the address, and serves up to so many links, with a thread for each of the hooks, which are those of a worker.
 /// Beside them another thread keeps the publications up with the history. When the last link is served it refreshes once more,
-/// and closes the service. The memory of the queue, the locks and the routes is taken before it listens.
+/// and closes the service. The memory of the queue and the locks is taken before it listens.
 ///
 /// A fault of a link ends that link alone. Where `accept` fails the links taken before are served too. Want of memory that a
 /// worker or a refresh meets is answered when all are served. The work of a worker whose thread can't be started is done by the
@@ -224,7 +226,8 @@ pub fn serve<
     opened: Opened<Q, P>,
     hooks: Vec<H>,
     net: &mut N,
-    outside: Outside<C, G>,
+    clock: &mut C,
+    outside: Outside<G>,
 ) -> Result<Served<P>, ServeFault>
     requires { length hooks.items ≡ opened.workers }
     // The links are those that the listener gave, and they are as many as were asked for, or the listener has ended.
@@ -253,6 +256,13 @@ pub fn serve<
 {
     let Opened { begun: service } = opened;
     let parts = service.seats.len() as u64 + 2;
+    let clock = Mutex::new(clock);
+    let around = Around {
+        address: outside.address,
+        clock: &clock,
+        gate: outside.gate,
+        most: outside.most,
+    };
     match run_named::<Brand, P, N, C, G, H, Q, R>(
         rt,
         alloc,
@@ -260,7 +270,7 @@ pub fn serve<
         service,
         hooks,
         net,
-        outside,
+        around,
     ) {
         Ok(served) => return Ok(served),
         Err(fault) => return Err(fault),

@@ -8,10 +8,9 @@ use rg_admin::{Admin, Recorder};
 use rg_base::Text;
 use rg_hook::RequestHooks;
 use rg_http::{Response, bytes_of};
-use rg_link::{Deciding, LinkFault, Setting, answer_link, send};
+use rg_link::{LinkFault, send, serve_link};
 use rg_ports::{Clock, Gate, Link};
 use rg_publish::Pass;
-use rg_rest::Router;
 use rg_session::Bell;
 use rg_threads::{Halt, HaltCause, SharedClock};
 use rg_turn::{Seat, Turn};
@@ -25,7 +24,6 @@ pub(crate) struct Common<J: Naming, P: Recorder> {
     pub alloc: Global,
     pub turn: Turn<Admin<P>>,
     pub bell: Bell,
-    pub router: Router,
     /// Why a link breaks off, where changes aren't taken any more.
     pub halt: Arc<Halt>,
     /// The plugin's service.
@@ -71,19 +69,20 @@ impl<'a, 'k, 'c, 'g, J: Naming, P: Recorder, C: Clock, G: Gate> Sessions<
         let common = self.common;
         let mut link = link;
         let mut clock = SharedClock::new(rt, self.clock);
-        let setting = Setting {
+        match serve_link(
             rt,
-            turn: &common.turn,
-            bell: &common.bell,
-            router: &common.router,
-            deciding: Deciding {
-                alloc: common.alloc,
-                gate: self.gate,
-                plugin: common.plugin.as_str(),
-                worker: number,
-            },
-        };
-        match answer_link(&setting, &mut link, seat, pass, &mut clock, hooks) {
+            common.alloc,
+            &mut link,
+            &common.turn,
+            seat,
+            pass,
+            &mut clock,
+            hooks,
+            self.gate,
+            &common.bell,
+            common.plugin.as_str(),
+            number,
+        ) {
             Ok(_) => return false,
             Err(LinkFault::Failed) => return false,
             Err(LinkFault::NoMemory) => {

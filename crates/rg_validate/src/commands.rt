@@ -13,7 +13,6 @@ use crate::existence::{
     definition_exists, policy_exists, role_exists, service_exists, tag_row_exists, user_exists,
     zone_exists,
 };
-use crate::lookups::def_of;
 use crate::policies::policy_fault;
 use crate::roles::{goes_in_no_circle, member_roles_exist, role_is_unused, roles_with};
 use crate::services::{keeps_definition, service_is_unused, service_name_is_new, tag_service_fits};
@@ -25,7 +24,7 @@ use crate::zones::{
     zone_values_suit,
 };
 use rg_base::{NoMemory, Text, is_name};
-use rg_cmd::{AdminCommand, Rule, ServiceRow, State};
+use rg_cmd::{AdminCommand, Rule, ServiceRow, State, def_of};
 use rg_defs::{DefFault, ServiceDef, check_def};
 use rg_policy::Policy;
 use rg_roles::RoleRow;

@@ -4,9 +4,8 @@ ghost use Rattle.std.specs.List.{find, slice_get};
 ghost use Rattle.std.specs.Str.{bytes_eq, chars};
 ghost use Rattle.rg_cmd.specs.Lookups.{def_at, def_of, service_at};
 
-use crate::lookups::{def_at, service_at};
 use rg_base::{NameIndex, Named, NoMemory, Text};
-use rg_cmd::{ServiceRow, State};
+use rg_cmd::{ServiceRow, State, def_at, service_at};
 use rg_defs::ServiceDef;
 use std::alloc::Global;
 use std::marker::Model;

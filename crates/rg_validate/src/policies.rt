@@ -12,9 +12,9 @@ ghost use Rattle.rg_same_resources.specs.Twins.{is_twin};
 ghost use Rattle.rg_validate.specs.Users.{time_zones_read};
 ghost use Rattle.rg_validate.specs.Valid.{IsValid};
 
-use crate::lookups::{has_id, is_tag_service, policy_at};
+use crate::lookups::{has_id, policy_at};
 use rg_base::{NameIndex, NoMemory, PolicyId, is_name, same_text};
-use rg_cmd::{Rule, State};
+use rg_cmd::{Rule, State, is_tag_service};
 use rg_cond::{TimeZoneFault, TimeZones, conditions_compile, schedules_read};
 use rg_defs::{Paths, ServiceDef};
 use rg_items::{entries_fit, lists_fit, outcomes_fit, priority_fits, subjects_fit, type_fits};

@@ -7,9 +7,8 @@ ghost use Rattle.rg_cmd.specs.declared.state.ServiceRow.{ServiceRow};
 ghost use Rattle.rg_validate.specs.Definitions.{keeps_definition, names_service, plugin_fits, service_is_unused, service_name_is_new, tag_service_fits};
 
 use crate::existence::service_exists;
-use crate::lookups::{has_def, is_tag, is_tag_service};
 use rg_base::{Text, is_empty, is_name, same_text};
-use rg_cmd::{ServiceRow, State};
+use rg_cmd::{ServiceRow, State, has_def, is_tag, is_tag_service};
 use rg_policy::Policy;
 use rg_shared::Shared;
 use rg_tags::TagRow;

@@ -6,9 +6,8 @@ ghost use Rattle.rg_validate.specs.Tags.{row_id_fits, row_stays_in, tagged_resou
 ghost use Rattle.rg_validate.specs.Valid.{definition_valid};
 
 use crate::existence::has_row_id;
-use crate::lookups::{def_of, is_tag_service};
 use rg_base::{NoMemory, same_text};
-use rg_cmd::State;
+use rg_cmd::{State, def_of, is_tag_service};
 use rg_defs::Paths;
 use rg_resmatch::tagged_fit;
 use rg_tags::TagRow;

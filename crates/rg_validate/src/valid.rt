@@ -14,14 +14,13 @@ ghost use Rattle.rg_validate.specs.Zones.{are_apart, are_apart_for};
 
 use crate::definitions::policy_suits;
 use crate::existence::definition_exists;
-use crate::lookups::def_of;
 use crate::policies::{policy_schedules_read, policy_subjects_fit, zone_fits};
 use crate::services::tag_service_fits;
 use crate::tags::{tagged_resources_fit, tagged_service_fits};
 use crate::users::time_zones_read;
 use crate::zones::{zone_levels_suit, zone_services_fit, zone_subjects_exist, zone_values_suit};
 use rg_base::{NoMemory, PolicyId, Text, all_names_distinct};
-use rg_cmd::{ServiceRow, State};
+use rg_cmd::{ServiceRow, State, def_of};
 use rg_defs::{DefFault, Paths, ServiceDef, check_def};
 use rg_items::priority_fits;
 use rg_policy::Policy;

@@ -12,9 +12,8 @@ ghost use Rattle.rg_validate.specs.Zones.{plain_services, tag_services, zone_is_
 
 use crate::def_index::DefIndex;
 use crate::definitions::names_with;
-use crate::lookups::{is_tag, is_tag_service};
 use rg_base::{NameIndex, NoMemory, Text, TryCopy, same_text};
-use rg_cmd::State;
+use rg_cmd::{State, is_tag, is_tag_service};
 use rg_defs::{Paths, tag_name};
 use rg_policy::Policy;
 use rg_shared::Shared;

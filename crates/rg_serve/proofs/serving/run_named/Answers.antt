@@ -1,7 +1,6 @@
-use Rattle.std.proofs.Common.{◌≡◌, Some, refl, subst}
+use Rattle.std.proofs.Common.{◌≡◌, ◌≤◌, ◌⊎◌, IfOk, Some, refl, subst, true}
 use Rattle.rg_turn.specs.Values.{TurnValue}
 use Rattle.rg_admin_laws.specs.Logs.{Administration}
-use Rattle.rg_serve.specs.Accepting.{HasAccepted}
 use Rattle.rg_serve.proofs.Opening.{first_following}
 use Rattle.rg_serve.proofs.serving.run_named.Goals as goal
 
@@ -13,4 +12,4 @@ new-requires-2 g c =
 
 pub returns-clause-all : goal.returns-clause-all
 returns-clause-all g c =
-    let got = subst (λ r. HasAccepted c.args.outside.most _ _ _ r) c.in_ok-links.was c.attend-accepted.ensures in (got.2, got.3)
+    subst (λ r. IfOk r (λ n. (n ≤ c.args.around.most) × ((n ≡ c.args.around.most) ⊎ (g.N.Listener.ended c.attend-accepted.new.net ≡ true)))) c.in_ok-links.was c.attend-accepted.ensures.all
