@@ -4,7 +4,7 @@ use Rattle.std.proofs.lemmas.Bool.{and_from, and_parts, false≢true}
 use Rattle.std.proofs.lemmas.Option.{slice_get-get_or}
 use Rattle.std.specs.List.{list_any, starts_with}
 use Rattle.std.specs.Option.{option_map_or}
-use Rattle.rg_base.proofs.Lists.{Contains-filter, Contains-map, Contains-slice_get, any_from, any_holds}
+use Rattle.rg_base.proofs.Lists.{Contains-filter, Contains-map, Contains-slice_get, any_from, any_holds, same_truth}
 use Rattle.rg_base.specs.Folding.{folded_char}
 use Rattle.rg_pattern.specs.declared.atoms.Atom.{Atom}
 use Rattle.rg_pattern.specs.declared.atoms.Atom.TheVariants.{Character, One, Any, User}
@@ -15,7 +15,6 @@ use Rattle.rg_trie.specs.declared.pair.Pair.{Pair}
 use Rattle.rg_trie.specs.Walked.{entries_under, is_under}
 use Rattle.rg_delegate.specs.Covering.{some_covers}
 use Rattle.rg_delegate.specs.Filing.{HoldsFirst, covers_at, filed_at}
-use Rattle.rg_delegate.proofs.Members.{both_ways}
 
 -- the literal prefix of a pattern that covers another begins the other's
 covering_begins : (fold : Bool) (q p : List Atom) → covers fold q p ≡ true → starts_with nat_eq (literal_prefix fold p) (literal_prefix fold q) ≡ true
@@ -54,4 +53,4 @@ module _ (fold : Bool) (patterns : List (List Atom)) (trie : List Pair) (p : Lis
 
   -- so it is enough to look at what is found
   pub filed_suffice : list_any (covers_at fold patterns p) found ≡ some_covers fold patterns p
-  filed_suffice = both_ways (list_any (covers_at fold patterns p) found) (some_covers fold patterns p) found_covers covering_found
+  filed_suffice = same_truth (list_any (covers_at fold patterns p) found) (some_covers fold patterns p) found_covers covering_found

@@ -1,14 +1,14 @@
 -- The items that were found grant an access exactly where it is delegated.
-use Rattle.std.proofs.Common.{◌<◌, ◌+◌, append-nil, get_or, length, take, ◌≡◌, ◌&&◌, ◌||◌, ℕ, Bool, true, false, cond, if◌then◌else◌, List, [], ◌∷◌, ◌++◌, map, filter, Option, Some, None, option_and_then, Contains, refl, sym, ap, ◌∙◌, subst}
+use Rattle.std.proofs.Common.{◌≡◌, ◌&&◌, ◌||◌, ℕ, Bool, true, false, cond, if◌then◌else◌, List, [], ◌∷◌, ◌++◌, map, filter, Option, Some, None, option_and_then, option_map, Contains, refl, sym, ap, ◌∙◌, subst}
 use Rattle.std.proofs.lemmas.Bool.{and_parts, and_from, and_right, false_from_ne_true, false≢true}
 use Rattle.std.proofs.lemmas.Option.{none-some}
 use Rattle.std.specs.Prelude.{ℤ}
 use Rattle.std.proofs.lemmas.Slice.Eq.{bytes_eq-Decides}
 use Rattle.std.specs.List.{list_all, list_any}
+use Rattle.std.specs.Option.{option_map_or}
 use Rattle.std.specs.Ordering.{int_eq}
 use Rattle.std.specs.Str.{bytes_eq}
-use Rattle.std.proofs.lemmas.Grind.{flat_map-append}
-use Rattle.rg_base.proofs.Lists.{Contains-filter, Contains-filtered, Contains-flat_map, Contains-flat_mapped, Contains-none, any_from, any_holds, find_contained, list_any-map}
+use Rattle.rg_base.proofs.Lists.{Contains-filter, Contains-filtered, Contains-flat_map, Contains-flat_mapped, Contains-mapped, Contains-none, any_from, any_holds, find_contained, list_any-map, same_truth}
 use Rattle.rg_cmd.specs.declared.state.ServiceRow.{ServiceRow}
 use Rattle.rg_cmd.specs.declared.state.State.{State}
 use Rattle.rg_defs.specs.Rules.{def_fault}
@@ -20,11 +20,11 @@ use Rattle.rg_policy.specs.Kinds.{access_policy}
 use Rattle.rg_delegate.specs.Accesses.{accesses}
 use Rattle.rg_delegate.specs.Authority.{Known, delegates, delegates_to, is_delegated, may_delegate, named}
 use Rattle.rg_delegate.specs.Covering.{policy_covers}
-use Rattle.rg_delegate.specs.Found.{Asking, FitsWhere, candidates, delegates_anything, delegates_some, is_candidate, is_wanted, items_in, items_of}
-use Rattle.rg_cmd.specs.Lookups.{def_at, def_of, policy_at, service_at}
+use Rattle.rg_delegate.specs.Compiled.{DefinedPolicy, under}
+use Rattle.rg_delegate.specs.Found.{Delegated, FitUnder, candidates, delegates_anything, delegates_some, delegations_of, is_candidate, is_wanted, items_in, items_of}
+use Rattle.rg_cmd.specs.Lookups.{def_at, def_of, is_of, policy_at, service_at}
 use Rattle.rg_delegate.specs.Ready.{Fits, IsReady}
-use Rattle.rg_delegate.proofs.Fitting.{map_next}
-use Rattle.rg_delegate.proofs.Members.{agree_all, both_ways}
+use Rattle.rg_delegate.proofs.Members.{agree_all}
 
 -- ---- one access
 
@@ -35,7 +35,7 @@ chosen false xs x h = absurd (Contains-none x h)
 taken : {X : Type 0} (b : Bool) (xs : List X) (x : X) → b ≡ true → Contains xs x → Contains (if b then xs else []) x
 taken b xs x e h = subst (λ b. Contains (if b then xs else []) x) (sym e) h
 
-module _ (a : Asking) (k : Known) (access : List ℕ) where
+module _ (a : DefinedPolicy) (k : Known) (access : List ℕ) where
   abbrev IsItem : Item → Bool
   IsItem i = any_grants a.def access i.accesses.items
 
@@ -70,9 +70,9 @@ module _ (a : Asking) (k : Known) (access : List ℕ) where
       four.0
 
   pub access_found : Contains (accesses a.def a.policy) access → (policies : List Policy) → list_any IsItem (items_in a k policies) ≡ list_any IsPolicy policies
-  access_found asked policies = both_ways _ _ (from_item policies) (from_policy asked policies)
+  access_found asked policies = same_truth _ _ (from_item policies) (from_policy asked policies)
 
--- ---- a policy that delegates nothing
+-- ---- a policy that gives no item
 
 none_pass : {X : Type 0} (p : X → Bool) (xs : List X) → list_any p xs ≡ false → filter p xs ≡ []
 none_pass p [] h = refl
@@ -81,21 +81,12 @@ none_pass p (x ∷ xs) h = at (p x) h (none_pass p xs) where
   at true k rest = absurd (false≢true (sym k))
   at false k rest = rest k
 
-either_nothing : {X : Type 0} (b : Bool) → let none : List X = [] in (if b then none else none) ≡ none
-either_nothing true = refl
-either_nothing false = refl
-
-pub none_delegated : (a : Asking) (k : Known) (q : Policy) → list_any (delegates_some a k) q.items.items ≡ false → items_of a k q ≡ []
-none_delegated a k q h =
-    ap (λ items. if may_delegate a.policy q && policy_covers a.def q a.policy then items else []) (none_pass (delegates_some a k) q.items.items h)
-    ∙ either_nothing (may_delegate a.policy q && policy_covers a.def q a.policy)
-
-pub none_covered : (a : Asking) (k : Known) (q : Policy) → policy_covers a.def q a.policy ≡ false → items_of a k q ≡ []
+pub none_covered : (a : DefinedPolicy) (k : Known) (q : Policy) → policy_covers a.def q a.policy ≡ false → items_of a k q ≡ []
 none_covered a k q h =
     ap (λ b. if b then filter (delegates_some a k) q.items.items else []) (and_right (may_delegate a.policy q) (policy_covers a.def q a.policy) h)
 
 -- a policy that is no candidate gives no item
-none_of_others : (a : Asking) (k : Known) (q : Policy) → is_candidate a.policy.service k q ≡ false → items_of a k q ≡ []
+none_of_others : (a : DefinedPolicy) (k : Known) (q : Policy) → is_candidate a.policy.service k q ≡ false → items_of a k q ≡ []
 none_of_others a k q h = at (may_delegate a.policy q && policy_covers a.def q a.policy) refl where
   at : (b : Bool) → (may_delegate a.policy q && policy_covers a.def q a.policy) ≡ b → (if b then filter (delegates_some a k) q.items.items else []) ≡ []
   at false e = refl
@@ -111,7 +102,7 @@ none_of_others a k q h = at (may_delegate a.policy q && policy_covers a.def q a.
       (any_from (delegates_anything k) q.items.items i.0 i.1 (and_from _ _ four.0 five.1)))))))
 
 -- so the candidates suffice
-pub candidates_suffice : (a : Asking) (k : Known) (policies : List Policy) → items_in a k (candidates a.policy.service k policies) ≡ items_in a k policies
+pub candidates_suffice : (a : DefinedPolicy) (k : Known) (policies : List Policy) → items_in a k (candidates a.policy.service k policies) ≡ items_in a k policies
 candidates_suffice a k [] = refl
 candidates_suffice a k (q ∷ policies) = at (is_candidate a.policy.service k q) refl (candidates_suffice a k policies) where
   at : (b : Bool) → is_candidate a.policy.service k q ≡ b → items_in a k (candidates a.policy.service k policies) ≡ items_in a k policies
@@ -119,25 +110,17 @@ candidates_suffice a k (q ∷ policies) = at (is_candidate a.policy.service k q)
   at true e rest = ap (λ items. items_of a k q ++ items) rest
   at false e rest = rest ∙ ap (λ items. items ++ items_in a k policies) (sym (none_of_others a k q e))
 
-pub ruleset nothing_found = (none_delegated, none_covered)
+pub ruleset nothing_found = (none_covered)
 
 -- ---- all accesses
 
-pub all_found : {R : Type 0} (read : R → Item) (s : State) (a : Asking) (k : Known) (found : List R) → map read found ≡ items_in a k s.policies.items
+pub all_found : {R : Type 0} (read : R → Item) (s : State) (a : DefinedPolicy) (k : Known) (found : List R) → map read found ≡ items_in a k s.policies.items
     → list_all (λ access. list_any (λ r. any_grants a.def access (read r).accesses.items) found) (accesses a.def a.policy) ≡ list_all (is_delegated s a.def k a.policy) (accesses a.def a.policy)
 all_found read s a k found e =
     agree_all (λ access. list_any (λ r. any_grants a.def access (read r).accesses.items) found) (is_delegated s a.def k a.policy) (accesses a.def a.policy)
     (λ access asked. sym (list_any-map (λ (i : Item). any_grants a.def access i.accesses.items) read found)
     ∙ ap (list_any (λ (i : Item). any_grants a.def access i.accesses.items)) e
     ∙ access_found a k access asked s.policies.items)
-
--- one more policy
-pub items_next : {R : Type 0} (read : R → Policy) (a : Asking) (k : Known) (policies : List R) (n : ℕ) (q : R) → n < length policies → q ≡ get_or policies n q
-    → items_in a k (map read (take (n + 1) policies)) ≡ items_in a k (map read (take n policies)) ++ items_of a k (read q)
-items_next read a k policies n q there is =
-    ap (items_in a k) (map_next read policies n q there is)
-    ∙ flat_map-append (items_of a k) (map read (take n policies)) (read q ∷ [])
-    ∙ ap (λ items. items_in a k (map read (take n policies)) ++ items) (append-nil (items_of a k (read q)))
 
 -- ---- what a state that is ready gives
 
@@ -150,12 +133,34 @@ def_is_there s service def e = at (service_at s service) e where
 pub def_is_lawful : (s : State) (service : List ℕ) (def : ServiceDef) → IsReady s → def_of s service ≡ Some def → def_fault def ≡ None
 def_is_lawful s service def ready e = ready.lawful def (def_is_there s service def e)
 
-pub candidates_fit : (s : State) (p : Policy) (def : ServiceDef) → IsReady s → def_of s p.service ≡ Some def → (q : Policy) → Contains s.policies.items q → FitsWhere (record { def = def; policy = p }) q
-candidates_fit s p def ready e q within may =
+-- those of the service pass V5 and V6 under its definition
+pub policies_fit : (s : State) (service : List ℕ) (def : ServiceDef) → IsReady s → def_of s service ≡ Some def → FitUnder def service s.policies.items
+policies_fit s service def ready e q within here = ready.fitting q within def (ap (def_of s) ((bytes_eq-Decides q.service service).0 here) ∙ e)
+
+pub of_its_service : (p q : Policy) → may_delegate p q ≡ true → is_of p.service q ≡ true
+of_its_service p q may =
     let one = and_parts q.enabled (int_eq q.policy_type access_policy && (bytes_eq q.service p.service && bytes_eq q.zone p.zone)) may in
     let two = and_parts (int_eq q.policy_type access_policy) (bytes_eq q.service p.service && bytes_eq q.zone p.zone) one.1 in
-    let three = and_parts (bytes_eq q.service p.service) (bytes_eq q.zone p.zone) two.1 in
-    ready.fitting q within def (ap (def_of s) ((bytes_eq-Decides q.service p.service).0 three.0) ∙ e)
+    (and_parts (bytes_eq q.service p.service) (bytes_eq q.zone p.zone) two.1).0
 
 pub held_fits : (s : State) (id : ℤ) (p : Policy) → IsReady s → policy_at s id ≡ Some p → Fits s p
 held_fits s id p ready e = ready.fitting p (find_contained (λ (q : Policy). int_eq q.id.0 id) s.policies.items p e).0
+
+-- ---- what is delegated in a service
+
+-- every one of these policies stands under the definition
+pub under_it : (def : ServiceDef) (policies : List Policy) (q : DefinedPolicy) → Contains (map (under def) policies) q → def ≡ q.def
+under_it def policies q within = let p = Contains-mapped (under def) policies q within in ap (λ (d : DefinedPolicy). d.def) p.2
+
+pub policies_under : (def : ServiceDef) (policies : List Policy) → map (λ (q : DefinedPolicy). q.policy) (map (under def) policies) ≡ policies
+policies_under def [] = refl
+policies_under def (p ∷ policies) = ap (λ policies. p ∷ policies) (policies_under def policies)
+
+-- where something is delegated, there is the definition, and it is as it says
+pub delegated_there : (service : List ℕ) (k : Known) (policies : List Policy) (o : Option ServiceDef) (d : Delegated) → Some d ≡ option_map (delegations_of service k policies) o
+    → (o ≡ Some d.def) × (d ≡ delegations_of service k policies d.def)
+delegated_there service k policies None d e = absurd (none-some d (sym e))
+delegated_there service k policies (Some def) d e =
+    let same = ap (λ (o : Option Delegated). option_map_or (λ d. d) o d) e in
+    let it = ap (λ (d : Delegated). d.def) same in
+    (ap Some (sym it), same ∙ ap (delegations_of service k policies) (sym it))

@@ -1,5 +1,5 @@
 -- Maps with their values read cover each other as they were written.
-use Rattle.std.proofs.Common.{◌≡◌, ◌⊎◌, ◌&&◌, ◌||◌, ℕ, Bool, true, false, cond, List, [], ◌∷◌, ◌++◌, Option, Some, None, option_map, Contains, refl, sym, ap, ◌∙◌, inl, inr}
+use Rattle.std.proofs.Common.{◌≡◌, ◌⊎◌, ◌&&◌, ◌||◌, ℕ, Bool, true, false, cond, List, [], ◌∷◌, ◌++◌, Option, Some, None, option_map, Contains, refl, sym, ap, ◌∙◌, subst, inl, inr}
 use Rattle.std.proofs.lemmas.Bool.{false≢true}
 use Rattle.std.proofs.lemmas.List.Elements.{Contains-append_cases}
 use Rattle.std.proofs.lemmas.List.Folds.{list_all-map}
@@ -16,7 +16,7 @@ use Rattle.rg_policy.specs.declared.policy.ResourceMap.{ResourceMap}
 use Rattle.rg_policy.specs.Maps.{maps_of}
 use Rattle.rg_resmatch.specs.Rules.{named_levels, policy_levels_fit}
 use Rattle.rg_resmatch.specs.Tests.{is_open}
-use Rattle.rg_delegate.specs.Compiled.{LevelForm, form_at, form_covered, form_covers, form_map_covered, form_map_covers, form_maps_cover, is_form_shared_or_open, level_form, map_form, map_forms}
+use Rattle.rg_delegate.specs.Compiled.{DefinedPolicy, IsRead, LevelForm, form_at, form_covered, form_covers, form_map_covered, form_map_covers, form_maps_cover, is_form_shared_or_open, level_form, map_form, map_forms}
 use Rattle.rg_delegate.specs.Covering.{is_shared_or_open, level_covered, map_covered, map_covers, policy_covers, resource_at, resource_covers}
 use Rattle.rg_delegate.proofs.Fitting.{MapFits, fewer_on_path, maps_fit}
 use Rattle.rg_delegate.proofs.Members.{agree_any}
@@ -98,3 +98,12 @@ pub forms_agree : (def : ServiceDef) (q p : Policy) → policy_levels_fit def q 
 forms_agree def q p fit =
     list_all-map (form_map_covered (map_forms def (maps_of q))) (λ (m : ResourceMap). map_form def m.levels.items) (maps_of p)
     ∙ list_all_agree _ _ (maps_agree def (maps_of q) (maps_fit def q fit)) (maps_of p)
+
+-- policies that were read, under one definition
+pub read_agree : (q p : DefinedPolicy) (maps others : List (List LevelForm)) → p.def ≡ q.def → IsRead q.def q.policy maps → IsRead p.def p.policy others
+    → form_maps_cover maps others ≡ policy_covers p.def q.policy p.policy
+read_agree q p maps others same first other =
+    let read = subst (λ (def : ServiceDef). IsRead def q.policy maps) (sym same) first in
+    ap (form_maps_cover maps) other.forms
+    ∙ ap (λ maps. form_maps_cover maps (map_forms p.def (maps_of p.policy))) read.forms
+    ∙ forms_agree p.def q.policy p.policy read.levels

@@ -17,7 +17,7 @@ use Rattle.rg_delegate.specs.Covering.{policy_covers}
 use Rattle.rg_delegate.specs.Laws.{every_resource, writes_star}
 use Rattle.rg_cmd.specs.Lookups.{def_of, zone_at}
 use Rattle.rg_delegate.specs.Ready.{IsReady}
-use Rattle.rg_delegate.proofs.Finding.{candidates_fit}
+use Rattle.rg_delegate.proofs.Finding.{of_its_service, policies_fit}
 use Rattle.rg_delegate.proofs.Keeping.{delegation_reaches, one_of_three}
 use Rattle.rg_delegate.proofs.Maps.{policy_third}
 use Rattle.rg_delegate.proofs.Patterns.{CoversLaw}
@@ -38,7 +38,7 @@ module _ (law : CoversLaw) (s : State) (actor : List ℕ) (p other : Policy) (de
       let two = and_parts (items q.0) (policy_covers def q.0 p) one.1 in
       any_from (λ q. may_delegate other q && (items q && policy_covers def q other)) s.policies.items q.0 q.1
       (and_from _ _ (sym (same_candidates q.0) ∙ one.0) (and_from _ _ two.0
-      (policy_third law def q.0 p other (candidates_fit s p def ready known_def q.0 q.1 one.0).0 (starry q.0 q.1 one.0) two.1 covered)))
+      (policy_third law def q.0 p other (policies_fit s p.service def ready known_def q.0 q.1 (of_its_service p q.0 one.0)).0 (starry q.0 q.1 one.0) two.1 covered)))
 
   in_its_zone : named_in_zone admins_of s actor p ≡ true → named_in_zone admins_of s actor other ≡ true
   in_its_zone h = ap (λ name. not (is_empty name) && option_map_or (λ z. named (known s actor) (admins_of z)) (zone_at s name) false) zone ∙ h

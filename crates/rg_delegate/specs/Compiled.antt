@@ -1,12 +1,15 @@
--- Resource maps with their values read once, and covering over them: for the proofs of this crate alone.
-use Rattle.std.specs.Prelude.{ℕ, ◌&&◌, ◌||◌, Bool, false, List, map, Option, if◌then◌else◌}
+-- Policies with the values of their maps read once, and covering over them: for the proofs of this crate alone.
+use Rattle.std.specs.Prelude.{◌≡◌, ℕ, ◌&&◌, ◌||◌, Bool, true, false, List, map, Option, if◌then◌else◌}
 use Rattle.std.specs.List.{find, list_all, list_any}
 use Rattle.std.specs.Option.{option_map_or}
 use Rattle.std.specs.Str.{bytes_eq}
 use Rattle.rg_defs.specs.declared.service_def.ServiceDef.{ServiceDef}
 use Rattle.rg_pattern.specs.declared.atoms.Atom.{Atom}
+use Rattle.rg_policy.specs.declared.policy.Policy.{Policy}
 use Rattle.rg_policy.specs.declared.policy.PolicyResource.{PolicyResource}
 use Rattle.rg_policy.specs.declared.policy.ResourceMap.{ResourceMap}
+use Rattle.rg_policy.specs.Maps.{maps_of}
+use Rattle.rg_resmatch.specs.Rules.{policy_levels_fit}
 use Rattle.rg_resmatch.specs.Tests.{is_open}
 use Rattle.rg_delegate.specs.Covering.{equals, ignores_case, patterns_at, some_covers}
 
@@ -24,6 +27,19 @@ map_form def resources = map (level_form def) resources
 
 abbrev pub map_forms : ServiceDef → List ResourceMap → List (List LevelForm)
 map_forms def maps = map (λ (m : ResourceMap). map_form def m.levels.items) maps
+
+-- a policy under the definition of its service
+pub record DefinedPolicy : Type 0 where
+  pub def : ServiceDef
+  pub policy : Policy
+
+abbrev pub under : ServiceDef → Policy → DefinedPolicy
+under def p = record { def = def; policy = p }
+
+-- the policy passes V5, and these are its maps
+pub record IsRead (def : ServiceDef) (p : Policy) (maps : List (List LevelForm)) : Type 0 where
+  pub levels : policy_levels_fit def p ≡ true
+  pub forms : maps ≡ map_forms def (maps_of p)
 
 abbrev pub form_values_cover : LevelForm → LevelForm → Bool
 form_values_cover m n = list_all (some_covers m.fold m.patterns) n.patterns

@@ -1,5 +1,5 @@
 // Who may administer a policy, and who may see it.
-ghost use Rattle.std.specs.Prelude.{◌≡◌, ◌||◌, IfOk, None, Some, map, true};
+ghost use Rattle.std.specs.Prelude.{◌≡◌, ◌||◌, IfOk, None, Some, option_map, true};
 ghost use Rattle.std.specs.List.{list_all};
 ghost use Rattle.std.specs.Str.{chars};
 ghost use Rattle.rg_base.specs.Texts.{is_among};
@@ -7,17 +7,16 @@ ghost use Rattle.rg_roles.specs.Faults.{fault_of};
 ghost use Rattle.rg_delegate.specs.Authority.{admins_of, auditors_of, is_admin, is_delegated, known, may, may_by_delegation, may_see, named_in_zone, subjects_in};
 ghost use Rattle.rg_delegate.specs.Accesses.{accesses};
 ghost use Rattle.rg_cmd.specs.Lookups.{def_of};
-ghost use Rattle.rg_delegate.specs.Found.{candidates};
+ghost use Rattle.rg_delegate.specs.Found.{delegations, delegations_of};
 ghost use Rattle.rg_delegate.specs.Ready.{Fits, IsReady};
 
 use crate::accesses::all_granted;
 use crate::actor::Actor;
-use crate::candidates::candidates;
-use crate::delegation::{Asked, delegating_items};
+use crate::candidates::{Delegated, delegations};
+use crate::delegation::{ReadPolicy, delegating_items};
 use crate::lookups::zone_at;
 use rg_base::{NoMemory, is_among, is_empty};
-use rg_cmd::{State, def_of};
-use rg_defs::ServiceDef;
+use rg_cmd::State;
 use rg_items::Subjects;
 use rg_policy::Policy;
 use rg_zone_rules::Subjects as ZoneSubjects;
@@ -82,46 +81,46 @@ pub(crate) fn audits_zone(
     }
 }
 
-/// Whether each access of the policy, whose service has this definition, is delegated to the actor by these policies of
-/// the service, which are all that delegate to the actor.
+/// Whether each access of the policy is delegated to the actor by these policies of its service, which are all that
+/// delegate to the actor.
 fn all_delegated(
     alloc: Global,
     state: &State,
-    def: &ServiceDef,
-    delegating: &[&Policy],
+    delegated: &Delegated,
     actor: &mut Actor,
     policy: &Policy,
 ) -> Result<bool, NoMemory>
     requires ready { IsReady state.now }
-    requires def { def_of state.now policy.now.service ≡ Some def.now }
-    requires delegating { map (λ q. q.now) delegating.now ≡ candidates policy.now.service actor.old state.now.policies.items }
+    requires def { def_of state.now policy.now.service ≡ Some delegated.now.def }
+    requires delegations { delegated.now ≡ delegations_of policy.now.service actor.old state.now.policies.items delegated.now.def }
     requires fits { Fits state.now policy.now }
     requires actor { actor.old ≡ known state.now actor.old.name }
     ensures same { actor.new ≡ actor.old }
-    ensures answer { IfOk result (λ b. b ≡ list_all (is_delegated state.now def.now actor.old policy.now) (accesses def.now policy.now)) }
+    ensures answer { IfOk result (λ b. b ≡ list_all (is_delegated state.now delegated.now.def actor.old policy.now) (accesses delegated.now.def policy.now)) }
 {
-    let mut asked = Asked::of(def, policy);
-    let items = delegating_items(alloc, delegating, actor, &mut asked)?;
+    let def = delegated.def;
+    let asked = ReadPolicy::of(alloc, def, policy)?;
+    let items = delegating_items(alloc, &delegated.policies, actor, &asked)?;
     Ok(all_granted(def, policy, &items))
 }
 
-/// Whether the actor may administer the policy by these policies of its service, which are all that delegate to the actor.
+/// Whether the actor may administer the policy by what policies of its service delegate.
 pub(crate) fn may_by_delegation(
     alloc: Global,
     state: &State,
-    delegating: &[&Policy],
+    delegated: Option<&Delegated>,
     actor: &mut Actor,
     policy: &Policy,
 ) -> Result<bool, NoMemory>
     requires ready { IsReady state.now }
-    requires delegating { map (λ q. q.now) delegating.now ≡ candidates policy.now.service actor.old state.now.policies.items }
+    requires delegations { option_map (λ d. d.now) delegated ≡ delegations state.now policy.now.service actor.old }
     requires fits { Fits state.now policy.now }
     requires actor { actor.old ≡ known state.now actor.old.name }
     ensures same { actor.new ≡ actor.old }
     ensures answer { IfOk result (λ b. b ≡ may_by_delegation state.now actor.old.name policy.now) }
 {
-    match def_of(state, &policy.service) {
-        Some(def) => all_delegated(alloc, state, def, delegating, actor, policy),
+    match delegated {
+        Some(delegated) => all_delegated(alloc, state, delegated, actor, policy),
         None => Ok(false),
     }
 }
@@ -142,15 +141,14 @@ fn may_in_part(
     if administers_zone(alloc, state, actor, policy)? {
         return Ok(true);
     }
-    let service = policy.service.as_str();
-    let delegating = candidates(alloc, actor, service, state.policies.as_slice())?;
-    may_by_delegation(alloc, state, &delegating, actor, policy)
+    let delegated = delegations(alloc, state, actor, &policy.service)?;
+    may_by_delegation(alloc, state, delegated.as_ref(), actor, policy)
 }
 
 /// Whether the actor may administer the policy: as an administrator, as one of the policy's zone, or since for each
 /// access of the policy an enabled policy of the same service and zone that covers it delegates that access to the
 /// actor (Ranger's delegated admin). The actor's groups are those of the user's row. The state is a valid one, and the
-/// policy passes the rules V5 and V6. The patterns of a policy are read once, and only where it names the actor.
+/// policy passes the rules V5 and V6. The patterns of a policy are read once.
 pub fn may_administer(
     alloc: Global,
     state: &State,

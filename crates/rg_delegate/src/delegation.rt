@@ -1,18 +1,14 @@
 // The items by which policies that cover a policy delegate its accesses to an actor.
 ghost use Rattle.std.specs.Prelude.{◌≡◌, ◌++◌, Contains, IfOk, None, map, true};
-ghost use Rattle.std.specs.List.{filter, list_all, list_any};
+ghost use Rattle.std.specs.List.{filter};
 ghost use Rattle.std.specs.Str.{chars};
-ghost use Rattle.rg_base.specs.Texts.{is_among};
 ghost use Rattle.rg_defs.specs.Rules.{def_fault};
-ghost use Rattle.rg_policy.specs.declared.policy.Policy.{Policy as Written};
 ghost use Rattle.rg_resmatch.specs.Rules.{policy_levels_fit, policy_values_fit};
 ghost use Rattle.rg_roles.specs.Faults.{fault_of};
-ghost use Rattle.rg_delegate.specs.Accesses.{accesses};
-ghost use Rattle.rg_delegate.specs.Authority.{delegates, is_delegated, is_word, may_delegate};
+ghost use Rattle.rg_delegate.specs.Authority.{delegates, is_word, may_delegate};
+ghost use Rattle.rg_delegate.specs.Compiled.{DefinedPolicy};
 ghost use Rattle.rg_delegate.specs.Covering.{policy_covers};
-ghost use Rattle.rg_delegate.specs.Compiled.{map_forms};
-ghost use Rattle.rg_policy.specs.Maps.{maps_of};
-ghost use Rattle.rg_delegate.specs.Found.{FitsWhere, delegates_some, items_in, items_of};
+ghost use Rattle.rg_delegate.specs.Found.{delegates_some, items_in, items_of};
 
 use crate::accesses::is_wanted;
 use crate::actor::Actor;
@@ -25,72 +21,45 @@ use rg_policy::{ACCESS_POLICY, Item, Policy};
 use std::alloc::Global;
 use std::marker::Model;
 
-/// The policy that is asked about, under the definition of its service. Its maps are read when the first candidate is
-/// reached.
+/// A policy that passes V5 and V6 under the definition of its service, its maps read once.
 #[derive(Drop)]
-pub(crate) struct Asked<'a> {
+pub(crate) struct ReadPolicy<'a> {
     pub def: &'a ServiceDef,
     pub policy: &'a Policy,
-    maps: Option<Vec<ReadMap<'a>>>,
+    maps: Vec<ReadMap<'a>>,
 }
 
-impl<'a> Model for Asked<'a> {
-    ghost use Rattle.std.specs.Prelude.{◌≡◌};
-    ghost use Rattle.std.specs.Option.{ForSome};
-    ghost use Rattle.rg_policy.specs.Maps.{maps_of};
-    ghost use Rattle.rg_delegate.specs.Compiled.{map_forms};
-    ghost use Rattle.rg_delegate.specs.Found.{Asking};
+impl<'a> Model for ReadPolicy<'a> {
+    ghost use Rattle.rg_delegate.specs.Compiled.{DefinedPolicy, IsRead};
 
-    ghost Value = { Asking };
+    ghost Value = { DefinedPolicy };
 
-    ghost view = { λ a. record { def = a.def.now; policy = a.policy.now } };
+    ghost view = { λ p. record { def = p.def.now; policy = p.policy.now } };
 
-    ghost invariant = { λ a. ForSome a.maps (λ maps. maps.items ≡ map_forms a.def.now (maps_of a.policy.now)) };
+    ghost invariant = { λ p. IsRead p.def.now p.policy.now p.maps.items };
 }
 
-/// Whether the policy, which passes V5 and V6, covers the one of which these are the maps.
-fn covers(
-    alloc: Global,
-    def: &ServiceDef,
-    policy: &Policy,
-    maps: &[ReadMap],
-) -> Result<bool, NoMemory>
-    requires levels { policy_levels_fit def.now policy.now ≡ true }
-    requires values { policy_values_fit def.now policy.now ≡ true }
-    ensures { IfOk result (λ b. (p : Written) → maps.now ≡ map_forms def.now (maps_of p) → b ≡ policy_covers def.now policy.now p) }
-{
-    let read = read_maps(alloc, def, policy)?;
-    let covered = maps_cover(alloc, &read, maps)?;
-    Ok(covered)
-}
-
-impl<'a> Asked<'a> {
-    pub(crate) fn of(def: &'a ServiceDef, policy: &'a Policy) -> Asked<'a>
-        ensures { result ≡ record { def = def.now; policy = policy.now } }
+impl<'a> ReadPolicy<'a> {
+    pub(crate) fn of(
+        alloc: Global,
+        def: &'a ServiceDef,
+        policy: &'a Policy,
+    ) -> Result<ReadPolicy<'a>, NoMemory>
+        requires levels { policy_levels_fit def.now policy.now ≡ true }
+        requires values { policy_values_fit def.now policy.now ≡ true }
+        ensures { IfOk result (λ p. p ≡ record { def = def.now; policy = policy.now }) }
     {
-        Asked {
-            def,
-            policy,
-            maps: None,
-        }
+        let maps = read_maps(alloc, def, policy)?;
+        Ok(ReadPolicy { def, policy, maps })
     }
 
-    /// Whether the other policy, which passes V5 and V6, covers it.
-    fn is_covered_by(&mut self, alloc: Global, other: &Policy) -> Result<bool, NoMemory>
-        requires values { policy_values_fit self.old.def self.old.policy ≡ true }
-        requires other_levels { policy_levels_fit self.old.def other.now ≡ true }
-        requires other_values { policy_values_fit self.old.def other.now ≡ true }
-        ensures same { self.new ≡ self.old }
-        ensures answer { IfOk result (λ b. b ≡ policy_covers self.old.def other.now self.old.policy) }
+    /// Whether it covers the other policy, which stands under the same definition.
+    fn covers(&self, alloc: Global, other: &ReadPolicy) -> Result<bool, NoMemory>
+        requires { other.now.def ≡ self.now.def }
+        ensures { IfOk result (λ b. b ≡ policy_covers other.now.def self.now.policy other.now.policy) }
     {
-        if self.maps.is_none() {
-            let maps = read_maps(alloc, self.def, self.policy)?;
-            self.maps = Some(maps);
-        }
-        match &self.maps {
-            Some(maps) => covers(alloc, self.def, other, maps),
-            None => Err(NoMemory),
-        }
+        let covered = maps_cover(alloc, &self.maps, &other.maps)?;
+        Ok(covered)
     }
 }
 
@@ -122,7 +91,7 @@ pub(crate) fn delegates<'a>(actor: &str, item: &'a Item) -> Subjects<'a>
 fn delegates_some(
     alloc: Global,
     actor: &mut Actor,
-    asked: &Asked,
+    asked: &ReadPolicy,
     item: &Item,
 ) -> Result<bool, NoMemory>
     requires lawful { def_fault asked.now.def ≡ None }
@@ -137,32 +106,12 @@ fn delegates_some(
     actor.is_named(alloc, &subjects)
 }
 
-/// Whether one of the items does.
-fn some_delegates(
-    alloc: Global,
-    actor: &mut Actor,
-    asked: &Asked,
-    items: &[Item],
-) -> Result<bool, NoMemory>
-    requires lawful { def_fault asked.now.def ≡ None }
-    requires roles { fault_of actor.old.rows ≡ None }
-    ensures same { actor.new ≡ actor.old }
-    ensures answer { IfOk result (λ b. b ≡ list_any (delegates_some asked.now actor.old) items.now) }
-{
-    for item in items {
-        if delegates_some(alloc, actor, asked, item)? {
-            return Ok(true);
-        }
-    }
-    Ok(false)
-}
-
 /// After these items those that do.
 fn with_items<'a>(
     alloc: Global,
     mut found: Vec<&'a Item>,
     actor: &mut Actor,
-    asked: &Asked,
+    asked: &ReadPolicy,
     items: &'a [Item],
 ) -> Result<Vec<&'a Item>, NoMemory>
     requires lawful { def_fault asked.now.def ≡ None }
@@ -188,54 +137,45 @@ fn may_delegate(policy: &Policy, other: &Policy) -> bool
                 && same_text(other.zone.as_str(), policy.zone.as_str())))
 }
 
-/// After these items those of the other policy, where it covers the policy, by which it delegates an access of it. No
-/// pattern is read where there is no such item.
-#[tactic(auto, using(crate::proofs::Finding::nothing_found))]
+/// After these items those of the other policy, where it covers the policy, by which it delegates an access of it.
 fn with_policy<'a>(
     alloc: Global,
     found: Vec<&'a Item>,
     actor: &mut Actor,
-    asked: &mut Asked,
-    other: &'a Policy,
+    asked: &ReadPolicy,
+    other: &ReadPolicy<'a>,
 ) -> Result<Vec<&'a Item>, NoMemory>
-    requires lawful { def_fault asked.old.def ≡ None }
-    requires values { policy_values_fit asked.old.def asked.old.policy ≡ true }
-    requires fits { FitsWhere asked.old other.now }
+    requires lawful { def_fault asked.now.def ≡ None }
+    requires same_def { asked.now.def ≡ other.now.def }
     requires roles { fault_of actor.old.rows ≡ None }
-    ensures same_actor { actor.new ≡ actor.old }
-    ensures same { asked.new ≡ asked.old }
-    ensures answer { IfOk result (λ v. map (λ item. item.now) v.items ≡ map (λ item. item.now) found.entry.items ++ items_of asked.old actor.old other.now) }
+    ensures same { actor.new ≡ actor.old }
+    ensures answer { IfOk result (λ v. map (λ item. item.now) v.items ≡ map (λ item. item.now) found.entry.items ++ items_of asked.now actor.old other.now.policy) }
 {
-    if !may_delegate(asked.policy, other) {
+    if !may_delegate(asked.policy, other.policy) {
         return Ok(found);
     }
-    let items = other.items.as_slice();
-    if !some_delegates(alloc, actor, asked, items)? {
+    if !other.covers(alloc, asked)? {
         return Ok(found);
     }
-    if !asked.is_covered_by(alloc, other)? {
-        return Ok(found);
-    }
-    with_items(alloc, found, actor, asked, items)
+    with_items(alloc, found, actor, asked, other.policy.items.as_slice())
 }
 
 /// The items by which those of these policies that cover the policy delegate accesses of it to the actor.
 pub(crate) fn delegating_items<'a>(
     alloc: Global,
-    policies: &[&'a Policy],
+    policies: &[ReadPolicy<'a>],
     actor: &mut Actor,
-    asked: &mut Asked,
+    asked: &ReadPolicy,
 ) -> Result<Vec<&'a Item>, NoMemory>
-    requires lawful { def_fault asked.old.def ≡ None }
-    requires values { policy_values_fit asked.old.def asked.old.policy ≡ true }
-    requires fits { (q : Written) → Contains (map (λ q. q.now) policies.now) q → FitsWhere asked.old q }
+    requires lawful { def_fault asked.now.def ≡ None }
+    requires same_def { (q : DefinedPolicy) → Contains policies.now q → asked.now.def ≡ q.def }
     requires roles { fault_of actor.old.rows ≡ None }
-    ensures same_actor { actor.new ≡ actor.old }
-    ensures answer { IfOk result (λ v. map (λ item. item.now) v.items ≡ items_in asked.old actor.old (map (λ q. q.now) policies.now)) }
+    ensures same { actor.new ≡ actor.old }
+    ensures answer { IfOk result (λ v. map (λ item. item.now) v.items ≡ items_in asked.now actor.old (map (λ q. q.policy) policies.now)) }
 {
     let mut found = Vec::new(alloc);
     for policy in policies {
-        found = with_policy(alloc, found, actor, asked, *policy)?;
+        found = with_policy(alloc, found, actor, asked, policy)?;
     }
     Ok(found)
 }

@@ -4,7 +4,6 @@ use Rattle.rg_delegate.proofs.delegation.delegating_items.Given as goal
 
 abbrev pub invariant-loop-policy : goal.invariant-loop-policy
 invariant-loop-policy l = record {
-  same_actor : l.actor ≡ l.initial.actor;
-  same_asked : l.asked ≡ l.initial.asked;
-  so_far : map (λ item. item.now) l.found.items ≡ items_in l.initial.asked l.initial.actor (map (λ q. q.now) (take l.policy-index l.policies));
+  same : l.actor ≡ l.initial.actor;
+  so_far : map (λ item. item.now) l.found.items ≡ items_in l.asked l.initial.actor (map (λ q. q.policy) (take l.policy-index l.policies));
 }
