@@ -5,7 +5,9 @@ A client sends three messages and then a body of 1,048,577 bytes, in one piece, 
 answers, whatever of the body was read. Then as many clients as there are workers each ask to close and never close themselves, half of them
 silent and half of them sending on: a further client waits for the two seconds that a link is read on at most, and no longer. It is no
 part of the gate, since it takes time and sockets."""
-import json, re, socket, subprocess, sys, threading, time
+import re, socket, sys, threading, time
+
+from started import start
 
 PROGRAM = sys.argv[1]
 TIMES = int(sys.argv[2]) if len(sys.argv) > 2 else 1000
@@ -15,25 +17,6 @@ CONFIG = {"admins": ["root"], "plugin": "hive1", "serviceDefs": [DEF], "services
 ASK = b"GET /service/public/v2/api/policies/hive1 HTTP/1.1\r\nx-user: root\r\n"
 BODY = 1_048_577  # one byte more than a body may have
 LONG = b"POST /service/decide/hive1 HTTP/1.1\r\nx-user: root\r\nContent-Length: %d\r\n\r\n" % BODY + b" " * BODY
-
-
-def start(links):
-    with socket.socket() as free:
-        free.bind(("127.0.0.1", 0))
-        port = free.getsockname()[1]
-    server = subprocess.Popen([PROGRAM, "serve", f"127.0.0.1:{port}", str(links)], stdin=subprocess.PIPE, stdout=subprocess.PIPE, text=True)
-    server.stdin.write(f"config {json.dumps(CONFIG)}\n")
-    server.stdin.close()
-    for _ in range(200):
-        with socket.socket() as probe:
-            # a bound port refuses this one; so nothing is connected, which would count as a link
-            try:
-                probe.bind(("127.0.0.1", port))
-            except OSError:
-                break
-        time.sleep(0.05)
-    time.sleep(0.2)
-    return server, port
 
 
 def connect(port):
@@ -101,7 +84,7 @@ def wait_behind(port, faults):
 
 def main():
     links = TIMES + WORKERS + 1
-    server, port = start(links)
+    server, port = start(PROGRAM, CONFIG, links)
     faults = []
     begin = time.monotonic()
     for _ in range(TIMES):

@@ -5,7 +5,9 @@ Half of the clients change policies of their own, the other half ask for decisio
 kept is one more than the last, what it gets is what it stored, and on one connection neither the serial nor the policy version of
 decisions falls. In the end the policies that are there are those that the answers to changes tell, the version of the service counts
 all accepted changes, and the totals add up. It is no part of the gate, since it takes time and a socket."""
-import http.client, json, random, re, socket, subprocess, sys, threading, time
+import http.client, json, random, re, sys, threading, time
+
+from started import start
 
 PROGRAM = sys.argv[1]
 SECONDS = float(sys.argv[2]) if len(sys.argv) > 2 else 30
@@ -144,22 +146,8 @@ def last_client(port, clients, faults):
 
 
 def main():
-    with socket.socket() as free:
-        free.bind(("127.0.0.1", 0))
-        port = free.getsockname()[1]
     links = CLIENTS * ROUNDS + 1
-    server = subprocess.Popen([PROGRAM, "serve", f"127.0.0.1:{port}", str(links)], stdin=subprocess.PIPE, stdout=subprocess.PIPE, text=True)
-    server.stdin.write(f"config {json.dumps(CONFIG)}\n")
-    server.stdin.close()
-    for _ in range(200):
-        with socket.socket() as probe:
-            # a bound port refuses this one; so nothing is connected, which would count as a link
-            try:
-                probe.bind(("127.0.0.1", port))
-            except OSError:
-                break
-        time.sleep(0.05)
-    time.sleep(0.2)
+    server, port = start(PROGRAM, CONFIG, links)
     clients = [(Changer if n % 2 == 0 else Decider)(n, port) for n in range(CLIENTS)]
     for client in clients:
         client.start()
