@@ -16,6 +16,7 @@ mod keeping;
 mod recording;
 
 use anyhow::{Context, Result, anyhow};
+use std::sync::Wait;
 use std::{env, fs};
 
 /// Prints rows under their heading.
@@ -27,8 +28,8 @@ fn print(rt: &HostRuntime, heading: &str, rows: &[String]) -> Result<()> {
     Ok(())
 }
 
-/// Works all that needs no words.
-fn work_all(rt: &HostRuntime) -> Result<()> {
+/// Works all that needs no words. A recorder waits for its locks by the second.
+fn work_all<R: Wait>(rt: &HostRuntime, waiting: &R) -> Result<()> {
     let alloc = rt.alloc();
     let rows = database::rows_of(alloc)?;
     print(rt, "== a database as a keeper", rows.as_slice())?;
@@ -36,7 +37,7 @@ fn work_all(rt: &HostRuntime) -> Result<()> {
     let rows = keeping::rows_of(alloc, asks.as_str())?;
     print(rt, "== keepers that fail", rows.as_slice())?;
     let asks = fs::read_to_string(rt, "recording.asks")?;
-    let rows = recording::rows_of(rt, asks.as_str())?;
+    let rows = recording::rows_of(rt, waiting, asks.as_str())?;
     print(rt, "== recorders over keepers that fail", rows.as_slice())?;
     println!(rt; "== commands in a file")?;
     disk::demonstrate(rt)
@@ -45,7 +46,7 @@ fn work_all(rt: &HostRuntime) -> Result<()> {
 fn main(rt: HostRuntime) -> Result<()> {
     let mut words = env::args(&rt)?.skip(1);
     let Some(word) = words.next() else {
-        return work_all(&rt);
+        return work_all(&rt, &rt);
     };
     let path = words.next().context("the path is missing")?;
     match word.as_str().as_bytes() {

@@ -45,22 +45,27 @@ fn add_again<R: Wait>(rows: &mut Vec<String>, rt: &R, alloc: Global, asked: &Ask
 }
 
 /// The rows of a small file: of its first asks, of the others behind them, and of none.
-fn add_file(rows: &mut Vec<String>, rt: &HostRuntime, asked: &Asked) -> Result<()> {
-    disk::clear(rt);
+fn add_file<R: Wait>(
+    rows: &mut Vec<String>,
+    host: &HostRuntime,
+    rt: &R,
+    asked: &Asked,
+) -> Result<()> {
+    disk::clear(host);
     for (first, end) in [(0, 4), (4, 9), (9, 9)] {
         let part = Asked {
             config: asked.config,
             asks: asked.asks.get(first..end).unwrap_or(asked.asks),
         };
-        rows.push(file_row(rt, &part)?)?;
+        rows.push(file_row(host, rt, &part)?)?;
     }
-    disk::clear(rt);
+    disk::clear(host);
     Ok(())
 }
 
 /// The rows of a text, whose first line is the configuration.
-pub(crate) fn rows_of(rt: &HostRuntime, text: &str) -> Result<Vec<String>> {
-    let alloc = rt.alloc();
+pub(crate) fn rows_of<R: Wait>(host: &HostRuntime, rt: &R, text: &str) -> Result<Vec<String>> {
+    let alloc = host.alloc();
     let lines = lines_of(alloc, text)?;
     let mut rows = Vec::new(alloc);
     let Some((config, asks)) = lines.as_slice().split_first() else {
@@ -69,6 +74,6 @@ pub(crate) fn rows_of(rt: &HostRuntime, text: &str) -> Result<Vec<String>> {
     let asked = Asked { config, asks };
     add_failing(&mut rows, rt, alloc, &asked)?;
     add_again(&mut rows, rt, alloc, &asked)?;
-    add_file(&mut rows, rt, &asked)?;
+    add_file(&mut rows, host, rt, &asked)?;
     Ok(rows)
 }

@@ -92,10 +92,10 @@ pub(crate) fn again_row<R: Wait>(
 }
 
 /// Some of the asks over the small file, which is closed then.
-pub(crate) fn file_row(rt: &HostRuntime, asked: &Asked) -> Result<String> {
-    let alloc = rt.alloc();
+pub(crate) fn file_row<R: Wait>(host: &HostRuntime, rt: &R, asked: &Asked) -> Result<String> {
+    let alloc = host.alloc();
     let mut told = String::from_str(alloc, "a file: ")?;
-    let keeper = tell_recorded(&mut told, rt, alloc, asked, disk::small_file(rt)?)?;
+    let keeper = tell_recorded(&mut told, rt, alloc, asked, disk::small_file(host)?)?;
     keeper.into_connection().close()?;
     Ok(told)
 }
