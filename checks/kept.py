@@ -1,8 +1,9 @@
 #!/usr/bin/env python3
-"""Prints what the program test_kept is to print without words, from the rules: what keeping.py prints, and what commands in a file make. With
---runs it prints what test_scripts is to print of runs of `keep` over a keeper of whose calls one fails or that holds a record which is none:
-with which status each ends, how many records stand then, how many decisions were audited, and what is printed. Of each such run it is looked
-at besides whether a failed one printed a beginning of the whole text, and kept the first of all records.
+"""Prints what the program test_kept is to print without words, from the rules: what keeping.py and recording.py print, and what
+commands in a file make. With --runs it prints what test_scripts is to print of runs of `keep` over a keeper of whose calls one fails or
+that holds a record which is none: with which status each ends, how many records stand then, how many decisions were audited, and what is
+printed. Of each such run it is looked at besides whether a failed one printed a beginning of the whole text, and kept the first of all
+records.
 
 usage: checks/kept.py | cmp - crates/test_kept/stdout
        checks/kept.py --runs | cmp - <(sed -n '/^== keeping/,/^== serving/p' crates/test_scripts/stdout | sed '$d')
@@ -12,6 +13,7 @@ import sys
 import disk_model
 import keeping
 import kept_model
+import recording
 
 SCRIPT = keeping.CRATE.parent / "test_scripts" / "data" / "kept.script"
 
@@ -70,8 +72,9 @@ def main(runs):
         for one in kept_rows():
             print(one)
         return
-    for one in keeping.all_rows():
-        print(one)
+    for rows in (keeping.all_rows, recording.all_rows):
+        for one in rows():
+            print(one)
     print("== commands in a file")
     print(disk_model.demonstrated(), end="")
 

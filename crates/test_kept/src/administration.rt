@@ -7,7 +7,8 @@ use rg_keep::{KeptAdmin, ReopenFault};
 use rg_record_store::{Keeper, KeeperFault};
 use std::alloc::Global;
 
-fn config_of(alloc: Global, text: &str) -> Result<Config> {
+/// The configuration of this text.
+pub(crate) fn config_of(alloc: Global, text: &str) -> Result<Config> {
     match read_config(alloc, text.as_bytes()) {
         Ok(config) => Ok(config),
         Err(_) => Err(anyhow!("the configuration isn't read")),

@@ -147,8 +147,13 @@ pub(crate) fn reopen(rt: &HostRuntime, path: &str) -> Result<()> {
     tell(rt, keeper(rt, path)?)
 }
 
-/// Removes what an earlier run may have left.
-fn clear(rt: &HostRuntime) {
+/// The keeper of the file of a demonstration.
+pub(crate) fn small_file(rt: &HostRuntime) -> Result<SqlKeeper<FileStore<File>>> {
+    keeper(rt, FILE)
+}
+
+/// Removes what a run may have left.
+pub(crate) fn clear(rt: &HostRuntime) {
     drop(fs::remove_file(rt, FILE));
     drop(fs::remove_file(rt, LOG));
 }

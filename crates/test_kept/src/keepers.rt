@@ -1,6 +1,6 @@
 // Keepers over a database.
 use rg_base::Seq;
-use rg_record_store::SqlKeeper;
+use rg_record_store::{FailingCall, MemKeeper, SqlKeeper};
 use sqlite::{Alter, Connection, Error, MemStore};
 use std::alloc::{AllocError, Global};
 use test_tables::add_record;
@@ -11,6 +11,17 @@ pub(crate) fn copies(alloc: Global, records: &[Seq<u8>]) -> Result<Vec<Seq<u8>>,
         add_record(&mut held, alloc, record.as_slice())?;
     }
     Ok(held)
+}
+
+/// A keeper of these records, of whose calls this one fails.
+pub(crate) fn failing_over(
+    alloc: Global,
+    records: Vec<Seq<u8>>,
+    call: FailingCall,
+) -> Result<MemKeeper, AllocError> {
+    let mut fails = Vec::new(alloc);
+    fails.push(call)?;
+    Ok(MemKeeper::new(Seq::from_vec(records), Seq::from_vec(fails)))
 }
 
 /// A keeper over the database of this connection, which is let go where it takes no table.

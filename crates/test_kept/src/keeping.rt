@@ -5,12 +5,12 @@
 // line is the record behind those of the asks before it, one for each record in whose place `{}` stands, and one for a database. Then
 // come the records that all asks leave, and what lines of a script of a kept administration ask.
 mod lines;
-mod rows;
+pub(crate) mod rows;
 
 use anyhow::Result;
 use lines::{LINES, line_row};
 use rows::{Asked, database_row, failure_row, kept_by, spoiled_row, taken_row};
-use std::alloc::Global;
+use std::alloc::{AllocError, Global};
 use test_tables::{calls_before, text_of};
 
 /// Past the last call of a run.
@@ -58,12 +58,18 @@ fn add_lines(rows: &mut Vec<String>, alloc: Global) -> Result<()> {
     Ok(())
 }
 
-/// The rows of a text, whose first line is the configuration.
-pub(crate) fn rows_of(alloc: Global, text: &str) -> Result<Vec<String>> {
+/// The lines of a text.
+pub(crate) fn lines_of<'a>(alloc: Global, text: &'a str) -> Result<Vec<&'a str>, AllocError> {
     let mut lines = Vec::new(alloc);
     for line in text.lines() {
         lines.push(line)?;
     }
+    Ok(lines)
+}
+
+/// The rows of a text, whose first line is the configuration.
+pub(crate) fn rows_of(alloc: Global, text: &str) -> Result<Vec<String>> {
+    let lines = lines_of(alloc, text)?;
     let mut rows = Vec::new(alloc);
     let Some((config, asks)) = lines.as_slice().split_first() else {
         return Ok(rows);

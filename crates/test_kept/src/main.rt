@@ -1,6 +1,6 @@
 // What is kept, and what is reopened from it. With no word the program works all that follows, in the folder that it is run in, each
-// under a line of its own: a database as a keeper; what stands with a keeper where each call fails, of the asks in `keeping.asks`; and a
-// small file that commands are kept in. Else its words say what it is to do:
+// under a line of its own: a database as a keeper; what stands with a keeper where each call fails, of the asks in `keeping.asks`; the same
+// of a recorder, with those in `recording.asks`; and a small file that commands are kept in. Else its words say what it is to do:
 //
 // `append PATH COUNT ROWS`: reopens the database file, or makes it, and keeps commands in it until there are COUNT. After each answer it
 // tells how many are kept. ROWS is how many rows of each kind the commands are about.
@@ -13,8 +13,10 @@ mod database;
 mod disk;
 mod keepers;
 mod keeping;
+mod recording;
 
 use anyhow::{Context, Result, anyhow};
+use std::sync::Wait;
 use std::{env, fs};
 
 /// Prints rows under their heading.
@@ -26,14 +28,17 @@ fn print(rt: &HostRuntime, heading: &str, rows: &[String]) -> Result<()> {
     Ok(())
 }
 
-/// Works all that needs no words.
-fn work_all(rt: &HostRuntime) -> Result<()> {
+/// Works all that needs no words. A recorder waits for its locks by the second.
+fn work_all<R: Wait>(rt: &HostRuntime, waiting: &R) -> Result<()> {
     let alloc = rt.alloc();
     let rows = database::rows_of(alloc)?;
     print(rt, "== a database as a keeper", rows.as_slice())?;
     let asks = fs::read_to_string(rt, "keeping.asks")?;
     let rows = keeping::rows_of(alloc, asks.as_str())?;
     print(rt, "== keepers that fail", rows.as_slice())?;
+    let asks = fs::read_to_string(rt, "recording.asks")?;
+    let rows = recording::rows_of(rt, waiting, asks.as_str())?;
+    print(rt, "== recorders over keepers that fail", rows.as_slice())?;
     println!(rt; "== commands in a file")?;
     disk::demonstrate(rt)
 }
@@ -41,7 +46,7 @@ fn work_all(rt: &HostRuntime) -> Result<()> {
 fn main(rt: HostRuntime) -> Result<()> {
     let mut words = env::args(&rt)?.skip(1);
     let Some(word) = words.next() else {
-        return work_all(&rt);
+        return work_all(&rt, &rt);
     };
     let path = words.next().context("the path is missing")?;
     match word.as_str().as_bytes() {
