@@ -1,11 +1,10 @@
 -- The items that were found grant an access exactly where it is delegated.
-use Rattle.std.proofs.Common.{◌≡◌, ◌&&◌, ◌||◌, ℕ, Bool, true, false, cond, if◌then◌else◌, List, [], ◌∷◌, ◌++◌, map, filter, Option, Some, None, option_and_then, option_map, Contains, refl, sym, ap, ◌∙◌, subst}
-use Rattle.std.proofs.lemmas.Bool.{and_parts, and_from, and_right, false_from_ne_true, false≢true}
+use Rattle.std.proofs.Common.{◌≡◌, ◌&&◌, ◌||◌, ℕ, Bool, true, false, cond, if◌then◌else◌, List, [], ◌∷◌, ◌++◌, map, filter, Option, Some, None, option_and_then, Contains, refl, sym, ap, ◌∙◌, subst}
+use Rattle.std.proofs.lemmas.Bool.{and_parts, and_from, false_from_ne_true, false≢true}
 use Rattle.std.proofs.lemmas.Option.{none-some}
 use Rattle.std.specs.Prelude.{ℤ}
 use Rattle.std.proofs.lemmas.Slice.Eq.{bytes_eq-Decides}
 use Rattle.std.specs.List.{list_all, list_any}
-use Rattle.std.specs.Option.{option_map_or}
 use Rattle.std.specs.Ordering.{int_eq}
 use Rattle.std.specs.Str.{bytes_eq}
 use Rattle.rg_base.proofs.Lists.{Contains-filter, Contains-filtered, Contains-flat_map, Contains-flat_mapped, Contains-mapped, Contains-none, any_from, any_holds, find_contained, list_any-map, same_truth}
@@ -21,7 +20,7 @@ use Rattle.rg_delegate.specs.Accesses.{accesses}
 use Rattle.rg_delegate.specs.Authority.{Known, delegates, delegates_to, is_delegated, may_delegate, named}
 use Rattle.rg_delegate.specs.Covering.{policy_covers}
 use Rattle.rg_delegate.specs.Compiled.{DefinedPolicy, under}
-use Rattle.rg_delegate.specs.Found.{Delegated, FitUnder, candidates, delegates_anything, delegates_some, delegations_of, is_candidate, is_wanted, items_in, items_of}
+use Rattle.rg_delegate.specs.Found.{FitUnder, candidates, delegates_anything, delegates_some, is_candidate, is_wanted, items_in, items_of}
 use Rattle.rg_cmd.specs.Lookups.{def_at, def_of, is_of, policy_at, service_at}
 use Rattle.rg_delegate.specs.Ready.{Fits, IsReady}
 use Rattle.rg_delegate.proofs.Members.{agree_all}
@@ -81,10 +80,6 @@ none_pass p (x ∷ xs) h = at (p x) h (none_pass p xs) where
   at true k rest = absurd (false≢true (sym k))
   at false k rest = rest k
 
-pub none_covered : (a : DefinedPolicy) (k : Known) (q : Policy) → policy_covers a.def q a.policy ≡ false → items_of a k q ≡ []
-none_covered a k q h =
-    ap (λ b. if b then filter (delegates_some a k) q.items.items else []) (and_right (may_delegate a.policy q) (policy_covers a.def q a.policy) h)
-
 -- a policy that is no candidate gives no item
 none_of_others : (a : DefinedPolicy) (k : Known) (q : Policy) → is_candidate a.policy.service k q ≡ false → items_of a k q ≡ []
 none_of_others a k q h = at (may_delegate a.policy q && policy_covers a.def q a.policy) refl where
@@ -109,8 +104,6 @@ candidates_suffice a k (q ∷ policies) = at (is_candidate a.policy.service k q)
       → items_in a k (cond b (q ∷ candidates a.policy.service k policies) (candidates a.policy.service k policies)) ≡ items_of a k q ++ items_in a k policies
   at true e rest = ap (λ items. items_of a k q ++ items) rest
   at false e rest = rest ∙ ap (λ items. items ++ items_in a k policies) (sym (none_of_others a k q e))
-
-pub ruleset nothing_found = (none_covered)
 
 -- ---- all accesses
 
@@ -155,12 +148,3 @@ under_it def policies q within = let p = Contains-mapped (under def) policies q 
 pub policies_under : (def : ServiceDef) (policies : List Policy) → map (λ (q : DefinedPolicy). q.policy) (map (under def) policies) ≡ policies
 policies_under def [] = refl
 policies_under def (p ∷ policies) = ap (λ policies. p ∷ policies) (policies_under def policies)
-
--- where something is delegated, there is the definition, and it is as it says
-pub delegated_there : (service : List ℕ) (k : Known) (policies : List Policy) (o : Option ServiceDef) (d : Delegated) → Some d ≡ option_map (delegations_of service k policies) o
-    → (o ≡ Some d.def) × (d ≡ delegations_of service k policies d.def)
-delegated_there service k policies None d e = absurd (none-some d (sym e))
-delegated_there service k policies (Some def) d e =
-    let same = ap (λ (o : Option Delegated). option_map_or (λ d. d) o d) e in
-    let it = ap (λ (d : Delegated). d.def) same in
-    (ap Some (sym it), same ∙ ap (delegations_of service k policies) (sym it))
