@@ -1,10 +1,9 @@
 -- Facts are sound exactly where nothing makes them unsound.
-use Rattle.std.proofs.Common.{◌≡◌, ◌&&◌, true, false, not, ℕ, ◌+◌, Bool, cond, List, [], ◌∷◌, Option, Some, None, is_none, refl, ap, sym, ◌∙◌}
+use Rattle.std.proofs.Common.{◌≡◌, ◌&&◌, true, false, not, ℕ, ◌+◌, Bool, cond, List, [], ◌∷◌, ◌++◌, Option, Some, None, is_none, refl, ap, sym, ◌∙◌}
 use Rattle.std.proofs.lemmas.Bool.{and_from, and_parts}
 use Rattle.std.proofs.lemmas.Iterator.Adapters.{position_from-zero}
 use Rattle.std.specs.List.{find, list_all, position_from}
 use Rattle.std.specs.Ordering.{int_eq}
-use Rattle.std.specs.Option.{option_or}
 use Rattle.std.specs.Prelude.{option_and_then, option_map, position}
 use Rattle.rg_base.specs.Texts.{all_distinct}
 use Rattle.rg_policy.specs.declared.policy.Policy.{Policy}
@@ -27,13 +26,25 @@ use Rattle.rg_evalr.specs.declared.frame.Side.TheVariants.{Resource, Tag}
 use Rattle.rg_facts.specs.Candidates.{frame_of}
 use Rattle.rg_facts.specs.Sound.{all_policies, defs_sound, ids_sound, is_no_policy, is_tag_def, passes, policies_sound, roles_sound, row_ids, sound, tag_def_sound, tag_policies_pass, tag_rows_sound, versions_fit, zone_names_sound, zones_sound}
 use Rattle.rg_facts.specs.declared.facts.Facts.{Facts}
-use Rattle.rg_facts_check.specs.Causes.{causes, def_causes, faulty, first_cause, first_faulty, first_policy, first_some, first_tag_row, first_zone, policy_causes, role_causes, rule_cause, tag_def_causes, tag_policies_cause, tag_row_causes, unless, zone_causes, zone_name_causes}
+use Rattle.rg_facts_check.specs.Causes.{def_causes, faulty, first_faulty, first_policy, first_tag_row, first_zone, later_causes, no_cause, or_else, overlap_cause, policy_causes, present, role_causes, rule_causes, some_of, tag_def_causes, tag_policies_cause, tag_row_causes, time_zone_cause, unless, unsound_causes, zone_causes, zone_name_causes, zone_row_causes}
 use Rattle.rg_facts_check.specs.declared.unsound.Unsound.{Unsound}
 use Rattle.rg_facts_check.specs.declared.unsound.Unsound.TheVariants as unsound
 
--- ---- there is no first cause where there is none in the list
+-- ---- there is no cause where each is none
 
-none_of_all : {X : Type 0} (os : List (Option X)) → is_none (first_some os) ≡ list_all is_none os
+none_of_two : (xs ys : List Unsound) → no_cause (xs ++ ys) ≡ (no_cause xs && no_cause ys)
+none_of_two [] ys = refl
+none_of_two (x ∷ xs) ys = refl
+
+none_or_else : (xs ys : List Unsound) → no_cause (or_else xs ys) ≡ (no_cause xs && no_cause ys)
+none_or_else [] ys = refl
+none_or_else (x ∷ xs) ys = refl
+
+none_of_one : (o : Option Unsound) → no_cause (some_of o) ≡ is_none o
+none_of_one None = refl
+none_of_one (Some x) = refl
+
+none_of_all : (os : List (Option Unsound)) → no_cause (present os) ≡ list_all is_none os
 none_of_all [] = refl
 none_of_all (None ∷ os) = none_of_all os
 none_of_all (Some x ∷ os) = refl
@@ -66,6 +77,11 @@ none_placed test xs = ap is_none (position_from-zero (λ x. not (test x)) xs) �
 and_true : (b : Bool) → (b && true) ≡ b
 and_true true = refl
 and_true false = refl
+
+and_last : (a b c d : Bool) → ((a && (b && c)) && d) ≡ (a && (b && (c && d)))
+and_last true true c d = refl
+and_last true false c d = refl
+and_last false b c d = refl
 
 and_inside : (a b c : Bool) → (a && (b && c)) ≡ ((a && b) && c)
 and_inside true b c = refl
@@ -104,38 +120,40 @@ tag_def_none : (o : Option ServiceDef) → list_all is_none (tag_def_causes o) �
 tag_def_none None = refl
 tag_def_none (Some def) = λ i. none_mapped unsound.TagDefinition (def_fault def) i && (and_true (is_none (unless (is_tag_def def) unsound.TagName)) ∙ none_unless (is_tag_def def) unsound.TagName) i
 
-defs_none : (facts : Facts) → is_none (first_some (def_causes facts)) ≡ defs_sound facts
+defs_none : (facts : Facts) → no_cause (present (def_causes facts)) ≡ defs_sound facts
 unfolding defs_sound
 defs_none facts = none_of_all (def_causes facts) ∙ (λ i. none_mapped unsound.Definition (def_fault facts.def) i && tag_def_none facts.tag_def i)
 
-roles_none : (facts : Facts) → is_none (first_some (role_causes facts)) ≡ roles_sound facts
+roles_none : (facts : Facts) → no_cause (present (role_causes facts)) ≡ roles_sound facts
 unfolding roles_sound
 roles_none facts = let test = subjects_fit (names_of facts.roles.items) in
     none_of_all (role_causes facts)
     ∙ (λ i. none_mapped unsound.Roles (fault_of facts.roles.items) i && (policy_none 10 test facts.policies.items i && (and_true _ ∙ policy_none 10 test facts.tag_policies.items) i))
 
-zone_names_none : (facts : Facts) → is_none (first_some (zone_name_causes facts)) ≡ zone_names_sound facts
+zone_names_none : (facts : Facts) → no_cause (present (zone_name_causes facts)) ≡ zone_names_sound facts
 unfolding zone_names_sound
 zone_names_none facts =
     none_of_all (zone_name_causes facts)
     ∙ (λ i. policy_none 14 (policy_zone_fits (is_tag_def facts.def) facts.service facts.zones.items) facts.policies.items i
     && (and_true _ ∙ policy_none 14 (tag_policy_zone_fits facts.zones.items) facts.tag_policies.items) i)
 
-zones_none : (facts : Facts) → is_none (first_some (zone_causes facts)) ≡ zones_sound facts
-unfolding zones_sound
+zones_none : (facts : Facts) → no_cause (zone_causes facts) ≡ zones_sound facts
+unfolding zone_causes zones_sound
 zones_none facts =
     let zones = facts.zones.items in
-    none_of_all (zone_causes facts)
-    ∙ (λ i. zone_none 2 (listing_fits (is_tag_def facts.def) facts.service) zones i
+    none_or_else (present (zone_row_causes facts)) (some_of (overlap_cause facts))
+    ∙ (λ i. none_of_all (zone_row_causes facts) i && none_of_one (overlap_cause facts) i)
+    ∙ (λ i. (zone_none 2 (listing_fits (is_tag_def facts.def) facts.service) zones i
     && (zone_none 5 (subjects_exist (names_of facts.roles.items)) zones i
     && (zone_none 3 (zone_levels_fit facts.service facts.def) zones i
-    && (zone_none 4 (zone_values_fit facts.service) zones i
-    && (and_true _ ∙ none_mapped (λ (pair : ℕ × ℕ). unsound.Overlap pair.0 pair.1) (first_overlap facts.service facts.def zones)) i))))
-    ∙ ap (λ b. list_all (listing_fits (is_tag_def facts.def) facts.service) zones && (list_all (subjects_exist (names_of facts.roles.items)) zones && b)) (
-    and_inside (list_all (zone_levels_fit facts.service facts.def) zones) (list_all (zone_values_fit facts.service) zones) (is_none (first_overlap facts.service facts.def zones))
-    ∙ ap (λ b. b && is_none (first_overlap facts.service facts.def zones)) (both_all (zone_levels_fit facts.service facts.def) (zone_values_fit facts.service) zones))
+    && (and_true _ ∙ zone_none 4 (zone_values_fit facts.service) zones) i)))
+    && none_mapped (λ (pair : ℕ × ℕ). unsound.Overlap pair.0 pair.1) (first_overlap facts.service facts.def zones) i)
+    ∙ and_last (list_all (listing_fits (is_tag_def facts.def) facts.service) zones) (list_all (subjects_exist (names_of facts.roles.items)) zones)
+    (list_all (zone_levels_fit facts.service facts.def) zones && list_all (zone_values_fit facts.service) zones) (is_none (first_overlap facts.service facts.def zones))
+    ∙ ap (λ b. list_all (listing_fits (is_tag_def facts.def) facts.service) zones && (list_all (subjects_exist (names_of facts.roles.items)) zones && (b && is_none (first_overlap facts.service facts.def zones))))
+    (both_all (zone_levels_fit facts.service facts.def) (zone_values_fit facts.service) zones)
 
-tag_rows_none : (facts : Facts) → is_none (first_some (tag_row_causes facts)) ≡ tag_rows_sound facts.def facts.tag_rows.items
+tag_rows_none : (facts : Facts) → no_cause (present (tag_row_causes facts)) ≡ tag_rows_sound facts.def facts.tag_rows.items
 unfolding tag_rows_sound
 tag_rows_none facts =
     let rows = facts.tag_rows.items in
@@ -150,59 +168,73 @@ tag_policies_none : (frame : Frame) (o : Option ServiceDef) (ps : List Policy) �
 tag_policies_none frame None ps = none_unless (is_no_policy ps) unsound.NoTagDefinition
 tag_policies_none frame (Some def) ps = faulty_none frame Tag ps
 
-none_or : {X : Type 0} (o p : Option X) → is_none (option_or o p) ≡ (is_none o && is_none p)
-none_or None p = refl
-none_or (Some x) p = refl
-
-rules_none : (facts : Facts) → is_none (rule_cause facts) ≡ (list_all (passes (frame_of facts) Resource) facts.policies.items && tag_policies_pass (frame_of facts) facts.tag_def facts.tag_policies.items)
-unfolding rule_cause
+rules_none : (facts : Facts) → no_cause (present (rule_causes facts)) ≡ (list_all (passes (frame_of facts) Resource) facts.policies.items && tag_policies_pass (frame_of facts) facts.tag_def facts.tag_policies.items)
 rules_none facts =
-    none_or (first_faulty (frame_of facts) Resource facts.policies.items) _
-    ∙ (λ i. faulty_none (frame_of facts) Resource facts.policies.items i && tag_policies_none (frame_of facts) facts.tag_def facts.tag_policies.items i)
+    none_of_all (rule_causes facts)
+    ∙ (λ i. faulty_none (frame_of facts) Resource facts.policies.items i && (and_true _ ∙ tag_policies_none (frame_of facts) facts.tag_def facts.tag_policies.items) i)
 
-policies_none : (facts : Facts) → is_none (first_some (policy_causes facts)) ≡ policies_sound facts
-unfolding policies_sound
+policies_none : (facts : Facts) → no_cause (policy_causes facts) ≡ policies_sound facts
+unfolding policy_causes policies_sound
 policies_none facts =
-    none_of_all (policy_causes facts)
-    ∙ (λ i. (none_mapped unsound.TimeZone (option_map place_number (bad_rule facts.time_zones.items)) ∙ none_mapped place_number (bad_rule facts.time_zones.items)) i
-    && (and_true _ ∙ rules_none facts) i)
+    none_or_else (some_of (time_zone_cause facts)) (present (rule_causes facts))
+    ∙ (λ i. (none_of_one (time_zone_cause facts) ∙ none_mapped unsound.TimeZone (option_map place_number (bad_rule facts.time_zones.items)) ∙ none_mapped place_number (bad_rule facts.time_zones.items)) i
+    && rules_none facts i)
 
 -- ---- the whole
 
-pub without_cause : (facts : Facts) → is_none (first_cause facts) ≡ sound facts
-unfolding first_cause sound
+ids_none : (facts : Facts) → no_cause (some_of (unless (ids_sound (all_policies facts)) unsound.PolicyIds)) ≡ ids_sound (all_policies facts)
+ids_none facts = none_of_one _ ∙ none_unless (ids_sound (all_policies facts)) unsound.PolicyIds
+
+later_none : (facts : Facts) → no_cause (later_causes facts)
+    ≡ (ids_sound (all_policies facts) && (roles_sound facts && (zone_names_sound facts && (zones_sound facts && (tag_rows_sound facts.def facts.tag_rows.items && (policies_sound facts && true))))))
+unfolding later_causes
+later_none facts =
+    let ids = some_of (unless (ids_sound (all_policies facts)) unsound.PolicyIds) in
+    let roles = present (role_causes facts) in
+    let names = present (zone_name_causes facts) in
+    let rows = present (tag_row_causes facts) in
+    none_of_two ids (roles ++ (names ++ (zone_causes facts ++ (rows ++ policy_causes facts))))
+    ∙ (λ i. ids_none facts i && (none_of_two roles (names ++ (zone_causes facts ++ (rows ++ policy_causes facts)))
+    ∙ (λ i. roles_none facts i && (none_of_two names (zone_causes facts ++ (rows ++ policy_causes facts))
+    ∙ (λ i. zone_names_none facts i && (none_of_two (zone_causes facts) (rows ++ policy_causes facts)
+    ∙ (λ i. zones_none facts i && (none_of_two rows (policy_causes facts)
+    ∙ (λ i. tag_rows_none facts i && (policies_none facts ∙ sym (and_true (policies_sound facts))) i)) i)) i)) i)) i)
+
+pub without_cause : (facts : Facts) → no_cause (unsound_causes facts) ≡ sound facts
+unfolding unsound_causes sound
 without_cause facts =
-    none_of_all (causes facts)
-    ∙ (λ i. none_unless (versions_fit facts) unsound.Version i
-    && (defs_none facts i
-    && (none_unless (ids_sound (all_policies facts)) unsound.PolicyIds i
-    && (roles_none facts i
-    && (zone_names_none facts i
-    && (zones_none facts i
-    && (tag_rows_none facts i
-    && (policies_none facts i && true))))))))
+    let version = some_of (unless (versions_fit facts) unsound.Version) in
+    none_of_two version (or_else (present (def_causes facts)) (later_causes facts))
+    ∙ (λ i. (none_of_one (unless (versions_fit facts) unsound.Version) ∙ none_unless (versions_fit facts) unsound.Version) i
+    && (none_or_else (present (def_causes facts)) (later_causes facts) ∙ (λ i. defs_none facts i && later_none facts i)) i)
 
 -- ---- what earlier causes leave
 
-no_cause : {X : Type 0} (o : Option X) → is_none o ≡ true → o ≡ None
-no_cause None h = refl
-no_cause (Some x) h = let bad : false ≡ true = h in cc
+no_one : {X : Type 0} (o : Option X) → is_none o ≡ true → o ≡ None
+no_one None h = refl
+no_one (Some x) h = let bad : false ≡ true = h in cc
 
 -- no rule of the definition fails
-pub lawful_def : (facts : Facts) → first_some (def_causes facts) ≡ None → def_fault facts.def ≡ None
+pub lawful_def : (facts : Facts) → present (def_causes facts) ≡ [] → def_fault facts.def ≡ None
 unfolding defs_sound
-lawful_def facts h = no_cause (def_fault facts.def) (and_parts (is_none (def_fault facts.def)) _ (sym (defs_none facts) ∙ ap is_none h)).0
+lawful_def facts h = no_one (def_fault facts.def) (and_parts (is_none (def_fault facts.def)) _ (sym (defs_none facts) ∙ ap no_cause h)).0
 
 -- the tag definition is sound
-pub lawful_tag_def : (facts : Facts) → first_some (def_causes facts) ≡ None → tag_def_sound facts.tag_def ≡ true
+pub lawful_tag_def : (facts : Facts) → present (def_causes facts) ≡ [] → tag_def_sound facts.tag_def ≡ true
 unfolding defs_sound
-lawful_tag_def facts h = (and_parts (is_none (def_fault facts.def)) _ (sym (defs_none facts) ∙ ap is_none h)).1
+lawful_tag_def facts h = (and_parts (is_none (def_fault facts.def)) _ (sym (defs_none facts) ∙ ap no_cause h)).1
 
 -- the maps of zones fit
-pub fitting_maps : (service : List ℕ) (def : ServiceDef) (zones : List ZoneRow) → first_zone 3 (zone_levels_fit service def) zones ≡ None → first_zone 4 (zone_values_fit service) zones ≡ None → all_maps_fit service def zones ≡ true
-fitting_maps service def zones levels values =
-    sym (both_all (zone_levels_fit service def) (zone_values_fit service) zones)
-    ∙ and_from _ _ (sym (zone_none 3 (zone_levels_fit service def) zones) ∙ ap is_none levels) (sym (zone_none 4 (zone_values_fit service) zones) ∙ ap is_none values)
+pub fitting_maps : (facts : Facts) → present (zone_row_causes facts) ≡ [] → all_maps_fit facts.service facts.def facts.zones.items ≡ true
+fitting_maps facts h =
+    let zones = facts.zones.items in
+    let all = sym (none_of_all (zone_row_causes facts)) ∙ ap no_cause h in
+    let listing = and_parts (is_none (first_zone 2 (listing_fits (is_tag_def facts.def) facts.service) zones)) _ all in
+    let subjects = and_parts (is_none (first_zone 5 (subjects_exist (names_of facts.roles.items)) zones)) _ listing.1 in
+    let levels = and_parts (is_none (first_zone 3 (zone_levels_fit facts.service facts.def) zones)) _ subjects.1 in
+    let values = and_parts (is_none (first_zone 4 (zone_values_fit facts.service) zones)) _ levels.1 in
+    sym (both_all (zone_levels_fit facts.service facts.def) (zone_values_fit facts.service) zones)
+    ∙ and_from _ _ (sym (zone_none 3 (zone_levels_fit facts.service facts.def) zones) ∙ levels.0) (sym (zone_none 4 (zone_values_fit facts.service) zones) ∙ values.0)
 
 pub ruleset lawful = (lawful_def, lawful_tag_def)
 

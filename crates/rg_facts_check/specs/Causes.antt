@@ -1,7 +1,6 @@
 -- What makes facts unsound, cause by cause, in the order in which soundness is asked.
-use Rattle.std.specs.Prelude.{ℕ, Bool, not, List, [], ◌∷◌, Option, Some, None, option_and_then, option_map, position, if◌then◌else◌}
+use Rattle.std.specs.Prelude.{ℕ, Bool, true, false, not, List, [], ◌∷◌, ◌++◌, Option, Some, None, option_and_then, option_map, position, if◌then◌else◌}
 use Rattle.std.specs.List.{find}
-use Rattle.std.specs.Option.{option_or}
 use Rattle.std.specs.Ordering.{int_eq}
 use Rattle.rg_base.specs.Texts.{all_distinct}
 use Rattle.rg_policy.specs.declared.policy.Policy.{Policy}
@@ -72,14 +71,17 @@ zone_name_causes facts =
     first_policy 14 (policy_zone_fits (is_tag_def facts.def) facts.service facts.zones.items) facts.policies.items
     ∷ first_policy 14 (tag_policy_zone_fits facts.zones.items) facts.tag_policies.items ∷ []
 
--- Z2, Z5, Z3, Z4 and Z6, all but Z5 asked for the facts' service
-abbrev pub zone_causes : Facts → List (Option Unsound)
-zone_causes facts =
+-- Z2, Z5, Z3 and Z4, all but Z5 asked for the facts' service
+abbrev pub zone_row_causes : Facts → List (Option Unsound)
+zone_row_causes facts =
     first_zone 2 (listing_fits (is_tag_def facts.def) facts.service) facts.zones.items
     ∷ first_zone 5 (subjects_exist (names_of facts.roles.items)) facts.zones.items
     ∷ first_zone 3 (zone_levels_fit facts.service facts.def) facts.zones.items
-    ∷ first_zone 4 (zone_values_fit facts.service) facts.zones.items
-    ∷ option_map (λ (pair : ℕ × ℕ). unsound.Overlap pair.0 pair.1) (first_overlap facts.service facts.def facts.zones.items) ∷ []
+    ∷ first_zone 4 (zone_values_fit facts.service) facts.zones.items ∷ []
+
+-- Z6, asked for the facts' service
+abbrev pub overlap_cause : Facts → Option Unsound
+overlap_cause facts = option_map (λ (pair : ℕ × ℕ). unsound.Overlap pair.0 pair.1) (first_overlap facts.service facts.def facts.zones.items)
 
 -- G2, G3 and the ids of tag rows
 abbrev pub tag_row_causes : Facts → List (Option Unsound)
@@ -93,32 +95,56 @@ tag_policies_cause frame None policies = unless (is_no_policy policies) unsound.
 tag_policies_cause frame (Some def) policies = first_faulty frame Tag policies
 
 -- V3 to V9, V11 and V12 of each policy, those of the tag service last
-unfoldable pub rule_cause : Facts → Option Unsound
-rule_cause facts = option_or (first_faulty (frame_of facts) Resource facts.policies.items) (tag_policies_cause (frame_of facts) facts.tag_def facts.tag_policies.items)
+abbrev pub rule_causes : Facts → List (Option Unsound)
+rule_causes facts =
+    first_faulty (frame_of facts) Resource facts.policies.items
+    ∷ tag_policies_cause (frame_of facts) facts.tag_def facts.tag_policies.items ∷ []
 
--- the time zones, and the rules of each policy under them
-abbrev pub policy_causes : Facts → List (Option Unsound)
-policy_causes facts = option_map unsound.TimeZone (option_map place_number (bad_rule facts.time_zones.items)) ∷ rule_cause facts ∷ []
+-- the time zones
+abbrev pub time_zone_cause : Facts → Option Unsound
+time_zone_cause facts = option_map unsound.TimeZone (option_map place_number (bad_rule facts.time_zones.items))
 
--- the first that there is
-abbrev pub first_some : {X : Type 0} → List (Option X) → Option X
-first_some [] = None
-first_some (o ∷ os) = option_or o (first_some os)
+-- ---- all of them
 
--- the causes behind the definitions, in order: ids, roles, zones, tag rows, policies
-abbrev pub later_causes : Facts → List (Option Unsound)
+-- the cause that there is, as a list
+abbrev pub some_of : {X : Type 0} → Option X → List X
+some_of None = []
+some_of (Some x) = x ∷ []
+
+-- those that there are
+abbrev pub present : {X : Type 0} → List (Option X) → List X
+present [] = []
+present (o ∷ os) = some_of o ++ present os
+
+-- these, or where there is none of them those
+abbrev pub or_else : {X : Type 0} → List X → List X → List X
+or_else [] later = later
+or_else (x ∷ xs) later = x ∷ xs
+
+-- of zones: whether they overlap is asked of those that pass the other rules
+unfoldable pub zone_causes : Facts → List Unsound
+zone_causes facts = or_else (present (zone_row_causes facts)) (some_of (overlap_cause facts))
+
+-- of time zones and policies: these are read under time zones whose rules read
+unfoldable pub policy_causes : Facts → List Unsound
+policy_causes facts = or_else (some_of (time_zone_cause facts)) (present (rule_causes facts))
+
+-- behind the definitions: of ids, roles, zones, tag rows and policies
+unfoldable pub later_causes : Facts → List Unsound
 later_causes facts =
-    unless (ids_sound (all_policies facts)) unsound.PolicyIds
-    ∷ first_some (role_causes facts)
-    ∷ first_some (zone_name_causes facts)
-    ∷ first_some (zone_causes facts)
-    ∷ first_some (tag_row_causes facts)
-    ∷ first_some (policy_causes facts) ∷ []
+    some_of (unless (ids_sound (all_policies facts)) unsound.PolicyIds)
+    ++ (present (role_causes facts)
+    ++ (present (zone_name_causes facts)
+    ++ (zone_causes facts
+    ++ (present (tag_row_causes facts)
+    ++ policy_causes facts))))
 
--- all causes in order
-abbrev pub causes : Facts → List (Option Unsound)
-causes facts = unless (versions_fit facts) unsound.Version ∷ first_some (def_causes facts) ∷ later_causes facts
+-- every cause in the order in which soundness is asked: of each rule the first row that breaks it, and nothing by a definition that
+-- breaks its own
+unfoldable pub unsound_causes : Facts → List Unsound
+unsound_causes facts = some_of (unless (versions_fit facts) unsound.Version) ++ or_else (present (def_causes facts)) (later_causes facts)
 
--- the first cause
-unfoldable pub first_cause : Facts → Option Unsound
-first_cause facts = first_some (causes facts)
+-- there is none
+abbrev pub no_cause : List Unsound → Bool
+no_cause [] = true
+no_cause (cause ∷ causes) = false

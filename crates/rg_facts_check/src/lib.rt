@@ -1,9 +1,14 @@
 // What makes facts unsound.
 #![tactic(auto)]
 
+mod causes;
+mod definitions;
 mod ids;
-mod sound;
+mod noting;
+mod policies;
+mod tag_rows;
 mod unsound;
+mod zones;
 
-pub use sound::{facts_fault, sound_without_cause, unsound_cause};
+pub use causes::{facts_fault, sound_without_cause, unsound_causes};
 pub use unsound::Unsound;

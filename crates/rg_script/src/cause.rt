@@ -2,15 +2,15 @@
 ghost use Rattle.std.specs.Prelude.{◌≡◌, IfOk, is_none};
 ghost use Rattle.rg_cmd.specs.declared.ask.Ask.{Ask};
 ghost use Rattle.rg_policy.specs.declared.request.AccessRequest.{AccessRequest};
-ghost use Rattle.rg_script.specs.Causes.{cause_of, is_unread, place_cause};
+ghost use Rattle.rg_script.specs.Causes.{cause_of, is_unread, place_cause, unsound_by};
 ghost use Rattle.rg_script.specs.Line.{line_of};
 
 use crate::line::{Line, Unread, line_or_cause};
 use rg_admin::{Admin, StartFault};
-use rg_base::{Moment, NoMemory, Text};
+use rg_base::{Moment, NoMemory, Seq, Text};
 use rg_cmd::{Config, Rule};
 use rg_facts::Facts;
-use rg_facts_check::{Unsound, unsound_cause};
+use rg_facts_check::{Unsound, unsound_causes};
 use rg_wire::WireKind;
 use std::alloc::Global;
 
@@ -24,8 +24,8 @@ pub enum Cause {
     Json { path: Text, kind: WireKind },
     /// It stands where such a line may not stand.
     OutOfPlace,
-    /// Its facts aren't sound: what makes them so first.
-    Unsound(Unsound),
+    /// Its facts aren't sound: everything that makes them so, at least one.
+    Unsound(Seq<Unsound>),
     /// Its configuration starts no administration: the first rule that it breaks.
     Refused(Rule),
 }
@@ -41,15 +41,22 @@ pub enum Place {
     Config,
 }
 
+/// That facts are unsound by these causes; None where there is none.
+fn unsound_by(causes: Vec<Unsound>) -> Option<Cause>
+    ensures { result ≡ unsound_by causes.items }
+{
+    match causes.as_slice() {
+        [] => None,
+        _ => Some(Cause::Unsound(Seq::from_vec(causes))),
+    }
+}
+
 /// Why facts are bad where they stand.
 fn facts_cause(alloc: Global, place: Place, facts: &Facts) -> Result<Option<Cause>, NoMemory>
     ensures { IfOk result (λ cause. cause ≡ place_cause place (Line.Facts facts.now)) }
 {
     match place {
-        Place::Start => match unsound_cause(alloc, facts)? {
-            Some(unsound) => Ok(Some(Cause::Unsound(unsound))),
-            None => Ok(None),
-        },
+        Place::Start => Ok(unsound_by(unsound_causes(alloc, facts)?)),
         Place::Facts | Place::Config => Ok(Some(Cause::OutOfPlace)),
     }
 }

@@ -1,5 +1,5 @@
 use Rattle.rg_facts_check.proofs.Law.{without_cause}
-use Rattle.rg_facts_check.proofs.sound.sound_without_cause.Goals as goal
+use Rattle.rg_facts_check.proofs.causes.sound_without_cause.Goals as goal
 
 pub returns : goal.returns
 returns c = without_cause
