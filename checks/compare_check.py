@@ -23,47 +23,95 @@ import reading
 import records
 import spoils
 
-# What the model calls a fault of facts, and how it is named. Facts may have several faults, which the model and the program ask
-# in another order; then any of them will do.
-UNSOUND = {
-    "versions": r"a version is past 2\^62",
-    "tag definition's name": "/tagServiceDef isn't named tag",
-    "tag policies without a tag definition": "/tagPolicies without /tagServiceDef",
-    "policy id below 1": "the ids of policies aren't positive and distinct",
-    "policy ids": "the ids of policies aren't positive and distinct",
-    "role duplicate": r"/roles/\d+ has the name of a role before it",
-    "role unknown": r"/roles/\d+ names a role that isn't there",
-    "role cycle": r"/roles/\d+ holds itself",
-    "tag row ids": "two tag rows have one id",
-    "time zones": r"/timeZones/\d+ breaks U2 \(.*\)",
-}
-WHO = {"S": "/serviceDef", "V": r"policy -?\d+", "Z": r"/zones/\d+", "G": r"tag row -?\d+"}
+# What docs/FORMATS.md says of roles.
+OF_A_ROLE = {"duplicate": "has the name of a role before it", "unknown": "names a role that isn't there", "cycle": "holds itself"}
+# The rules of a policy that are asked together; V10 and V14 are asked before.
+TOGETHER = [rule for rule in model.RULES_OF_A_POLICY if rule not in ("V10", "V14")]
 
 
-def of_rule(rule):
-    who = "/zones/\\d+ with /zones/\\d+" if rule == "Z6" else WHO[rule[0]]
-    return r"%s breaks %s \(.*\)" % (who, rule)
+def broken(who, rule):
+    """What names the rule, and in brackets what it asks."""
+    return r"%s breaks %s \([^;]*\)" % (re.escape(who), rule)
 
 
-def of_fault(fault):
-    if fault.startswith("tag S"):
-        return r"/tagServiceDef breaks %s \(.*\)" % fault[4:]
-    return UNSOUND.get(fault) or of_rule(fault.removeprefix("tag "))
+def of_definition(who, definition):
+    rule = model.first_broken(model.RULES_OF_A_DEFINITION, definition)
+    return [broken(who, rule)] if rule else []
 
 
-def faults_of(line):
-    """All that the model finds; where one fault leaves another question without sense, those before it."""
-    found = []
-    try:
-        for fault in model.faults(records.facts(reading.read(reading.FACTS, line.partition(b" ")[2])[0])):
-            found += [fault] if fault else []
-    except (LookupError, TypeError, AttributeError, ValueError):
-        pass
-    return found
+def of_definitions(facts):
+    yield from of_definition("/serviceDef", facts["serviceDef"])
+    if facts["tagServiceDef"]:
+        yield from of_definition("/tagServiceDef", facts["tagServiceDef"])
+        if facts["tagServiceDef"]["name"] != "tag":
+            yield "/tagServiceDef isn't named tag"
+
+
+def of_policy(facts, rules, is_tag):
+    """The first policy of the list that breaks one of the rules, and the first that it breaks."""
+    definition = facts["tagServiceDef"] if is_tag else facts["serviceDef"]
+    for policy in facts["tagPolicies" if is_tag else "policies"]:
+        rule = model.first_broken({rule: model.RULES_OF_A_POLICY[rule] for rule in rules}, facts, definition, policy, is_tag)
+        if rule:
+            return [broken("policy %d" % policy["id"], rule)]
+    return []
+
+
+def of_zone(facts, rule):
+    """The first zone that breaks the rule alone."""
+    passes = model.RULES_OF_ZONES[rule]
+    return [broken("/zones/%d" % place, rule) for place, zone in enumerate(facts["zones"]) if not passes({**facts, "zones": [zone]})][:1]
+
+
+def of_zones(facts):
+    """Whether two overlap is asked where each passes the other rules."""
+    found = [cause for rule in ("Z2", "Z5", "Z3", "Z4") for cause in of_zone(facts, rule)]
+    pair = None if found else model.overlapping(facts["serviceDef"], facts["zones"], facts["service"])
+    return found + ([broken("/zones/%d with /zones/%d" % pair, "Z6")] if pair else [])
+
+
+def of_tag_rows(facts):
+    for rule, passes in model.RULES_OF_A_TAG_ROW.items():
+        yield from [broken("tag row %d" % row["id"], rule) for row in facts["resources"] if not passes(facts["serviceDef"], row)][:1]
+    if not model.distinct([row["id"] for row in facts["resources"]]):
+        yield "two tag rows have one id"
+
+
+def of_rules(facts):
+    """Policies are asked where each time zone reads."""
+    bad = [place for place, row in enumerate(facts["timeZones"]) if not model.posix_zone(row["rule"])]
+    if bad:
+        return [broken("/timeZones/%d" % bad[0], "U2")]
+    if facts["tagPolicies"] and not facts["tagServiceDef"]:
+        return of_policy(facts, TOGETHER, False) + ["/tagPolicies without /tagServiceDef"]
+    return of_policy(facts, TOGETHER, False) + of_policy(facts, TOGETHER, True)
+
+
+def under_definitions(facts):
+    """The causes that are asked where the definitions pass their rules."""
+    ids = [policy["id"] for policy in facts["policies"] + facts["tagPolicies"]]
+    if min(ids, default=1) < 1 or not model.distinct(ids):
+        yield "the ids of policies aren't positive and distinct"
+    role = model.role_fault(facts["roles"])
+    if role:
+        yield "/roles/%d %s" % (role[1], OF_A_ROLE[role[0]])
+    for rule in ("V10", "V14"):
+        yield from of_policy(facts, [rule], False) + of_policy(facts, [rule], True)
+    yield from of_zones(facts)
+    yield from of_tag_rows(facts)
+    yield from of_rules(facts)
+
+
+def causes(facts):
+    """Everything that makes the facts unsound, in the order of docs/RULES.md; of each rule the first row that breaks it."""
+    if max(facts["policyVersion"], facts["tagVersion"], facts["roleVersion"]) > 2 ** 62:
+        yield re.escape("a version is past 2^62")
+    found = list(of_definitions(facts))
+    yield from found or under_definitions(facts)
 
 
 def of_facts(line):
-    return "(?:%s)" % "|".join(map(of_fault, faults_of(line)))
+    return "; ".join(causes(records.facts(reading.read(reading.FACTS, line.partition(b" ")[2])[0])))
 
 
 def where(script, word):
@@ -105,7 +153,9 @@ class Scripts(admin_maker.AdminMaker):
 
     def facts_line(self, chance):
         given = self.facts()
-        return b"facts " + json.dumps(spoils.spoil(self, given) if self.maybe(chance) else given).encode()
+        for _ in range(self.pick([1, 1, 2, 3, 5]) if self.maybe(chance) else 0):
+            given = spoils.spoil(self, given)
+        return b"facts " + json.dumps(given).encode()
 
     def asked(self):
         return b"decide " + json.dumps(self.request(self.facts_to_ask_of())).encode()

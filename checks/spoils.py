@@ -1,6 +1,6 @@
 """Ways to spoil sound facts, at least one for each rule of soundness. The model says which rule is broken in the end.
 
-A way that finds nothing to spoil raises LookupError, and the facts stay as they are.
+A way that finds nothing to spoil raises an error, and the facts stay as they are.
 """
 
 import copy
@@ -335,6 +335,6 @@ def spoil(maker, facts):
     spoilt = copy.deepcopy(facts)
     try:
         maker.pick(ways)(maker, spoilt)
-    except LookupError:
+    except (LookupError, TypeError, AttributeError):
         return facts
     return spoilt

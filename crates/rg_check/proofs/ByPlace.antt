@@ -5,7 +5,7 @@ use Rattle.rg_base.specs.declared.numbers.Moment.{Moment}
 use Rattle.rg_defs.specs.declared.service_def.ServiceDef.{ServiceDef}
 use Rattle.rg_facts.specs.Sound.{sound}
 use Rattle.rg_facts.specs.declared.facts.Facts.{Facts}
-use Rattle.rg_facts_check.specs.Causes.{first_cause}
+use Rattle.rg_facts_check.specs.Causes.{no_cause, unsound_causes}
 use Rattle.rg_zone_rules.specs.Overlap.{first_overlap, zones_overlap}
 use Rattle.rg_zone_rules.specs.declared.row.ZoneRow.{ZoneRow}
 use Rattle.rg_cmd.specs.declared.ask.AdminReply.{AdminReply}
@@ -40,7 +40,7 @@ use Rattle.rg_check.proofs.Serves.{IsAny as IsAnyAsk, serves_agree}
 
 module _ (by_pairs : (service : List ℕ) (def : ServiceDef) (zones : List ZoneRow) → is_none (first_overlap service def zones) ≡ all_distinct (zones_overlap service def) zones)
     (viewed : (start : Administration) (h : List (Entry Ask AdminReply)) → IsStart start → (k : ℕ) → (f : Facts) × (view (state_at step start h k) start.state.plugin ≡ Some f))
-    (decides : (facts : Facts) → is_none (first_cause facts) ≡ sound facts) where
+    (decides : (facts : Facts) → no_cause (unsound_causes facts) ≡ sound facts) where
   pub by_place : (command : Command) (lines : List (List ℕ)) (moments : List Moment) → found_from command place.Start 1 lines moments ≡ found_by command lines moments
   by_place command.Replay = all_lines command.Replay replay_step replay_place HasPublished (replays_agree by_pairs viewed decides) Empty tt 1
   by_place command.Grants = all_lines command.Grants (with_enrichers grants_step) grants_place HasStarted (grants_agree by_pairs viewed) (hooked None []) tt 1

@@ -1,6 +1,7 @@
 -- Lines of `replay` and their reasons.
 use Rattle.std.proofs.Common.{◌≡◌, ◌-◌, ◌<◌, ◌∷◌, [], arith, ℕ, suc, zero, Bool, true, false, List, length, slice_get, Option, Some, None, option_map, is_none, Result, Ok, Err, refl, sym, subst, length-append, if◌then◌else◌}
 use Rattle.std.specs.Result.{result_ok}
+use Rattle.rg_base.specs.Listed.{listed}
 use Rattle.rg_base.specs.Texts.{all_distinct}
 use Rattle.rg_defs.specs.declared.service_def.ServiceDef.{ServiceDef}
 use Rattle.rg_facts.specs.Sound.{sound}
@@ -24,11 +25,12 @@ use Rattle.rg_publish.specs.Publications.{publication}
 use Rattle.rg_publish.specs.declared.history.Publication.{Publication}
 use Rattle.rg_policy.specs.declared.request.AccessRequest.{AccessRequest}
 use Rattle.rg_run_replay.specs.Running.{Running, newest, opened_unless, refresh_publishes, running, with_next}
+use Rattle.rg_script.specs.Causes.{unsound_by}
 use Rattle.rg_script.specs.declared.cause.Cause.{Cause}
 use Rattle.rg_script.specs.declared.cause.Cause.TheVariants.{OutOfPlace, Refused, Unsound}
 use Rattle.rg_script.specs.declared.line.Line.{Line}
 use Rattle.rg_script.specs.declared.line.Line.TheVariants as line
-use Rattle.rg_facts_check.specs.Causes.{first_cause}
+use Rattle.rg_facts_check.specs.Causes.{no_cause, unsound_causes}
 use Rattle.rg_facts_check.specs.declared.unsound.Unsound.{Unsound as Unsoundness}
 use Rattle.rg_run_replay.specs.declared.replay.Stage.TheVariants as state
 use Rattle.rg_hook.specs.Enriching.{EnricherState}
@@ -82,12 +84,12 @@ decide_agrees : (r : Running) (q : AccessRequest) (o : Option Publication) (p : 
 decide_agrees r q None p e h = cc
 decide_agrees r q (Some b) p e h = (refl, refl, h)
 
-facts_agree : (facts : Facts) (o : Option Unsoundness) (b : Bool) → is_none o ≡ b
-    → ReplayAgrees place.Start (Some kind.Facts) (option_map Unsound o) (option_map (λ f. quiet (state.Facts f)) (if b then Some facts else None))
-facts_agree facts None true e = (refl, refl, tt)
-facts_agree facts None false e = cc
-facts_agree facts (Some u) true e = cc
-facts_agree facts (Some u) false e = (Unsound u, refl)
+facts_agree : (facts : Facts) (list : List Unsoundness) (b : Bool) → no_cause list ≡ b
+    → ReplayAgrees place.Start (Some kind.Facts) (unsound_by list) (option_map (λ f. quiet (state.Facts f)) (if b then Some facts else None))
+facts_agree facts [] true e = (refl, refl, tt)
+facts_agree facts [] false e = cc
+facts_agree facts (u ∷ us) true e = cc
+facts_agree facts (u ∷ us) false e = (Unsound (listed (u ∷ us)), refl)
 
 -- ---- one line with enrichers
 
@@ -119,7 +121,7 @@ judge_agrees (state.Config r) es q h = let p = has_newest r h in newest_agrees r
 
 module _ (by_pairs : (service : List ℕ) (def : ServiceDef) (zones : List ZoneRow) → is_none (first_overlap service def zones) ≡ all_distinct (zones_overlap service def) zones)
     (viewed : (start : Administration) (h : List (Entry Ask AdminReply)) → IsStart start → (k : ℕ) → (f : Facts) × (view (state_at step start h k) start.state.plugin ≡ Some f))
-    (decides : (facts : Facts) → is_none (first_cause facts) ≡ sound facts) where
+    (decides : (facts : Facts) → no_cause (unsound_causes facts) ≡ sound facts) where
   config_agrees : (c : Config) (o : Option Rule) → start_fault c ≡ o
       → ReplayAgrees place.Start (Some kind.Config) (option_map Refused o) (option_map (λ r. quiet (state.Config r)) (opened_unless o c))
   config_agrees c (Some rule) e = (Refused rule, refl)
@@ -134,7 +136,7 @@ module _ (by_pairs : (service : List ℕ) (def : ServiceDef) (zones : List ZoneR
       → ReplayAgrees (replay_place s) (plain_kind read) (plain_cause command.Replay (replay_place s) read) (line_work s (result_ok read))
   unfolding facts_work config_work admin_work refresh_work decide_work published_facts
   agrees state.Empty h (Ok line.Blank) = (refl, refl, tt)
-  agrees state.Empty h (Ok (line.Facts facts)) = facts_agree facts (first_cause facts) (sound facts) (decides facts)
+  agrees state.Empty h (Ok (line.Facts facts)) = facts_agree facts (unsound_causes facts) (sound facts) (decides facts)
   agrees state.Empty h (Ok (line.Config c)) = config_agrees c (start_fault c) refl
   agrees state.Empty h (Ok (line.Admin ask)) = (OutOfPlace, refl)
   agrees state.Empty h (Ok line.Refresh) = (OutOfPlace, refl)

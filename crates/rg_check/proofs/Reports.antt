@@ -1,15 +1,17 @@
 -- Lines of `report` and their reasons.
-use Rattle.std.proofs.Common.{◌≡◌, ℕ, Bool, true, false, List, Option, Some, None, option_and_then, option_map, is_none, Result, Ok, Err, refl, if◌then◌else◌}
+use Rattle.std.proofs.Common.{◌≡◌, ℕ, Bool, true, false, List, [], ◌∷◌, Option, Some, None, option_and_then, option_map, Result, Ok, Err, refl, if◌then◌else◌}
 use Rattle.std.specs.Result.{result_ok}
+use Rattle.rg_base.specs.Listed.{listed}
 use Rattle.rg_base.specs.declared.numbers.Moment.{Moment}
 use Rattle.rg_json.specs.Reading.{reading}
 use Rattle.rg_json.specs.declared.fault.Fault.{Fault}
 use Rattle.rg_facts.specs.Sound.{sound}
 use Rattle.rg_facts.specs.declared.facts.Facts.{Facts}
-use Rattle.rg_facts_check.specs.Causes.{first_cause}
+use Rattle.rg_facts_check.specs.Causes.{no_cause, unsound_causes}
 use Rattle.rg_facts_check.specs.declared.unsound.Unsound.{Unsound as Unsoundness}
 use Rattle.rg_acl.specs.Asks.{ask_of, ask_shape}
 use Rattle.rg_acl.specs.declared.ask.ReportAsk.{ReportAsk}
+use Rattle.rg_script.specs.Causes.{unsound_by}
 use Rattle.rg_script.specs.declared.cause.Cause.{Cause}
 use Rattle.rg_script.specs.declared.cause.Cause.TheVariants.{Json, OutOfPlace, Unsound}
 use Rattle.rg_script.specs.declared.cause.Place.{Place}
@@ -36,12 +38,12 @@ IsAny s = Unit {0}
 abbrev ReportAgrees : Place → Option LineKind → Option Cause → Option (Work State) → Type 0
 ReportAgrees = Agrees (begun place.Facts) IsAny
 
-facts_agree : (facts : Facts) (o : Option Unsoundness) (b : Bool) → is_none o ≡ b
-    → ReportAgrees place.Start (Some kind.Facts) (option_map Unsound o) (option_map (λ f. quiet (Some f)) (if b then Some facts else None))
-facts_agree facts None true e = (refl, refl, tt)
-facts_agree facts None false e = cc
-facts_agree facts (Some u) true e = cc
-facts_agree facts (Some u) false e = (Unsound u, refl)
+facts_agree : (facts : Facts) (list : List Unsoundness) (b : Bool) → no_cause list ≡ b
+    → ReportAgrees place.Start (Some kind.Facts) (unsound_by list) (option_map (λ f. quiet (Some f)) (if b then Some facts else None))
+facts_agree facts [] true e = (refl, refl, tt)
+facts_agree facts [] false e = cc
+facts_agree facts (u ∷ us) true e = cc
+facts_agree facts (u ∷ us) false e = (Unsound (listed (u ∷ us)), refl)
 
 ask_agrees : (s : State) (r : Result ReportAsk Fault)
     → ReportAgrees (begun place.Facts s) (own_kind (read_as kind.Report r)) (own_cause (read_as kind.Report r) (begun place.Facts s)) (option_and_then (ask_work s) (result_ok r))
@@ -51,12 +53,12 @@ ask_agrees None (Err fault) = (Json fault.path fault.kind, refl)
 ask_agrees (Some facts) (Ok ask) = (refl, refl, tt)
 ask_agrees (Some facts) (Err fault) = (Json fault.path fault.kind, refl)
 
-module _ (decides : (facts : Facts) → is_none (first_cause facts) ≡ sound facts) where
+module _ (decides : (facts : Facts) → no_cause (unsound_causes facts) ≡ sound facts) where
   line_agrees : (s : State) (read : Result Line Cause)
       → ReportAgrees (begun place.Facts s) (plain_kind read) (plain_cause command.Report (begun place.Facts s) read) (line_work s (result_ok read))
   unfolding facts_work published_facts
   line_agrees None (Ok line.Blank) = (refl, refl, tt)
-  line_agrees None (Ok (line.Facts facts)) = facts_agree facts (first_cause facts) (sound facts) (decides facts)
+  line_agrees None (Ok (line.Facts facts)) = facts_agree facts (unsound_causes facts) (sound facts) (decides facts)
   line_agrees None (Ok (line.Config c)) = (OutOfPlace, refl)
   line_agrees None (Ok (line.Admin ask)) = (OutOfPlace, refl)
   line_agrees None (Ok line.Refresh) = (OutOfPlace, refl)

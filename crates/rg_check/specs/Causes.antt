@@ -1,5 +1,5 @@
 -- Causes in words.
-use Rattle.std.specs.Prelude.{ℕ, ◌==◌, List, ◌++◌, codes, decimal, Option, Some, None, if◌then◌else◌}
+use Rattle.std.specs.Prelude.{ℕ, ◌==◌, List, [], ◌∷◌, ◌++◌, codes, decimal, flat_map, Option, Some, None, if◌then◌else◌}
 use Rattle.std.specs.Fmt.{signed_decimal}
 use Rattle.std.specs.Str.{encode_utf8_all}
 use Rattle.json.specs.Print.{escape}
@@ -109,6 +109,15 @@ unsound_text (unsound.TagRow id n) = broken_text (codes "tag row " ++ signed_dec
 unsound_text unsound.TagRowIds = codes "two tag rows have one id"
 unsound_text (unsound.TimeZone n) = broken_text (at_place (codes "/timeZones") n) rule.U2
 
+-- what makes facts unsound besides
+abbrev pub besides : Unsound → List ℕ
+besides unsound = codes "; " ++ unsound_text unsound
+
+-- all that makes facts unsound
+unfoldable pub unsound_texts : List Unsound → List ℕ
+unsound_texts [] = []
+unsound_texts (unsound ∷ list) = unsound_text unsound ++ flat_map besides list
+
 -- ---- all causes
 
 -- the cause in words, for a line of this kind where it stands; one that isn't read has no kind
@@ -116,6 +125,6 @@ unfoldable pub cause_text : Command → Place → Option LineKind → Cause → 
 cause_text command place kind (cause.Json path wire) = json_text path wire
 cause_text command place (Some kind) cause.OutOfPlace = misplaced_text command place kind
 cause_text command place None cause.OutOfPlace = no_word_text command
-cause_text command place kind (cause.Unsound fault) = unsound_text fault
+cause_text command place kind (cause.Unsound list) = unsound_texts list.items
 cause_text command place kind (cause.Refused rule) = broken_text (codes "the configuration") rule
 cause_text command place kind cause.NoWord = no_word_text command

@@ -1,10 +1,10 @@
 // Causes in words.
-ghost use Rattle.std.specs.Prelude.{◌≡◌, ◌++◌, IfOk, codes, string_bytes};
+ghost use Rattle.std.specs.Prelude.{◌≡◌, ◌++◌, IfOk, OnOk, codes, flat_map, string_bytes};
 ghost use Rattle.std.specs.Fmt.{signed_decimal};
 ghost use Rattle.rg_cmd.specs.declared.rule.Rule.TheVariants as rule;
 ghost use Rattle.rg_validate.specs.Definitions.{definition_rule};
 ghost use Rattle.rg_script.specs.declared.cause.Cause.TheVariants.{OutOfPlace};
-ghost use Rattle.rg_check.specs.Causes.{at_place, broken_text, cause_text, end_text, json_text, misplaced_text, no_word_text, policy_rule, role_text, standing, tag_row_rule, unsound_text, wire_name, zone_rule};
+ghost use Rattle.rg_check.specs.Causes.{at_place, besides, broken_text, cause_text, end_text, json_text, misplaced_text, no_word_text, policy_rule, role_text, standing, tag_row_rule, unsound_text, unsound_texts, wire_name, zone_rule};
 ghost use Rattle.rg_check.specs.Commands.{command_word};
 ghost use Rattle.rg_check.specs.Kinds.{kind_word};
 
@@ -289,6 +289,42 @@ fn unsound_words(alloc: Global, unsound: Unsound) -> Result<String, NoMemory>
     }
 }
 
+/// Adds what makes facts unsound besides.
+fn add_unsound(alloc: Global, unsound: Unsound, text: &mut String) -> Result<(), NoMemory>
+    ensures { OnOk result (string_bytes text.new ≡ string_bytes text.old ++ besides unsound) }
+{
+    let words = unsound_words(alloc, unsound)?;
+    let words = words.as_str();
+    match write!(text, "; {words}") {
+        Ok(()) => Ok(()),
+        Err(_) => Err(NoMemory),
+    }
+}
+
+fn add_all_unsound(alloc: Global, list: &[Unsound], text: &mut String) -> Result<(), NoMemory>
+    ensures { OnOk result (string_bytes text.new ≡ string_bytes text.old ++ flat_map besides list.now) }
+{
+    for unsound in list {
+        add_unsound(alloc, *unsound, text)?;
+    }
+    Ok(())
+}
+
+/// Everything that makes facts unsound.
+#[tactic(auto, unfolding(crate::specs::Causes::unsound_texts))]
+fn all_unsound_words(alloc: Global, list: &[Unsound]) -> Result<String, NoMemory>
+    ensures { IfOk result (λ s. string_bytes s ≡ unsound_texts list.now) }
+{
+    match list {
+        [] => owned(alloc, ""),
+        [first, later @ ..] => {
+            let mut text = unsound_words(alloc, *first)?;
+            add_all_unsound(alloc, later, &mut text)?;
+            Ok(text)
+        }
+    }
+}
+
 // ---- all causes
 
 /// What is wrong with a line of this kind that stands out of place.
@@ -322,7 +358,7 @@ pub(crate) fn cause_words(
         Cause::NoWord => owned(alloc, no_word(command)),
         Cause::Json { path, kind } => json_words(alloc, path, *kind),
         Cause::OutOfPlace => out_of_place(alloc, command, place, kind),
-        Cause::Unsound(unsound) => unsound_words(alloc, *unsound),
+        Cause::Unsound(list) => all_unsound_words(alloc, list.as_slice()),
         Cause::Refused(rule) => broken(alloc, "the configuration", *rule),
     }
 }

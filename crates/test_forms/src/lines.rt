@@ -1,6 +1,7 @@
 // What a line of a script asks, and why it is bad where it stands. The cells of a row: where the line stands, or `read`, and the line.
 use crate::cells::cell;
 use rg_base::{Moment, NoMemory};
+use rg_facts_check::Unsound;
 use rg_script::{Cause, Line, LineFault, Place, explain_line, read_line};
 use std::alloc::Global;
 
@@ -12,6 +13,17 @@ fn place_of(word: &str) -> Place {
     }
 }
 
+/// What makes facts unsound, one behind the other.
+fn unsound_text(alloc: Global, list: &[Unsound]) -> Result<String, NoMemory> {
+    let mut text = String::new(alloc);
+    for (place, unsound) in list.iter().enumerate() {
+        let between = if place == 0 { "" } else { "; " };
+        let unsound = format!(in alloc; "{between}{unsound:?}")?;
+        text.push_str(unsound.as_str())?;
+    }
+    Ok(text)
+}
+
 fn cause_text(alloc: Global, cause: &Cause) -> Result<String, NoMemory> {
     match cause {
         Cause::NoWord => Ok(String::from_str(alloc, "no word")?),
@@ -20,7 +32,7 @@ fn cause_text(alloc: Global, cause: &Cause) -> Result<String, NoMemory> {
             Ok(format!(in alloc; "{path} {kind:?}")?)
         }
         Cause::OutOfPlace => Ok(String::from_str(alloc, "out of place")?),
-        Cause::Unsound(unsound) => Ok(format!(in alloc; "{unsound:?}")?),
+        Cause::Unsound(list) => unsound_text(alloc, list.as_slice()),
         Cause::Refused(rule) => Ok(format!(in alloc; "{rule:?}")?),
     }
 }
