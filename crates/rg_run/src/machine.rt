@@ -1,5 +1,5 @@
 // The program over the machine.
-ghost use Rattle.std.specs.Prelude.{◌≡◌, ◌≤◌, true, IfOk, IsSome, Option, length, map, string_bytes};
+ghost use Rattle.std.specs.Prelude.{◌≡◌, true, IfOk, IsSome, Option, length, map, string_bytes};
 ghost use Rattle.std.specs.Process.{exit_status};
 ghost use Rattle.rg_run.specs.declared.command.Command as the;
 ghost use Rattle.rg_run.specs.Commands.{command_of, takes_keeper};
@@ -10,7 +10,7 @@ use crate::program::run;
 use rg_base::NoMemory;
 use rg_hook::{AuditFan, Enrichers, WorkerHooks};
 use rg_ports::{Clock, FreeGate, Listener, Sink, Source, StdSink, StdSource, TcpNet, WallClock};
-use rg_record_store::{Keeper, SqlKeeper};
+use rg_record_store::SqlKeeper;
 use rg_run_script::Status;
 use sqlite::{Connection, MemStore};
 use std::alloc::Global;
@@ -59,8 +59,8 @@ fn keeper_for(alloc: Global, words: &[String]) -> Result<Option<SqlKeeper<MemSto
     }
 }
 
-/// Runs with these workers. It stands apart from `start`, where it isn't found that the workers may cross threads.
-fn run_plain<S: Source, K: Sink, C: Clock, N: Listener, P: Keeper + Drop>(
+/// Runs with workers without hooks. It stands apart from `start`, where it isn't found that the workers may cross threads.
+fn run_plain<S: Source, K: Sink, C: Clock, N: Listener>(
     threads: &(impl Threads + Wait + Sync),
     alloc: Global,
     words: &[String],
@@ -68,16 +68,24 @@ fn run_plain<S: Source, K: Sink, C: Clock, N: Listener, P: Keeper + Drop>(
     sink: &mut K,
     clock: &mut C,
     net: &mut N,
-    workers: &mut Vec<WorkerHooks>,
-    keeper: &mut Option<P>,
-) -> u8
-    requires workers { (1 ≤ length workers.old.items) × (length workers.old.items ≤ 64) }
-    requires keeper { takes_keeper (command_of (map string_bytes words.now)) ≡ true → IsSome keeper.old }
-    ensures { IsEndOf (command_of (map string_bytes words.now)) result }
+) -> Result<u8, NoMemory>
+    ensures { IfOk result (λ status. IsEndOf (command_of (map string_bytes words.now)) status) }
 {
-    run(
-        threads, alloc, words, source, sink, clock, net, &FreeGate, workers, keeper,
-    )
+    let mut workers = plain_workers(alloc)?;
+    let mut keeper = keeper_for(alloc, words)?;
+    let status = run(
+        threads,
+        alloc,
+        words,
+        source,
+        sink,
+        clock,
+        net,
+        &FreeGate,
+        &mut workers,
+        &mut keeper,
+    );
+    Ok(status)
 }
 
 /// Runs over what the machine has, and answers the number of the status.
@@ -92,9 +100,7 @@ fn run_on_machine(
     let mut sink = StdSink::new(rt.stdout());
     let mut clock = WallClock(*rt);
     let mut net = TcpNet::new(*rt);
-    let mut workers = plain_workers(rt.alloc())?;
-    let mut keeper = keeper_for(rt.alloc(), words)?;
-    let status = run_plain(
+    run_plain(
         threads,
         rt.alloc(),
         words,
@@ -102,10 +108,7 @@ fn run_on_machine(
         &mut sink,
         &mut clock,
         &mut net,
-        &mut workers,
-        &mut keeper,
-    );
-    Ok(status)
+    )
 }
 
 /// What `main` ends with where memory is refused before a command begins.

@@ -21,7 +21,7 @@ use rg_run_keep::keep_script;
 use rg_run_replay::Replay;
 use rg_run_report::Reports;
 use rg_run_script::{HookedWorker, Status, Worker, work_script, work_script_hooked, write_all};
-use rg_run_serve::serve_script;
+use rg_run_serve::{Service, serve_script};
 use std::alloc::Global;
 use std::mem;
 use std::sync::Wait;
@@ -122,7 +122,19 @@ fn keep<P: Keeper + Drop, S: Source, K: Sink, C: Clock, H: RequestHooks>(
     status
 }
 
-/// Answers a command; None is that of words that ask for none.
+/// What is asked, and what answers it beside the outside that it changes.
+#[derive(Drop)]
+struct Task<'r, 'g, R, G> {
+    /// What starts threads, by which they wait.
+    rt: &'r R,
+    alloc: Global,
+    /// To which the workers of a service come before and after each decision.
+    gate: &'g G,
+    /// The command; None for words that ask for none.
+    command: Option<Command>,
+}
+
+/// Answers a command.
 fn answer<
     S: Source,
     K: Sink,
@@ -133,41 +145,49 @@ fn answer<
     P: Keeper + Drop,
     R: Threads + Wait + Sync,
 >(
-    rt: &R,
-    alloc: Global,
-    command: Option<Command>,
+    task: &Task<R, G>,
     source: &mut S,
     sink: &mut K,
     clock: &mut C,
     net: &mut N,
-    gate: &G,
     hooks: &mut Vec<H>,
     keeper: &mut Option<P>,
 ) -> Status
     requires workers { (1 ≤ length hooks.old.items) × (length hooks.old.items ≤ 64) }
-    requires keeper { takes_keeper command ≡ true → IsSome keeper.old }
+    requires keeper { takes_keeper task.now.command ≡ true → IsSome keeper.old }
     ensures run { IsRun (Answers (length hooks.old.items)
         (around (door (N.given net.old) (N.ended net.old) (N.faults net.old)) (shelf_of P.kept P.faults keeper.old) (first_hooks H.sinks H.enrichers hooks.old.items))
-        (around (door (N.given net.new) (N.ended net.new) (N.faults net.new)) (shelf_of P.kept P.faults keeper.new) (first_hooks H.sinks H.enrichers hooks.new.items)) command)
+        (around (door (N.given net.new) (N.ended net.new) (N.faults net.new)) (shelf_of P.kept P.faults keeper.new) (first_hooks H.sinks H.enrichers hooks.new.items)) task.now.command)
         (ports (S.left source.old) (S.ended source.old) (S.faults source.old) (C.given clock.old) (K.held sink.old) (K.faults sink.old))
         (ports (S.left source.new) (S.ended source.new) (S.faults source.new) (C.given clock.new) (K.held sink.new) (K.faults sink.new)) result }
     ensures clock_stays { (result ≡ Status.ReadFault) ⊎ (result ≡ Status.TooLong) → clock.new ≡ clock.old }
-    ensures untouched { reads command ≡ false → (source.new ≡ source.old) × (clock.new ≡ clock.old) }
-    ensures unserved { serves command ≡ false → net.new ≡ net.old }
-    ensures taken { serves command ≡ true → hooks.new.items ≡ [] }
-    ensures others { serves command ≡ false → (drop 1 hooks.new.items ≡ drop 1 hooks.old.items) × (length hooks.new.items ≡ length hooks.old.items) }
-    ensures unhooked { serves command ≡ false → judges command ≡ false → hooks.new.items ≡ hooks.old.items }
-    ensures unheard { serves command ≡ false → (result ≡ Status.Usage) ⊎ ((result ≡ Status.ReadFault) ⊎ (result ≡ Status.TooLong)) → hooks.new.items ≡ hooks.old.items }
-    ensures unkept { takes_keeper command ≡ false → keeper.new ≡ keeper.old }
-    ensures put_back { takes_keeper command ≡ true → IsSome keeper.new }
+    ensures untouched { reads task.now.command ≡ false → (source.new ≡ source.old) × (clock.new ≡ clock.old) }
+    ensures unserved { serves task.now.command ≡ false → net.new ≡ net.old }
+    ensures taken { serves task.now.command ≡ true → hooks.new.items ≡ [] }
+    ensures others { serves task.now.command ≡ false → (drop 1 hooks.new.items ≡ drop 1 hooks.old.items) × (length hooks.new.items ≡ length hooks.old.items) }
+    ensures unhooked { serves task.now.command ≡ false → judges task.now.command ≡ false → hooks.new.items ≡ hooks.old.items }
+    ensures unheard { serves task.now.command ≡ false → (result ≡ Status.Usage) ⊎ ((result ≡ Status.ReadFault) ⊎ (result ≡ Status.TooLong)) → hooks.new.items ≡ hooks.old.items }
+    ensures unkept { takes_keeper task.now.command ≡ false → keeper.new ≡ keeper.old }
+    ensures put_back { takes_keeper task.now.command ≡ true → IsSome keeper.new }
 {
-    match &command {
-        Some(Command::Replay) => judge_by(alloc, Replay::new(rt), source, sink, clock, hooks),
+    match &task.command {
+        Some(Command::Replay) => judge_by(
+            task.alloc,
+            Replay::new(task.rt),
+            source,
+            sink,
+            clock,
+            hooks,
+        ),
         Some(Command::Serve { address, links }) => {
-            let hooks = mem::replace(hooks, Vec::new(alloc));
-            serve_script(
-                rt, alloc, address, *links, source, sink, clock, net, gate, hooks,
-            )
+            let hooks = mem::replace(hooks, Vec::new(task.alloc));
+            let service = Service {
+                rt: task.rt,
+                address,
+                links: *links,
+                gate: task.gate,
+            };
+            serve_script(task.alloc, &service, source, sink, clock, net, hooks)
         }
         Some(
             Command::Drill {
@@ -175,10 +195,10 @@ fn answer<
                 policies,
                 requests,
             },
-        ) => drill(rt, alloc, *seed, *policies, *requests, sink),
-        Some(Command::Grants) => judge_by(alloc, Grants::new(), source, sink, clock, hooks),
-        Some(Command::Report) => work_by(alloc, Reports::new(), source, sink, clock),
-        Some(Command::Keep) => keep(alloc, keeper, source, sink, clock, hooks),
+        ) => drill(task.rt, task.alloc, *seed, *policies, *requests, sink),
+        Some(Command::Grants) => judge_by(task.alloc, Grants::new(), source, sink, clock, hooks),
+        Some(Command::Report) => work_by(task.alloc, Reports::new(), source, sink, clock),
+        Some(Command::Keep) => keep(task.alloc, keeper, source, sink, clock, hooks),
         None => match write_all(
             sink,
             b"usage: rangerd replay | serve ADDRESS LINKS | drill SEED POLICIES REQUESTS | grants | report | keep\n",
@@ -250,10 +270,15 @@ pub fn run<
         (result ≡ 0) ⊎ ((result ≡ 2) ⊎ ((result ≡ 9) ⊎ ((takes_keeper (command_of (map string_bytes words.now)) ≡ true) × (result ≡ 10)))) }
 {
     match command_of(alloc, words) {
-        Ok(command) => answer(
-            rt, alloc, command, source, sink, clock, net, gate, hooks, keeper,
-        )
-        .number(),
+        Ok(command) => {
+            let task = Task {
+                rt,
+                alloc,
+                gate,
+                command,
+            };
+            answer(&task, source, sink, clock, net, hooks, keeper).number()
+        }
         Err(_) => Status::NoMemory.number(),
     }
 }

@@ -4,4 +4,4 @@
 mod preparing;
 mod serving;
 
-pub use serving::serve_script;
+pub use serving::{Service, serve_script};

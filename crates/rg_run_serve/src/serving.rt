@@ -16,6 +16,19 @@ use std::alloc::Global;
 use std::sync::Wait;
 use std::thread::Threads;
 
+/// What a service is asked, and what it runs by.
+#[derive(Drop)]
+pub struct Service<'r, 'a, 'g, R, G> {
+    /// What starts its threads, by which they wait.
+    pub rt: &'r R,
+    /// Where the listener listens.
+    pub address: &'a Text,
+    /// How many links are served at most.
+    pub links: u32,
+    /// To which the workers come before and after each decision.
+    pub gate: &'g G,
+}
+
 /// The last line.
 #[tactic(auto, unfolding(crate::specs::Serve::totals_line))]
 fn add_totals(
@@ -61,26 +74,23 @@ fn take_links<
     Q: Wait + Drop + Send,
     R: Threads + Wait + Sync,
 >(
-    rt: &R,
     alloc: Global,
+    service: &Service<R, G>,
     opened: Opened<Q>,
     hooks: Vec<H>,
     net: &mut N,
-    address: &Text,
     clock: &mut C,
-    gate: &G,
-    links: u32,
 ) -> Result<String, Status>
     requires { length hooks.items ≡ opened.workers }
-    ensures served { IfOk result (λ text. TellsTotals links opened (door (N.given net.old) (N.ended net.old) (N.faults net.old)) (door (N.given net.new) (N.ended net.new) (N.faults net.new)) (string_bytes text)) }
+    ensures served { IfOk result (λ text. TellsTotals service.now.links opened (door (N.given net.old) (N.ended net.old) (N.faults net.old)) (door (N.given net.new) (N.ended net.new) (N.faults net.new)) (string_bytes text)) }
     ensures stopped { IfErr result (IsStopped (N.faults net.old) (N.faults net.new)) }
 {
     let outside = Outside {
-        address,
-        gate,
-        most: links as u64,
+        address: service.address,
+        gate: service.gate,
+        most: service.links as u64,
     };
-    match serve(rt, alloc, opened, hooks, net, clock, outside) {
+    match serve(service.rt, alloc, opened, hooks, net, clock, outside) {
         Ok(served) => match totals_of(alloc, served) {
             Ok(text) => Ok(text),
             Err(_) => Err(Status::NoMemory),
@@ -100,19 +110,16 @@ pub fn serve_script<
     H: RequestHooks + Send,
     R: Threads + Wait + Sync,
 >(
-    rt: &R,
     alloc: Global,
-    address: &Text,
-    links: u32,
+    service: &Service<R, G>,
     source: &mut S,
     sink: &mut K,
     clock: &mut C,
     net: &mut N,
-    gate: &G,
     hooks: Vec<H>,
 ) -> Status
     requires { (1 ≤ length hooks.items) × (length hooks.items ≤ 64) }
-    ensures run { IsRun (ServesLinks links (length hooks.items)
+    ensures run { IsRun (ServesLinks service.now.links (length hooks.items)
         (door (N.given net.old) (N.ended net.old) (N.faults net.old))
         (door (N.given net.new) (N.ended net.new) (N.faults net.new)))
         (ports (S.left source.old) (S.ended source.old) (S.faults source.old) (C.given clock.old) (K.held sink.old) (K.faults sink.old))
@@ -124,7 +131,13 @@ pub fn serve_script<
         Err(status) => return status,
     };
     let workers = hooks.len() as u32;
-    let Prepared { text, opened } = match prepare(rt, alloc, bytes.as_slice(), clock, workers) {
+    let Prepared { text, opened } = match prepare(
+        service.rt,
+        alloc,
+        bytes.as_slice(),
+        clock,
+        workers,
+    ) {
         Ok(prepared) => prepared,
         Err(_) => return Status::NoMemory,
     };
@@ -140,7 +153,7 @@ pub fn serve_script<
         Some(opened) => opened,
         None => return Status::BadLine,
     };
-    let totals = match take_links(rt, alloc, opened, hooks, net, address, clock, gate, links) {
+    let totals = match take_links(alloc, service, opened, hooks, net, clock) {
         Ok(totals) => totals,
         Err(status) => return status,
     };
