@@ -1,5 +1,5 @@
 // The program over the machine.
-ghost use Rattle.std.specs.Prelude.{◌≡◌, true, IfOk, IsSome, Option, length, map, string_bytes};
+ghost use Rattle.std.specs.Prelude.{◌≡◌, ◌≤◌, true, IfOk, IsSome, Option, length, map, string_bytes};
 ghost use Rattle.std.specs.Process.{exit_status};
 ghost use Rattle.rg_run.specs.declared.command.Command as the;
 ghost use Rattle.rg_run.specs.Commands.{command_of, takes_keeper};
@@ -9,7 +9,7 @@ use crate::command::{Command, command_of};
 use crate::program::run;
 use rg_base::NoMemory;
 use rg_hook::{AuditFan, Enrichers, WorkerHooks};
-use rg_ports::{Clock, FreeGate, Listener, Sink, Source, StdSink, StdSource, TcpNet, WallClock};
+use rg_ports::{FreeGate, Sink, Source, StdSink, StdSource, TcpNet, WallClock};
 use rg_record_store::SqlKeeper;
 use rg_run_script::Status;
 use sqlite::{Connection, MemStore};
@@ -59,30 +59,32 @@ fn keeper_for(alloc: Global, words: &[String]) -> Result<Option<SqlKeeper<MemSto
     }
 }
 
-/// Runs with workers without hooks. It stands apart from `start`, where it isn't found that the workers may cross threads.
-fn run_plain<S: Source, K: Sink, C: Clock, N: Listener>(
+/// Runs with these workers by the machine's clock and its network. It stands apart from `start`, where it isn't found that the workers
+/// may cross threads.
+fn run_plain<S: Source, K: Sink>(
+    rt: &HostRuntime,
     threads: &(impl Threads + Wait + Sync),
-    alloc: Global,
     words: &[String],
     source: &mut S,
     sink: &mut K,
-    clock: &mut C,
-    net: &mut N,
+    workers: &mut Vec<WorkerHooks>,
 ) -> Result<u8, NoMemory>
+    requires { (1 ≤ length workers.old.items) × (length workers.old.items ≤ 64) }
     ensures { IfOk result (λ status. IsEndOf (command_of (map string_bytes words.now)) status) }
 {
-    let mut workers = plain_workers(alloc)?;
-    let mut keeper = keeper_for(alloc, words)?;
+    let mut clock = WallClock(*rt);
+    let mut net = TcpNet::new(*rt);
+    let mut keeper = keeper_for(rt.alloc(), words)?;
     let status = run(
         threads,
-        alloc,
+        rt.alloc(),
         words,
         source,
         sink,
-        clock,
-        net,
+        &mut clock,
+        &mut net,
         &FreeGate,
-        &mut workers,
+        workers,
         &mut keeper,
     );
     Ok(status)
@@ -98,17 +100,8 @@ fn run_on_machine(
 {
     let mut source = StdSource::new(rt.stdin());
     let mut sink = StdSink::new(rt.stdout());
-    let mut clock = WallClock(*rt);
-    let mut net = TcpNet::new(*rt);
-    run_plain(
-        threads,
-        rt.alloc(),
-        words,
-        &mut source,
-        &mut sink,
-        &mut clock,
-        &mut net,
-    )
+    let mut workers = plain_workers(rt.alloc())?;
+    run_plain(rt, threads, words, &mut source, &mut sink, &mut workers)
 }
 
 /// What `main` ends with where memory is refused before a command begins.
