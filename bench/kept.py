@@ -3,8 +3,8 @@
 
 Changes a second that are accepted, by 1, 8 and 64 clients, each a process with a connection of its own that puts users; beside them one client that
 asks for decisions, with the time of the median and of the slowest of a hundred. Then how long a start takes over a file of so many records (10,000 and
-100,000 where none are given), until it listens, and how much memory the process has then. The file lies in the folder for temporary files, so TMPDIR
-chooses the disk."""
+100,000 where none are given), changes of 1,000 users, until it listens, and how much memory the process has then. The file lies in the folder for
+temporary files, so TMPDIR chooses the disk."""
 import contextlib
 import json
 import multiprocessing
@@ -28,6 +28,7 @@ DEF = {"name": "hive", "resources": [{"name": "database"}], "accessTypes": [{"na
 SCRIPT = "config " + json.dumps({"admins": ["root"], "plugin": "hive1", "serviceDefs": [DEF], "services": [{"name": "hive1", "type": "hive"}]}) + "\n"
 REQUEST = json.dumps({"user": "ann", "resource": {"elements": {"database": "sales"}}, "accessType": "select"})
 MESSAGES = 9000  # of a connection, which takes 10,000
+USERS = 1000  # whom the records of a start are about, one after the other
 
 
 def start(file):
@@ -113,7 +114,7 @@ def starts(folder, records):
         database.execute("CREATE TABLE kept (place INTEGER PRIMARY KEY, record BLOB NOT NULL)")
         database.executemany(
             "INSERT INTO kept (record) VALUES (?)",
-            ((f'{{"actor":"root","command":{{"command":"putUser","user":{{"groups":["staff"],"name":"user{number}"}}}}}}'.encode(),) for number in range(records)),
+            ((f'{{"actor":"root","command":{{"command":"putUser","user":{{"groups":["staff"],"name":"user{number % USERS}"}}}}}}'.encode(),) for number in range(records)),
         )
         database.commit()
     size, began = os.path.getsize(file), time.perf_counter()
