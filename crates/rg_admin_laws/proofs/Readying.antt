@@ -31,11 +31,7 @@ valid_fits s p valid def is =
     (levels.0, (and_parts (policy_values_fit def p) _ levels.1).0)
 
 pub ready : (s : State) → IsValid s → IsReady s
-ready s valid = record {
-  lawful = λ def there. none_of (def_fault def) (all_holds definition_valid s.defs.items valid.definitions def there);
-  fitting = λ q there. valid_fits s q (all_holds (policy_valid s) s.policies.items valid.policies q there);
-  roles = none_of (fault_of s.roles.items) valid.roles;
-}
+ready s valid q there = valid_fits s q (all_holds (policy_valid s) s.policies.items valid.policies q there)
 
 -- a policy that passes its rules fits
 command_fits : (s : State) → IsValid s → (c : AdminCommand) → first_failing (command_rules s c) ≡ None → FormFits s c

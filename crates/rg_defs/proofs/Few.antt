@@ -1,9 +1,8 @@
 -- What the rules of a definition bound.
-use Rattle.std.proofs.Common.{◌≡◌, ◌≤◌, ◌∷◌, [], ℕ, List, true, false, Bool, None, length, drop, arith, option_map, refl}
+use Rattle.std.proofs.Common.{◌≡◌, ◌∷◌, [], ℕ, List, true, false, Bool, None, drop, option_map, refl}
 use Rattle.std.specs.List.{find, list_all}
 use Rattle.std.specs.Prelude.{not}
 use Rattle.std.proofs.lemmas.Bool.{and_from, and_parts}
-use Rattle.std.proofs.lemmas.Bool.Decides.{nat_tests}
 use Rattle.rg_defs.specs.declared.service_def.ServiceDef.{ServiceDef}
 use Rattle.rg_defs.specs.Rules.{def_fault, levels_rule, name_rule, parents_rule, rules_of}
 
@@ -31,6 +30,3 @@ levels_hold def h =
     let second = and_parts (levels_rule def.levels.items) (later_rules def 2) first.1 in
     let third = and_parts (parents_rule def.levels.items) (later_rules def 3) second.1 in
     (second.0, third.0)
-
-pub few_levels : (def : ServiceDef) → def_fault def ≡ None → length def.levels.items ≤ 16
-few_levels def h = let k = (levels_hold def h).0 in grind (arith, nat_tests)

@@ -3,7 +3,6 @@ ghost use Rattle.std.specs.Prelude.{◌≡◌, None, IfOk, option_map};
 ghost use Rattle.std.specs.Str.{chars};
 ghost use Rattle.rg_base.specs.Listed.{listed};
 ghost use Rattle.rg_defs.specs.Grants.{access_type_of, expand, grants, implied_by};
-ghost use Rattle.rg_defs.specs.Rules.{def_fault};
 
 use crate::service_def::{AccessType, ServiceDef};
 use rg_base::{NoMemory, Seq, Text, TryCopy, find_named, is_among, same_text};
@@ -28,7 +27,6 @@ fn implied_by<'a>(def: &'a ServiceDef, name: &str) -> &'a [Text]
 
 /// The access, then its implied grants as they are listed; the access alone where the definition has no such type.
 pub fn expand(alloc: Global, def: &ServiceDef, access: &str) -> Result<Seq<Text>, NoMemory>
-    requires { def_fault def.now ≡ None }
     ensures { IfOk result (λ list. list ≡ listed (expand def.now (chars access.now))) }
 {
     let mut list = Seq::new(alloc);
@@ -41,7 +39,6 @@ pub fn expand(alloc: Global, def: &ServiceDef, access: &str) -> Result<Seq<Text>
 
 /// Whether the given access is the asked one, or lists it among its implied grants. One step is followed, and no further.
 pub fn grants(def: &ServiceDef, given: &str, asked: &str) -> bool
-    requires { def_fault def.now ≡ None }
     ensures { result ≡ grants def.now (chars given.now) (chars asked.now) }
 {
     same_text(given, asked) || is_among(asked, implied_by(def, given))

@@ -1,11 +1,10 @@
 // The paths of a definition's levels.
-ghost use Rattle.std.specs.Prelude.{◌≡◌, ◌<◌, ◌≤◌, ◌+◌, None, IfOk, IfSome, length, map, option_map, reverse};
+ghost use Rattle.std.specs.Prelude.{◌≡◌, ◌+◌, IfOk, map, option_map, reverse};
 ghost use Rattle.std.specs.List.{list_any};
 ghost use Rattle.std.specs.Str.{chars};
 ghost use Rattle.rg_base.specs.Listed.{listed};
 ghost use Rattle.rg_defs.specs.Paths.{level_of, parent_of, place_of};
 ghost use Rattle.rg_defs.specs.PathTests.{climb, first_paths, has_name, is_leaf, is_some_place, lies_on, path_to, paths_of};
-ghost use Rattle.rg_defs.specs.Rules.{def_fault};
 
 use crate::service_def::{Level, ServiceDef};
 use rg_base::{NoMemory, Seq, find_named, place_named, same_text};
@@ -20,8 +19,7 @@ pub fn level_of<'a>(def: &'a ServiceDef, name: &str) -> Option<&'a Level>
 
 /// The place of the parent of the level at this place, None for a root.
 pub(crate) fn parent_of(levels: &[Level], place: usize) -> Option<usize>
-    ensures place { result ≡ parent_of levels.now place }
-    ensures within { IfSome result (λ parent. parent < length levels.now) }
+    ensures { result ≡ parent_of levels.now place }
 {
     match levels.get(place) {
         Some(level) => place_named(levels, level.parent.as_str()),
@@ -37,10 +35,19 @@ fn turned(mut upwards: Vec<u32>) -> Seq<u32>
     Seq::from_vec(upwards)
 }
 
+/// The place as paths keep it. Memory for a list with more places than that is refused.
+fn kept_place(place: usize) -> Result<u32, NoMemory>
+    ensures { IfOk result (λ kept. kept ≡ place) }
+{
+    if place <= u32::MAX as usize {
+        Ok(place as u32)
+    } else {
+        Err(NoMemory)
+    }
+}
+
 /// From the root down to this place.
 fn path_to(alloc: Global, levels: &[Level], place: usize) -> Result<Seq<u32>, NoMemory>
-    requires there { place < length levels.now }
-    requires few { length levels.now ≤ 16 }
     ensures { IfOk result (λ path. path ≡ listed (path_to levels.now place)) }
 {
     let mut upwards: Vec<u32> = Vec::new(alloc);
@@ -49,7 +56,7 @@ fn path_to(alloc: Global, levels: &[Level], place: usize) -> Result<Seq<u32>, No
         let Some(here) = at else {
             return Ok(turned(upwards));
         };
-        upwards.push(here as u32)?;
+        upwards.push(kept_place(here)?)?;
         at = parent_of(levels, here);
     }
     Ok(turned(upwards))
@@ -85,9 +92,7 @@ fn with_path(
     levels: &[Level],
     place: usize,
 ) -> Result<Seq<Seq<u32>>, NoMemory>
-    requires there { place < length levels.now }
-    requires few { length levels.now ≤ 16 }
-    requires so_far { list ≡ listed (first_paths levels.now place) }
+    requires { list ≡ listed (first_paths levels.now place) }
     ensures { IfOk result (λ list. list ≡ listed (first_paths levels.now (place + 1))) }
 {
     if !is_leaf(levels, place) {
@@ -97,9 +102,9 @@ fn with_path(
     Ok(list)
 }
 
+/// The paths from a root to a leaf, as places of levels, in the order of the places of their leaves.
 #[tactic(auto, using(crate::proofs::Climbs::all_paths))]
-fn paths_from(alloc: Global, levels: &[Level]) -> Result<Seq<Seq<u32>>, NoMemory>
-    requires { length levels.now ≤ 16 }
+pub(crate) fn paths(alloc: Global, levels: &[Level]) -> Result<Seq<Seq<u32>>, NoMemory>
     ensures { IfOk result (λ list. list ≡ listed (map listed (paths_of levels.now))) }
 {
     let mut list = Seq::new(alloc);
@@ -107,15 +112,6 @@ fn paths_from(alloc: Global, levels: &[Level]) -> Result<Seq<Seq<u32>>, NoMemory
         list = with_path(alloc, list, levels, place)?;
     }
     Ok(list)
-}
-
-/// The paths from a root to a leaf, as places of levels, in the order of the places of their leaves.
-#[tactic(auto, using(crate::proofs::Few::few_levels))]
-pub fn paths(alloc: Global, def: &ServiceDef) -> Result<Seq<Seq<u32>>, NoMemory>
-    requires { def_fault def.now ≡ None }
-    ensures { IfOk result (λ list. list ≡ listed (map listed (paths_of def.now.levels.items))) }
-{
-    paths_from(alloc, def.levels.as_slice())
 }
 
 pub(crate) fn has_name(levels: &[Level], name: &str, place: usize) -> bool

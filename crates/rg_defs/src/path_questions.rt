@@ -3,7 +3,6 @@ ghost use Rattle.std.specs.Prelude.{◌≡◌, ◌&&◌, ◌++◌, ℕ, None, If
 ghost use Rattle.std.specs.List.{find, list_all, list_any};
 ghost use Rattle.rg_base.specs.Listed.{Listed, listed};
 ghost use Rattle.rg_defs.specs.PathTests.{lies_on, on_one_path, path_for, paths_of};
-ghost use Rattle.rg_defs.specs.Rules.{def_fault};
 
 use crate::level_paths::{lies_on, paths};
 use crate::service_def::{Level, ServiceDef};
@@ -85,11 +84,10 @@ impl Model for Paths {
 impl Paths {
     /// The levels of the definition, copied, with their paths.
     pub fn of(alloc: Global, def: &ServiceDef) -> Result<Paths, NoMemory>
-        requires { def_fault def.now ≡ None }
         ensures { IfOk result (λ p. p ≡ def.now.levels.items) }
     {
         let levels = def.levels.try_copy(alloc)?;
-        let paths = paths(alloc, def)?;
+        let paths = paths(alloc, levels.as_slice())?;
         Ok(Paths { levels, paths })
     }
 

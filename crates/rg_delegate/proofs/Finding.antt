@@ -117,18 +117,9 @@ all_found read s a k found e =
 
 -- ---- what a state that is ready gives
 
-pub def_is_there : (s : State) (service : List ℕ) (def : ServiceDef) → def_of s service ≡ Some def → Contains s.defs.items def
-def_is_there s service def e = at (service_at s service) e where
-  at : (o : Option ServiceRow) → option_and_then (λ (row : ServiceRow). def_at s row.def) o ≡ Some def → Contains s.defs.items def
-  at None k = absurd (none-some def k)
-  at (Some row) k = (find_contained (λ (d : ServiceDef). bytes_eq d.name row.def) s.defs.items def k).0
-
-pub def_is_lawful : (s : State) (service : List ℕ) (def : ServiceDef) → IsReady s → def_of s service ≡ Some def → def_fault def ≡ None
-def_is_lawful s service def ready e = ready.lawful def (def_is_there s service def e)
-
 -- those of the service pass V5 and V6 under its definition
 pub policies_fit : (s : State) (service : List ℕ) (def : ServiceDef) → IsReady s → def_of s service ≡ Some def → FitUnder def service s.policies.items
-policies_fit s service def ready e q within here = ready.fitting q within def (ap (def_of s) ((bytes_eq-Decides q.service service).0 here) ∙ e)
+policies_fit s service def ready e q within here = ready q within def (ap (def_of s) ((bytes_eq-Decides q.service service).0 here) ∙ e)
 
 pub of_its_service : (p q : Policy) → may_delegate p q ≡ true → is_of p.service q ≡ true
 of_its_service p q may =
@@ -137,7 +128,7 @@ of_its_service p q may =
     (and_parts (bytes_eq q.service p.service) (bytes_eq q.zone p.zone) two.1).0
 
 pub held_fits : (s : State) (id : ℤ) (p : Policy) → IsReady s → policy_at s id ≡ Some p → Fits s p
-held_fits s id p ready e = ready.fitting p (find_contained (λ (q : Policy). int_eq q.id.0 id) s.policies.items p e).0
+held_fits s id p ready e = ready p (find_contained (λ (q : Policy). int_eq q.id.0 id) s.policies.items p e).0
 
 -- ---- what is delegated in a service
 

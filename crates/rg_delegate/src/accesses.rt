@@ -2,7 +2,6 @@
 ghost use Rattle.std.specs.Prelude.{◌≡◌, List, None};
 ghost use Rattle.std.specs.List.{list_all, list_any};
 ghost use Rattle.std.specs.Str.{chars};
-ghost use Rattle.rg_defs.specs.Rules.{def_fault};
 ghost use Rattle.rg_defs.specs.declared.service_def.AccessType.{AccessType};
 ghost use Rattle.rg_items.specs.Accesses.{any_grants};
 ghost use Rattle.rg_policy.specs.declared.policy.AccessEntry.{AccessEntry};
@@ -55,7 +54,6 @@ fn is_for_all(policy: &Policy) -> bool
 // ---- whether one is granted by these entries
 
 fn entry_granted(def: &ServiceDef, given: &[AccessEntry], entries: &[AccessEntry]) -> bool
-    requires { def_fault def.now ≡ None }
     ensures { result ≡ list_any (λ (e : AccessEntry). any_grants def.now e.access given.now) entries.now }
 {
     entries
@@ -64,7 +62,6 @@ fn entry_granted(def: &ServiceDef, given: &[AccessEntry], entries: &[AccessEntry
 }
 
 fn item_granted(def: &ServiceDef, given: &[AccessEntry], items: &[Item]) -> bool
-    requires { def_fault def.now ≡ None }
     ensures { result ≡ list_any (λ (i : Item). list_any (λ (e : AccessEntry). any_grants def.now e.access given.now) i.accesses.items) items.now }
 {
     items
@@ -73,7 +70,6 @@ fn item_granted(def: &ServiceDef, given: &[AccessEntry], items: &[Item]) -> bool
 }
 
 fn list_granted(def: &ServiceDef, given: &[AccessEntry], lists: &[&[Item]]) -> bool
-    requires { def_fault def.now ≡ None }
     ensures { result ≡ list_any (λ list. list_any (λ (i : Item). list_any (λ (e : AccessEntry). any_grants def.now e.access given.now) i.accesses.items) list.now) lists.now }
 {
     lists.iter().any(|items| item_granted(def, given, items))
@@ -81,7 +77,6 @@ fn list_granted(def: &ServiceDef, given: &[AccessEntry], lists: &[&[Item]]) -> b
 
 /// Whether they grant an access that the policy's items name.
 fn named_granted(def: &ServiceDef, given: &[AccessEntry], policy: &Policy) -> bool
-    requires { def_fault def.now ≡ None }
     ensures { result ≡ list_any (λ access. any_grants def.now access given.now) (named_accesses policy.now) }
 {
     let lists = item_lists(policy);
@@ -89,7 +84,6 @@ fn named_granted(def: &ServiceDef, given: &[AccessEntry], policy: &Policy) -> bo
 }
 
 fn type_granted(def: &ServiceDef, given: &[AccessEntry], types: &[AccessType]) -> bool
-    requires { def_fault def.now ≡ None }
     ensures { result ≡ list_any (λ (t : AccessType). any_grants def.now t.name given.now) types.now }
 {
     types
@@ -99,7 +93,6 @@ fn type_granted(def: &ServiceDef, given: &[AccessEntry], types: &[AccessType]) -
 
 /// Whether they grant an access of the definition.
 fn defined_granted(def: &ServiceDef, given: &[AccessEntry]) -> bool
-    requires { def_fault def.now ≡ None }
     ensures { result ≡ list_any (λ access. any_grants def.now access given.now) (all_accesses def.now) }
 {
     type_granted(def, given, def.access_types.as_slice())
@@ -107,7 +100,6 @@ fn defined_granted(def: &ServiceDef, given: &[AccessEntry]) -> bool
 
 /// Whether the entries grant an access of the policy.
 pub(crate) fn is_wanted(def: &ServiceDef, policy: &Policy, given: &[AccessEntry]) -> bool
-    requires { def_fault def.now ≡ None }
     ensures { result ≡ is_wanted (record { def = def.now; policy = policy.now }) given.now }
 {
     if is_for_all(policy) {
@@ -120,7 +112,6 @@ pub(crate) fn is_wanted(def: &ServiceDef, policy: &Policy, given: &[AccessEntry]
 // ---- whether all are granted by entries of these items
 
 fn some_grants(def: &ServiceDef, by: &[&Item], access: &str) -> bool
-    requires { def_fault def.now ≡ None }
     ensures { result ≡ list_any (λ item. any_grants def.now (chars access.now) item.now.accesses.items) by.now }
 {
     by.iter()
@@ -128,7 +119,6 @@ fn some_grants(def: &ServiceDef, by: &[&Item], access: &str) -> bool
 }
 
 fn entries_granted(def: &ServiceDef, by: &[&Item], entries: &[AccessEntry]) -> bool
-    requires { def_fault def.now ≡ None }
     ensures { result ≡ list_all (λ (e : AccessEntry). list_any (λ item. any_grants def.now e.access item.now.accesses.items) by.now) entries.now }
 {
     entries
@@ -137,7 +127,6 @@ fn entries_granted(def: &ServiceDef, by: &[&Item], entries: &[AccessEntry]) -> b
 }
 
 fn items_granted(def: &ServiceDef, by: &[&Item], items: &[Item]) -> bool
-    requires { def_fault def.now ≡ None }
     ensures { result ≡ list_all (λ (i : Item). list_all (λ (e : AccessEntry). list_any (λ item. any_grants def.now e.access item.now.accesses.items) by.now) i.accesses.items) items.now }
 {
     items
@@ -146,14 +135,12 @@ fn items_granted(def: &ServiceDef, by: &[&Item], items: &[Item]) -> bool
 }
 
 fn lists_granted(def: &ServiceDef, by: &[&Item], lists: &[&[Item]]) -> bool
-    requires { def_fault def.now ≡ None }
     ensures { result ≡ list_all (λ list. list_all (λ (i : Item). list_all (λ (e : AccessEntry). list_any (λ item. any_grants def.now e.access item.now.accesses.items) by.now) i.accesses.items) list.now) lists.now }
 {
     lists.iter().all(|items| items_granted(def, by, items))
 }
 
 fn all_named_granted(def: &ServiceDef, by: &[&Item], policy: &Policy) -> bool
-    requires { def_fault def.now ≡ None }
     ensures { result ≡ list_all (λ access. list_any (λ item. any_grants def.now access item.now.accesses.items) by.now) (named_accesses policy.now) }
 {
     let lists = item_lists(policy);
@@ -161,7 +148,6 @@ fn all_named_granted(def: &ServiceDef, by: &[&Item], policy: &Policy) -> bool
 }
 
 fn types_granted(def: &ServiceDef, by: &[&Item], types: &[AccessType]) -> bool
-    requires { def_fault def.now ≡ None }
     ensures { result ≡ list_all (λ (t : AccessType). list_any (λ item. any_grants def.now t.name item.now.accesses.items) by.now) types.now }
 {
     types
@@ -170,7 +156,6 @@ fn types_granted(def: &ServiceDef, by: &[&Item], types: &[AccessType]) -> bool
 }
 
 fn all_defined_granted(def: &ServiceDef, by: &[&Item]) -> bool
-    requires { def_fault def.now ≡ None }
     ensures { result ≡ list_all (λ access. list_any (λ item. any_grants def.now access item.now.accesses.items) by.now) (all_accesses def.now) }
 {
     types_granted(def, by, def.access_types.as_slice())
@@ -178,7 +163,6 @@ fn all_defined_granted(def: &ServiceDef, by: &[&Item]) -> bool
 
 /// Whether each access of the policy is granted by one of the items.
 pub(crate) fn all_granted(def: &ServiceDef, policy: &Policy, by: &[&Item]) -> bool
-    requires { def_fault def.now ≡ None }
     ensures { result ≡ list_all (λ access. list_any (λ item. any_grants def.now access item.now.accesses.items) by.now) (accesses def.now policy.now) }
 {
     if is_for_all(policy) {

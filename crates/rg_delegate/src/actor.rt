@@ -2,7 +2,6 @@
 ghost use Rattle.std.specs.Prelude.{◌≡◌, IfOk, None};
 ghost use Rattle.std.specs.Str.{chars};
 ghost use Rattle.rg_items.specs.Subjects.{names_group, names_role};
-ghost use Rattle.rg_roles.specs.Faults.{fault_of};
 ghost use Rattle.rg_delegate.specs.Authority.{known, named};
 
 use crate::lookups::groups_of;
@@ -100,7 +99,6 @@ impl<'a> Model for Actor<'a> {
 }
 
 fn roles_of(alloc: Global, rows: &[RoleRow]) -> Result<Roles, NoMemory>
-    requires { fault_of rows.now ≡ None }
     ensures { IfOk result (λ roles. roles ≡ rows.now) }
 {
     match Roles::build(alloc, rows) {
@@ -124,7 +122,6 @@ impl<'a> Actor<'a> {
 
     /// Whether one of these roles holds the actor.
     fn has_role(&mut self, alloc: Global, roles: &[Text]) -> Result<bool, NoMemory>
-        requires { fault_of self.old.rows ≡ None }
         ensures same { self.new ≡ self.old }
         ensures answer { IfOk result (λ b. b ≡ names_role self.old.rows self.old.name self.old.groups roles.now) }
     {
@@ -140,7 +137,6 @@ impl<'a> Actor<'a> {
 
     /// Whether the subjects name the actor. Roles are asked, and built, only where no user and no group does.
     pub(crate) fn is_named(&mut self, alloc: Global, subjects: &Subjects) -> Result<bool, NoMemory>
-        requires { fault_of self.old.rows ≡ None }
         ensures same { self.new ≡ self.old }
         ensures answer { IfOk result (λ b. b ≡ named self.old subjects.now) }
     {

@@ -3,7 +3,6 @@ ghost use Rattle.std.specs.Prelude.{◌≡◌, ◌||◌, IfOk, None, Some, optio
 ghost use Rattle.std.specs.List.{list_all};
 ghost use Rattle.std.specs.Str.{chars};
 ghost use Rattle.rg_base.specs.Texts.{is_among};
-ghost use Rattle.rg_roles.specs.Faults.{fault_of};
 ghost use Rattle.rg_delegate.specs.Authority.{admins_of, auditors_of, is_admin, is_delegated, known, may, may_by_delegation, may_see, named_in_zone, subjects_in};
 ghost use Rattle.rg_delegate.specs.Accesses.{accesses};
 ghost use Rattle.rg_cmd.specs.Lookups.{def_of};
@@ -45,7 +44,6 @@ pub(crate) fn administers_zone(
     actor: &mut Actor,
     policy: &Policy,
 ) -> Result<bool, NoMemory>
-    requires roles { fault_of state.now.roles.items ≡ None }
     requires actor { actor.old ≡ known state.now actor.old.name }
     ensures same { actor.new ≡ actor.old }
     ensures answer { IfOk result (λ b. b ≡ named_in_zone admins_of state.now actor.old.name policy.now) }
@@ -66,7 +64,6 @@ pub(crate) fn audits_zone(
     actor: &mut Actor,
     policy: &Policy,
 ) -> Result<bool, NoMemory>
-    requires roles { fault_of state.now.roles.items ≡ None }
     requires actor { actor.old ≡ known state.now actor.old.name }
     ensures same { actor.new ≡ actor.old }
     ensures answer { IfOk result (λ b. b ≡ named_in_zone auditors_of state.now actor.old.name policy.now) }

@@ -2,7 +2,6 @@
 ghost use Rattle.std.specs.Prelude.{◌≡◌, IfOk, None, map};
 ghost use Rattle.std.specs.List.{list_any};
 ghost use Rattle.std.specs.Str.{chars};
-ghost use Rattle.rg_roles.specs.Faults.{fault_of};
 ghost use Rattle.rg_delegate.specs.Compiled.{under};
 ghost use Rattle.rg_delegate.specs.Found.{FitUnder, candidates, delegates_anything, delegations, is_candidate};
 ghost use Rattle.rg_delegate.specs.Ready.{IsReady};
@@ -19,7 +18,6 @@ use std::marker::Model;
 
 /// Whether the item delegates to the actor.
 fn delegates_anything(alloc: Global, actor: &mut Actor, item: &Item) -> Result<bool, NoMemory>
-    requires { fault_of actor.old.rows ≡ None }
     ensures same { actor.new ≡ actor.old }
     ensures answer { IfOk result (λ b. b ≡ delegates_anything actor.old item.now) }
 {
@@ -32,7 +30,6 @@ fn delegates_anything(alloc: Global, actor: &mut Actor, item: &Item) -> Result<b
 
 /// Whether one of the items does.
 fn some_delegates(alloc: Global, actor: &mut Actor, items: &[Item]) -> Result<bool, NoMemory>
-    requires { fault_of actor.old.rows ≡ None }
     ensures same { actor.new ≡ actor.old }
     ensures answer { IfOk result (λ b. b ≡ list_any (delegates_anything actor.old) items.now) }
 {
@@ -52,7 +49,6 @@ fn is_candidate(
     service: &str,
     policy: &Policy,
 ) -> Result<bool, NoMemory>
-    requires { fault_of actor.old.rows ≡ None }
     ensures same { actor.new ≡ actor.old }
     ensures answer { IfOk result (λ b. b ≡ is_candidate (chars service.now) actor.old policy.now) }
 {
@@ -73,7 +69,6 @@ fn candidates<'a>(
     service: &str,
     policies: &'a [Shared<Policy>],
 ) -> Result<Vec<ReadPolicy<'a>>, NoMemory>
-    requires roles { fault_of actor.old.rows ≡ None }
     requires fit { FitUnder def.now (chars service.now) policies.now }
     ensures same { actor.new ≡ actor.old }
     ensures answer { IfOk result (λ v. v.items ≡ map (under def.now) (candidates (chars service.now) actor.old policies.now)) }
@@ -113,7 +108,6 @@ pub(crate) fn delegations<'a>(
     service: &Text,
 ) -> Result<Option<Delegated<'a>>, NoMemory>
     requires ready { IsReady state.now }
-    requires roles { fault_of actor.old.rows ≡ None }
     ensures same { actor.new ≡ actor.old }
     ensures answer { IfOk result (λ d. d ≡ delegations state.now service.now actor.old) }
 {

@@ -2,9 +2,7 @@
 ghost use Rattle.std.specs.Prelude.{◌≡◌, ◌++◌, Contains, IfOk, None, map, true};
 ghost use Rattle.std.specs.List.{filter};
 ghost use Rattle.std.specs.Str.{chars};
-ghost use Rattle.rg_defs.specs.Rules.{def_fault};
 ghost use Rattle.rg_resmatch.specs.Rules.{policy_levels_fit, policy_values_fit};
-ghost use Rattle.rg_roles.specs.Faults.{fault_of};
 ghost use Rattle.rg_delegate.specs.Authority.{delegates, is_word, may_delegate};
 ghost use Rattle.rg_delegate.specs.Compiled.{DefinedPolicy};
 ghost use Rattle.rg_delegate.specs.Covering.{policy_covers};
@@ -94,8 +92,6 @@ fn delegates_some(
     asked: &ReadPolicy,
     item: &Item,
 ) -> Result<bool, NoMemory>
-    requires lawful { def_fault asked.now.def ≡ None }
-    requires roles { fault_of actor.old.rows ≡ None }
     ensures same { actor.new ≡ actor.old }
     ensures answer { IfOk result (λ b. b ≡ delegates_some asked.now actor.old item.now) }
 {
@@ -114,8 +110,6 @@ fn with_items<'a>(
     asked: &ReadPolicy,
     items: &'a [Item],
 ) -> Result<Vec<&'a Item>, NoMemory>
-    requires lawful { def_fault asked.now.def ≡ None }
-    requires roles { fault_of actor.old.rows ≡ None }
     ensures same { actor.new ≡ actor.old }
     ensures answer { IfOk result (λ v. map (λ item. item.now) v.items ≡ map (λ item. item.now) found.entry.items ++ filter (delegates_some asked.now actor.old) items.now) }
 {
@@ -145,9 +139,7 @@ fn with_policy<'a>(
     asked: &ReadPolicy,
     other: &ReadPolicy<'a>,
 ) -> Result<Vec<&'a Item>, NoMemory>
-    requires lawful { def_fault asked.now.def ≡ None }
-    requires same_def { asked.now.def ≡ other.now.def }
-    requires roles { fault_of actor.old.rows ≡ None }
+    requires { asked.now.def ≡ other.now.def }
     ensures same { actor.new ≡ actor.old }
     ensures answer { IfOk result (λ v. map (λ item. item.now) v.items ≡ map (λ item. item.now) found.entry.items ++ items_of asked.now actor.old other.now.policy) }
 {
@@ -167,9 +159,7 @@ pub(crate) fn delegating_items<'a>(
     actor: &mut Actor,
     asked: &ReadPolicy,
 ) -> Result<Vec<&'a Item>, NoMemory>
-    requires lawful { def_fault asked.now.def ≡ None }
-    requires same_def { (q : DefinedPolicy) → Contains policies.now q → asked.now.def ≡ q.def }
-    requires roles { fault_of actor.old.rows ≡ None }
+    requires { (q : DefinedPolicy) → Contains policies.now q → asked.now.def ≡ q.def }
     ensures same { actor.new ≡ actor.old }
     ensures answer { IfOk result (λ v. map (λ item. item.now) v.items ≡ items_in asked.now actor.old (map (λ q. q.policy) policies.now)) }
 {

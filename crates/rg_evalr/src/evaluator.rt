@@ -4,7 +4,6 @@ ghost use Rattle.std.specs.List.{list_any};
 ghost use Rattle.rg_base.specs.Counts.{one_compile};
 ghost use Rattle.rg_policy.specs.declared.policy.Item.{Item};
 ghost use Rattle.rg_cond.specs.Spans.{contains};
-ghost use Rattle.rg_defs.specs.Rules.{def_fault};
 ghost use Rattle.rg_evalr.specs.Compiled.{IsCompiled, compiled_items, compiled_matches};
 ghost use Rattle.rg_evalr.specs.Compiling.{policy_fault};
 ghost use Rattle.rg_evalr.specs.Effects.{access_of, effect_of, in_play, is_scheduled, is_valid, item_of, lies_on};
@@ -157,7 +156,6 @@ impl Evaluator {
         policy: &Policy,
         side: Side,
     ) -> Result<Parts, NoMemory>
-        requires lawful { def_fault (def_of frame.now side) ≡ None }
         requires rules { policy_fault frame.now side policy.now ≡ None }
         ensures { IfOk result (λ parts. IsCompiled (record { frame = frame.now; policy = policy.now; side = side }) parts) }
     {
@@ -192,7 +190,6 @@ impl Evaluator {
         side: Side,
         steps: &mut Steps<L>,
     ) -> Result<Evaluator, NoMemory>
-        requires lawful { def_fault (def_of frame.now side) ≡ None }
         requires rules { policy_fault frame.now side policy.now ≡ None }
         ensures source { IfOk result (λ e. e ≡ record { frame = frame.now; policy = policy.now; side = side }) }
         ensures steps { steps.new ≡ one_compile steps.old }

@@ -5,7 +5,7 @@ ghost use Rattle.rg_evalr.specs.Frames.{def_of};
 
 use crate::frame::{Frame, Side, def_of};
 use rg_cond::{conditions_compile, schedules_read};
-use rg_defs::Paths;
+use rg_defs::{PathedDef, Paths};
 use rg_items::{entries_fit, lists_fit, outcomes_fit, priority_fits, type_fits};
 use rg_policy::Policy;
 use rg_resmatch::{policy_levels_fit, policy_values_fit};
@@ -24,7 +24,7 @@ pub fn policy_fault(frame: &Frame, side: Side, paths: &Paths, policy: &Policy) -
     if !priority_fits(policy) {
         return Some(4);
     }
-    if !policy_levels_fit(def, paths, policy) {
+    if !policy_levels_fit(&PathedDef { def, paths }, policy) {
         return Some(5);
     }
     if !policy_values_fit(def, policy) {

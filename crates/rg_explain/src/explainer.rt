@@ -11,8 +11,7 @@ ghost use Rattle.rg_resmatch.specs.Tests.{tag_elements};
 use crate::cells::first_filled;
 use crate::explanation::{Explanation, Told};
 use crate::parts::{
-    paths_of, roles_holding, roles_of, rows_lying, rows_told, tag_access, tag_elements,
-    tag_paths_of, zones_of,
+    roles_holding, roles_of, rows_lying, rows_told, tag_access, tag_def_of, tag_elements, zones_of,
 };
 use crate::telling::with_policies;
 use crate::zoning::in_zone;
@@ -54,8 +53,7 @@ impl Drop for Explainer {
 }
 
 impl Model for Explainer {
-    ghost use Rattle.std.specs.Prelude.{◌≡◌, None};
-    ghost use Rattle.rg_defs.specs.Rules.{def_fault};
+    ghost use Rattle.std.specs.Prelude.{◌≡◌};
     ghost use Rattle.rg_evalr.specs.Frames.{def_of};
     ghost use Rattle.rg_evalr.specs.declared.frame.Side.TheVariants.{Tag as Tagged};
     ghost use Rattle.rg_facts.specs.Candidates.{frame_of};
@@ -65,9 +63,7 @@ impl Model for Explainer {
 
     ghost view = { λ e. e.engine };
 
-    ghost invariant = { λ e. (def_fault e.engine.def ≡ None)
-        × (def_fault (def_of (frame_of e.engine) Tagged) ≡ None)
-        × (e.frame ≡ frame_of e.engine)
+    ghost invariant = { λ e. (e.frame ≡ frame_of e.engine)
         × (e.roles ≡ e.engine.roles.items)
         × (e.zones ≡ record { zones = e.engine.zones.items; service = e.engine.service; def = e.engine.def })
         × (e.paths ≡ e.engine.def.levels.items)
@@ -83,8 +79,8 @@ impl Explainer {
         let frame = frame_of(alloc, &facts)?;
         let roles = roles_of(alloc, facts.roles.as_slice())?;
         let zones = zones_of(alloc, &facts)?;
-        let paths = paths_of(alloc, &facts)?;
-        let tag_paths = tag_paths_of(alloc, &facts)?;
+        let paths = Paths::of(alloc, &facts.def)?;
+        let tag_paths = Paths::of(alloc, tag_def_of(&facts))?;
         let engine = Plain::build(alloc, facts)?;
         Ok(Explainer {
             engine,

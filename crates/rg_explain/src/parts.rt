@@ -14,7 +14,7 @@ ghost use Rattle.rg_explain.specs.Explaining.{held_by, roles_holding, rows_lying
 
 use crate::explanation::{HeldBy, TaggedBy};
 use rg_base::{NoMemory, Seq, Text, TryCopy};
-use rg_defs::{Paths, ServiceDef, tag_name};
+use rg_defs::{PathedDef, Paths, ServiceDef, tag_name};
 use rg_evalr::Frame;
 use rg_facts::Facts;
 use rg_items::Subjects;
@@ -51,32 +51,14 @@ pub(crate) fn zones_of(alloc: Global, facts: &Facts) -> Result<ZoneMap, NoMemory
     Ok(map)
 }
 
-/// The paths of the definition of sound facts.
-pub(crate) fn paths_of(alloc: Global, facts: &Facts) -> Result<Paths, NoMemory>
-    requires { sound facts.now ≡ true }
-    ensures { IfOk result (λ paths. paths ≡ facts.now.def.levels.items) }
-{
-    let paths = Paths::of(alloc, &facts.def)?;
-    Ok(paths)
-}
-
 /// The definition of the tag policies of the facts.
-fn tag_def_of(facts: &Facts) -> &ServiceDef
+pub(crate) fn tag_def_of(facts: &Facts) -> &ServiceDef
     ensures { result.now ≡ def_of (frame_of facts.now) Tagged }
 {
     match &facts.tag_def {
         Some(def) => def,
         None => &facts.def,
     }
-}
-
-/// The paths of the tag definition of sound facts.
-pub(crate) fn tag_paths_of(alloc: Global, facts: &Facts) -> Result<Paths, NoMemory>
-    requires { sound facts.now ≡ true }
-    ensures { IfOk result (λ paths. paths ≡ (def_of (frame_of facts.now) Tagged).levels.items) }
-{
-    let paths = Paths::of(alloc, tag_def_of(facts))?;
-    Ok(paths)
 }
 
 /// The tag as what is asked about.
@@ -113,15 +95,11 @@ fn row_lies(
 {
     let elements = request.resource.elements.as_slice();
     let resources = row.resources.as_slice();
-    resources_lie(
-        alloc,
-        &facts.def,
+    let def = PathedDef {
+        def: &facts.def,
         paths,
-        resources,
-        Reach::Down,
-        elements,
-        "",
-    )
+    };
+    resources_lie(alloc, &def, resources, Reach::Down, elements, "")
 }
 
 /// Copies of the tag rows that do.

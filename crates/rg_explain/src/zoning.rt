@@ -6,7 +6,7 @@ ghost use Rattle.rg_explain.specs.Parts.{reaches};
 
 use crate::explanation::InZone;
 use rg_base::{NoMemory, TryCopy};
-use rg_defs::{Paths, ServiceDef};
+use rg_defs::{PathedDef, Paths};
 use rg_facts::Facts;
 use rg_policy::{AccessRequest, Element, ResourceMap};
 use rg_resmatch::Reach;
@@ -15,34 +15,30 @@ use rg_zone_rules::ZoneRow;
 use rg_zones::zone_maps;
 use std::alloc::Global;
 
-/// Whether the map reaches down to what is asked about, whoever asks. The paths are those of the definition.
+/// Whether the map reaches down to what is asked about, whoever asks.
 fn reaches(
     alloc: Global,
-    def: &ServiceDef,
-    paths: &Paths,
+    def: &PathedDef,
     elements: &[Element],
     map: &ResourceMap,
 ) -> Result<bool, NoMemory>
-    requires { paths.now ≡ def.now.levels.items }
     ensures { IfOk result (λ b. b ≡ reaches def.now elements.now map.now) }
 {
     let levels = map.levels.as_slice();
-    resources_lie(alloc, def, paths, levels, Reach::Down, elements, "")
+    resources_lie(alloc, def, levels, Reach::Down, elements, "")
 }
 
 /// The place of the first map that does.
 fn first_reaching(
     alloc: Global,
-    def: &ServiceDef,
-    paths: &Paths,
+    def: &PathedDef,
     elements: &[Element],
     maps: &[ResourceMap],
 ) -> Result<Option<usize>, NoMemory>
-    requires { paths.now ≡ def.now.levels.items }
     ensures { IfOk result (λ place. place ≡ position_from (reaches def.now elements.now) 0 maps.now) }
 {
     for (place, map) in maps.iter().enumerate() {
-        if reaches(alloc, def, paths, elements, map)? {
+        if reaches(alloc, def, elements, map)? {
             return Ok(Some(place));
         }
     }
@@ -62,7 +58,11 @@ fn map_place(
 {
     let maps = zone_maps(alloc, &facts.def, facts.service.as_str(), zone)?;
     let elements = request.resource.elements.as_slice();
-    first_reaching(alloc, &facts.def, paths, elements, maps.as_slice())
+    let def = PathedDef {
+        def: &facts.def,
+        paths,
+    };
+    first_reaching(alloc, &def, elements, maps.as_slice())
 }
 
 /// The zone with that place. The paths are those of the definition of the facts.

@@ -210,20 +210,6 @@ without_cause facts =
 
 -- ---- what earlier causes leave
 
-no_one : {X : Type 0} (o : Option X) → is_none o ≡ true → o ≡ None
-no_one None h = refl
-no_one (Some x) h = let bad : false ≡ true = h in cc
-
--- no rule of the definition fails
-pub lawful_def : (facts : Facts) → present (def_causes facts) ≡ [] → def_fault facts.def ≡ None
-unfolding defs_sound
-lawful_def facts h = no_one (def_fault facts.def) (and_parts (is_none (def_fault facts.def)) _ (sym (defs_none facts) ∙ ap no_cause h)).0
-
--- the tag definition is sound
-pub lawful_tag_def : (facts : Facts) → present (def_causes facts) ≡ [] → tag_def_sound facts.tag_def ≡ true
-unfolding defs_sound
-lawful_tag_def facts h = (and_parts (is_none (def_fault facts.def)) _ (sym (defs_none facts) ∙ ap no_cause h)).1
-
 -- the maps of zones fit
 pub fitting_maps : (facts : Facts) → present (zone_row_causes facts) ≡ [] → all_maps_fit facts.service facts.def facts.zones.items ≡ true
 fitting_maps facts h =
@@ -235,7 +221,5 @@ fitting_maps facts h =
     let values = and_parts (is_none (first_zone 4 (zone_values_fit facts.service) zones)) _ levels.1 in
     sym (both_all (zone_levels_fit facts.service facts.def) (zone_values_fit facts.service) zones)
     ∙ and_from _ _ (sym (zone_none 3 (zone_levels_fit facts.service facts.def) zones) ∙ levels.0) (sym (zone_none 4 (zone_values_fit facts.service) zones) ∙ values.0)
-
-pub ruleset lawful = (lawful_def, lawful_tag_def)
 
 pub ruleset fitting = (fitting_maps)

@@ -9,6 +9,7 @@ use crate::definitions::def_causes;
 use crate::ids::ids_sound;
 use crate::noting::{note, unless};
 use crate::policies::{add_policy_causes, add_role_causes, add_zone_name_causes};
+use crate::prepared::Prepared;
 use crate::tag_rows::add_tag_row_causes;
 use crate::unsound::Unsound;
 use crate::zones::add_zone_causes;
@@ -27,37 +28,36 @@ fn versions_fit(facts: &Facts) -> bool
         && (facts.tag_version.0 <= LAST_VERSION && facts.role_version.0 <= LAST_VERSION)
 }
 
-/// Adds the causes behind the definitions, which have passed their own rules.
-#[tactic(auto, using(crate::proofs::Law::lawful), unfolding(crate::specs::Causes::later_causes))]
+/// Adds the causes behind the definitions.
+#[tactic(auto, unfolding(crate::specs::Causes::later_causes))]
 fn add_causes_under(
     alloc: Global,
-    facts: &Facts,
-    paths: &Paths,
-    roles: &NameIndex,
+    prepared: &Prepared,
     causes: &mut Vec<Unsound>,
 ) -> Result<(), NoMemory>
-    requires defs { present (def_causes facts.now) ≡ [] }
-    requires paths { paths.now ≡ facts.now.def.levels.items }
-    requires roles { roles.now ≡ names_of facts.now.roles.items }
-    ensures { OnOk result (causes.new.items ≡ causes.old.items ++ later_causes facts.now) }
+    ensures { OnOk result (causes.new.items ≡ causes.old.items ++ later_causes prepared.now) }
 {
+    let facts = prepared.facts();
     note(causes, unless(ids_sound(alloc, facts)?, Unsound::PolicyIds))?;
-    add_role_causes(alloc, facts, roles, causes)?;
+    add_role_causes(alloc, prepared, causes)?;
     add_zone_name_causes(facts, causes)?;
-    add_zone_causes(alloc, facts, paths, roles, causes)?;
-    add_tag_row_causes(alloc, facts, paths, causes)?;
-    add_policy_causes(alloc, facts, paths, causes)
+    add_zone_causes(alloc, prepared, causes)?;
+    add_tag_row_causes(alloc, prepared, causes)?;
+    add_policy_causes(alloc, prepared, causes)
 }
 
-/// Adds the causes behind the definitions, which have passed their own rules. It takes memory for the paths and the names of the roles.
-#[tactic(auto, using(crate::proofs::Law::lawful))]
+/// As `add_causes_under`. It takes memory for the paths and the names of the roles.
 fn add_later_causes(alloc: Global, facts: &Facts, causes: &mut Vec<Unsound>) -> Result<(), NoMemory>
-    requires { present (def_causes facts.now) ≡ [] }
     ensures { OnOk result (causes.new.items ≡ causes.old.items ++ later_causes facts.now) }
 {
     let paths = Paths::of(alloc, &facts.def)?;
     let roles = NameIndex::build(alloc, facts.roles.as_slice())?;
-    add_causes_under(alloc, facts, &paths, &roles, causes)
+    let prepared = Prepared {
+        facts,
+        paths: &paths,
+        roles: &roles,
+    };
+    add_causes_under(alloc, &prepared, causes)
 }
 
 /// What makes the facts unsound, in the order in which soundness is asked; nothing where they are sound. Of each rule there is the first row

@@ -6,6 +6,7 @@ mod definitions;
 mod ids;
 mod noting;
 mod policies;
+mod prepared;
 mod tag_rows;
 mod unsound;
 mod zones;

@@ -1,5 +1,5 @@
 // What is wrong with roles, time zones and policies.
-ghost use Rattle.std.specs.Prelude.{◌≡◌, ◌++◌, true, not, IfOk, OnOk, option_map};
+ghost use Rattle.std.specs.Prelude.{◌≡◌, ◌++◌, not, IfOk, OnOk, option_map};
 ghost use Rattle.std.specs.List.{find};
 ghost use Rattle.rg_policy.specs.declared.policy.Policy.{Policy};
 ghost use Rattle.rg_cond.specs.Zones.{bad_rule, place_number};
@@ -7,7 +7,7 @@ ghost use Rattle.rg_items.specs.PolicyRules.{subjects_fit};
 ghost use Rattle.rg_evalr.specs.Frames.{def_of};
 ghost use Rattle.rg_evalr.specs.declared.frame.Side.TheVariants as Side;
 ghost use Rattle.rg_facts.specs.Candidates.{frame_of};
-ghost use Rattle.rg_facts.specs.Sound.{is_no_policy, is_tag_def, passes, tag_def_sound};
+ghost use Rattle.rg_facts.specs.Sound.{is_no_policy, is_tag_def, passes};
 ghost use Rattle.rg_roles.specs.Faults.{fault_of};
 ghost use Rattle.rg_roles.specs.Members.{names_of};
 ghost use Rattle.rg_zone_rules.specs.Rules.{policy_zone_fits, tag_policy_zone_fits};
@@ -16,6 +16,7 @@ ghost use Rattle.rg_facts_check.specs.declared.unsound.Unsound.TheVariants as un
 
 use crate::definitions::is_tag_def;
 use crate::noting::{note, unless};
+use crate::prepared::Prepared;
 use crate::unsound::Unsound;
 use rg_base::{NameIndex, NoMemory};
 use rg_cond::{TimeZoneFault, TimeZones};
@@ -52,19 +53,23 @@ fn unfit_subjects<'a>(
 }
 
 /// The first policy of the service that fails V10.
-fn subject_cause(facts: &Facts, roles: &NameIndex) -> Option<Unsound>
-    requires { roles.now ≡ names_of facts.now.roles.items }
-    ensures { result ≡ first_policy 10 (subjects_fit (names_of facts.now.roles.items)) facts.now.policies.items }
+fn subject_cause(prepared: &Prepared) -> Option<Unsound>
+    ensures { result ≡ first_policy 10 (subjects_fit (names_of prepared.now.roles.items)) prepared.now.policies.items }
 {
-    of_policy(10, unfit_subjects(roles, facts.policies.as_slice()))
+    of_policy(
+        10,
+        unfit_subjects(prepared.roles(), prepared.facts().policies.as_slice()),
+    )
 }
 
 /// The first policy of the tag service that fails V10.
-fn tag_subject_cause(facts: &Facts, roles: &NameIndex) -> Option<Unsound>
-    requires { roles.now ≡ names_of facts.now.roles.items }
-    ensures { result ≡ first_policy 10 (subjects_fit (names_of facts.now.roles.items)) facts.now.tag_policies.items }
+fn tag_subject_cause(prepared: &Prepared) -> Option<Unsound>
+    ensures { result ≡ first_policy 10 (subjects_fit (names_of prepared.now.roles.items)) prepared.now.tag_policies.items }
 {
-    of_policy(10, unfit_subjects(roles, facts.tag_policies.as_slice()))
+    of_policy(
+        10,
+        unfit_subjects(prepared.roles(), prepared.facts().tag_policies.as_slice()),
+    )
 }
 
 /// What is wrong with the roles themselves.
@@ -80,16 +85,17 @@ fn role_cause(alloc: Global, rows: &[RoleRow]) -> Result<Option<Unsound>, NoMemo
 /// Adds what is wrong with the roles, and by V10 with policies.
 pub(crate) fn add_role_causes(
     alloc: Global,
-    facts: &Facts,
-    roles: &NameIndex,
+    prepared: &Prepared,
     causes: &mut Vec<Unsound>,
 ) -> Result<(), NoMemory>
-    requires { roles.now ≡ names_of facts.now.roles.items }
-    ensures { OnOk result (causes.new.items ≡ causes.old.items ++ present (role_causes facts.now)) }
+    ensures { OnOk result (causes.new.items ≡ causes.old.items ++ present (role_causes prepared.now)) }
 {
-    note(causes, role_cause(alloc, facts.roles.as_slice())?)?;
-    note(causes, subject_cause(facts, roles))?;
-    note(causes, tag_subject_cause(facts, roles))
+    note(
+        causes,
+        role_cause(alloc, prepared.facts().roles.as_slice())?,
+    )?;
+    note(causes, subject_cause(prepared))?;
+    note(causes, tag_subject_cause(prepared))
 }
 
 // ---- V14
@@ -201,7 +207,6 @@ fn tag_policies_cause(
     frame: &Frame,
     policies: &[Shared<Policy>],
 ) -> Result<Option<Unsound>, NoMemory>
-    requires { tag_def_sound frame.now.tag_def ≡ true }
     ensures { IfOk result (λ cause. cause ≡ tag_policies_cause frame.now frame.now.tag_def policies.now) }
 {
     let Some(def) = &frame.tag_def else {
@@ -212,12 +217,16 @@ fn tag_policies_cause(
 }
 
 /// The first policy of the service that fails a rule of V3 to V9, V11 and V12 under this frame, which is the facts'.
-fn resource_policy_cause(facts: &Facts, frame: &Frame, paths: &Paths) -> Option<Unsound>
-    requires frame { frame.now ≡ frame_of facts.now }
-    requires paths { paths.now ≡ facts.now.def.levels.items }
-    ensures { result ≡ first_faulty (frame_of facts.now) Side.Resource facts.now.policies.items }
+fn resource_policy_cause(prepared: &Prepared, frame: &Frame) -> Option<Unsound>
+    requires { frame.now ≡ frame_of prepared.now }
+    ensures { result ≡ first_faulty (frame_of prepared.now) Side.Resource prepared.now.policies.items }
 {
-    first_faulty(frame, Side::Resource, paths, facts.policies.as_slice())
+    first_faulty(
+        frame,
+        Side::Resource,
+        prepared.paths(),
+        prepared.facts().policies.as_slice(),
+    )
 }
 
 /// The same of the tag service's policies.
@@ -226,44 +235,37 @@ fn tag_policy_cause(
     facts: &Facts,
     frame: &Frame,
 ) -> Result<Option<Unsound>, NoMemory>
-    requires frame { frame.now ≡ frame_of facts.now }
-    requires tag_def { tag_def_sound facts.now.tag_def ≡ true }
+    requires { frame.now ≡ frame_of facts.now }
     ensures { IfOk result (λ cause. cause ≡ tag_policies_cause (frame_of facts.now) facts.now.tag_def facts.now.tag_policies.items) }
 {
     let cause = tag_policies_cause(alloc, frame, facts.tag_policies.as_slice())?;
     Ok(cause)
 }
 
-/// Adds the policies that fail V3 to V9, V11 and V12. The definitions have passed their own rules.
+/// Adds the policies that fail V3 to V9, V11 and V12.
 fn add_rule_causes(
     alloc: Global,
-    facts: &Facts,
-    paths: &Paths,
+    prepared: &Prepared,
     causes: &mut Vec<Unsound>,
 ) -> Result<(), NoMemory>
-    requires tag_def { tag_def_sound facts.now.tag_def ≡ true }
-    requires paths { paths.now ≡ facts.now.def.levels.items }
-    ensures { OnOk result (causes.new.items ≡ causes.old.items ++ present (rule_causes facts.now)) }
+    ensures { OnOk result (causes.new.items ≡ causes.old.items ++ present (rule_causes prepared.now)) }
 {
-    let frame = frame_of(alloc, facts)?;
-    note(causes, resource_policy_cause(facts, &frame, paths))?;
-    note(causes, tag_policy_cause(alloc, facts, &frame)?)
+    let frame = frame_of(alloc, prepared.facts())?;
+    note(causes, resource_policy_cause(prepared, &frame))?;
+    note(causes, tag_policy_cause(alloc, prepared.facts(), &frame)?)
 }
 
-/// Adds what is wrong with time zones, or else with policies by them. The definitions have passed their own rules.
+/// Adds what is wrong with time zones, or else with policies by them.
 #[tactic(auto, unfolding(crate::specs::Causes::policy_causes))]
 pub(crate) fn add_policy_causes(
     alloc: Global,
-    facts: &Facts,
-    paths: &Paths,
+    prepared: &Prepared,
     causes: &mut Vec<Unsound>,
 ) -> Result<(), NoMemory>
-    requires tag_def { tag_def_sound facts.now.tag_def ≡ true }
-    requires paths { paths.now ≡ facts.now.def.levels.items }
-    ensures { OnOk result (causes.new.items ≡ causes.old.items ++ policy_causes facts.now) }
+    ensures { OnOk result (causes.new.items ≡ causes.old.items ++ policy_causes prepared.now) }
 {
-    match time_zone_cause(alloc, facts.time_zones.as_slice())? {
+    match time_zone_cause(alloc, prepared.facts().time_zones.as_slice())? {
         Some(cause) => note(causes, Some(cause)),
-        None => add_rule_causes(alloc, facts, paths, causes),
+        None => add_rule_causes(alloc, prepared, causes),
     }
 }

@@ -2,7 +2,6 @@
 ghost use Rattle.std.specs.Prelude.{◌≡◌, None};
 ghost use Rattle.std.specs.List.{list_any};
 ghost use Rattle.std.specs.Str.{chars};
-ghost use Rattle.rg_defs.specs.Rules.{def_fault};
 ghost use Rattle.rg_items.specs.Accesses.{any_grants, entry_grants};
 
 use rg_defs::{ServiceDef, grants};
@@ -10,7 +9,6 @@ use rg_policy::AccessEntry;
 
 /// Whether an entry that is allowed grants the asked access.
 pub fn any_grants(def: &ServiceDef, asked: &str, entries: &[AccessEntry]) -> bool
-    requires { def_fault def.now ≡ None }
     ensures { result ≡ any_grants def.now (chars asked.now) entries.now }
 {
     entries.iter().any(|entry| entry.allowed && grants(def, entry.access.as_str(), asked))

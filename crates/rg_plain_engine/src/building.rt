@@ -3,7 +3,6 @@ ghost use Rattle.std.specs.Prelude.{◌≡◌, IfOk, None, is_none, map, true};
 ghost use Rattle.std.specs.List.{list_all};
 ghost use Rattle.rg_base.specs.Listed.{listed};
 ghost use Rattle.rg_policy.specs.declared.policy.Policy.{Policy};
-ghost use Rattle.rg_defs.specs.Rules.{def_fault};
 ghost use Rattle.rg_resmatch.specs.Rules.{tagged_fit};
 ghost use Rattle.rg_tags.specs.declared.row.TagRow.{TagRow};
 ghost use Rattle.rg_evalr.specs.Compiling.{policy_fault};
@@ -50,15 +49,6 @@ pub(crate) fn zones_of(alloc: Global, facts: &Facts) -> Result<ZoneMap, NoMemory
     Ok(map)
 }
 
-/// The paths of the definition of sound facts.
-pub(crate) fn paths_of(alloc: Global, facts: &Facts) -> Result<Paths, NoMemory>
-    requires { sound facts.now ≡ true }
-    ensures { IfOk result (λ paths. paths ≡ facts.now.def.levels.items) }
-{
-    let paths = Paths::of(alloc, &facts.def)?;
-    Ok(paths)
-}
-
 /// The evaluator of each policy.
 fn evaluators(
     alloc: Global,
@@ -66,8 +56,7 @@ fn evaluators(
     side: Side,
     policies: &[Shared<Policy>],
 ) -> Result<Seq<Evaluator>, NoMemory>
-    requires lawful { def_fault (def_of frame.now side) ≡ None }
-    requires rules { list_all (λ (p : Policy). is_none (policy_fault frame.now side p)) policies.now ≡ true }
+    requires { list_all (λ (p : Policy). is_none (policy_fault frame.now side p)) policies.now ≡ true }
     ensures { IfOk result (λ list. list ≡ listed (sources_of frame.now side policies.now)) }
 {
     let mut steps = Steps::silent();
@@ -79,8 +68,7 @@ fn evaluators(
 }
 
 fn row_matcher(alloc: Global, def: &ServiceDef, row: &TagRow) -> Result<Matcher, NoMemory>
-    requires lawful { def_fault def.now ≡ None }
-    requires row { tagged_fit def.now row.now.resources.items ≡ true }
+    requires { tagged_fit def.now row.now.resources.items ≡ true }
     ensures { IfOk result (λ m. m ≡ row_matching def.now row.now) }
 {
     let matcher = Matcher::of_resources(alloc, def, &row.resources, Reach::Down)?;
@@ -89,8 +77,7 @@ fn row_matcher(alloc: Global, def: &ServiceDef, row: &TagRow) -> Result<Matcher,
 
 /// The matcher of each tag row.
 fn row_matchers(alloc: Global, def: &ServiceDef, rows: &[TagRow]) -> Result<Seq<Matcher>, NoMemory>
-    requires lawful { def_fault def.now ≡ None }
-    requires rows { list_all (λ (row : TagRow). tagged_fit def.now row.resources.items) rows.now ≡ true }
+    requires { list_all (λ (row : TagRow). tagged_fit def.now row.resources.items) rows.now ≡ true }
     ensures { IfOk result (λ list. list ≡ listed (map (row_matching def.now) rows.now)) }
 {
     let mut list = Seq::new(alloc);

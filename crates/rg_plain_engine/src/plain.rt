@@ -10,7 +10,7 @@ ghost use Rattle.rg_facts.specs.Texts.{decide};
 ghost use Rattle.rg_facts.specs.declared.best.Pass.TheVariants as Pass;
 ghost use Rattle.rg_facts.specs.declared.facts.Facts.{Facts};
 
-use crate::building::{compile, paths_of, roles_of, zones_of};
+use crate::building::{compile, roles_of, zones_of};
 use rg_base::{NoMemory, Seq, Serial, Steps};
 use rg_defs::Paths;
 use rg_evalr::Evaluator;
@@ -171,7 +171,7 @@ impl Plain {
     {
         let roles = roles_of(alloc, facts.roles.as_slice())?;
         let zones = zones_of(alloc, &facts)?;
-        let paths = paths_of(alloc, &facts)?;
+        let paths = Paths::of(alloc, &facts.def)?;
         let compiled = compile(alloc, &facts)?;
         Ok(Plain {
             held: facts,

@@ -4,7 +4,6 @@ ghost use Rattle.std.specs.List.{slice_get};
 ghost use Rattle.rg_base.specs.Listed.{listed};
 ghost use Rattle.rg_defs.specs.declared.service_def.Level.{Level};
 ghost use Rattle.rg_defs.specs.PathTests.{paths_of};
-ghost use Rattle.rg_defs.specs.Rules.{def_fault};
 ghost use Rattle.rg_resmatch.specs.Compiled.{level_form, map_form, named_paths, path_names, paths_for};
 ghost use Rattle.rg_resmatch.specs.Rules.{are_written, values_fit};
 
@@ -95,7 +94,6 @@ fn paths_for(
     resources: &[PolicyResource],
     reach: Reach,
 ) -> Result<Option<Vec<Seq<Text>>>, NoMemory>
-    requires { def_fault def.now ≡ None }
     ensures { IfOk result (λ p. option_map (λ v. v.items) p ≡ paths_for reach def.now.levels.items resources.now) }
 {
     match reach {
@@ -117,7 +115,6 @@ impl CompiledMap {
         resources: &Seq<PolicyResource>,
         reach: Reach,
     ) -> Result<CompiledMap, NoMemory>
-        requires lawful { def_fault def.now ≡ None }
         requires values { values_fit def.now resources.now.items ≡ true }
         ensures { IfOk result (λ m. m ≡ map_form def.now reach resources.now) }
     {

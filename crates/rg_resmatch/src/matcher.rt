@@ -2,7 +2,6 @@
 ghost use Rattle.std.specs.Prelude.{◌≡◌, ◌++◌, ◌∷◌, [], IfOk, None, false, true};
 ghost use Rattle.std.specs.Str.{chars};
 ghost use Rattle.rg_base.specs.Counts.{one_try};
-ghost use Rattle.rg_defs.specs.Rules.{def_fault};
 ghost use Rattle.rg_policy.specs.Maps.{maps_of};
 ghost use Rattle.rg_resmatch.specs.Compiled.{Answers, map_forms, some_form_lies, written_maps};
 ghost use Rattle.rg_resmatch.specs.Rules.{all_levels_fit, all_values_fit, levels_fit, values_fit};
@@ -54,7 +53,6 @@ fn with_maps(
     maps: &[ResourceMap],
     reach: Reach,
 ) -> Result<Vec<CompiledMap>, NoMemory>
-    requires lawful { def_fault def.now ≡ None }
     requires values { all_values_fit def.now maps.now ≡ true }
     ensures { IfOk result (λ v. v.items ≡ compiled.items ++ map_forms def.now reach maps.now) }
 {
@@ -72,7 +70,6 @@ fn one_map(
     resources: &Seq<PolicyResource>,
     reach: Reach,
 ) -> Result<Vec<CompiledMap>, NoMemory>
-    requires lawful { def_fault def.now ≡ None }
     requires values { values_fit def.now resources.now.items ≡ true }
     ensures { IfOk result (λ v. v.items ≡ map_forms def.now reach (record { levels = resources.now } ∷ [])) }
 {
@@ -114,7 +111,6 @@ impl Matcher {
         maps: &[ResourceMap],
         reach: Reach,
     ) -> Result<Matcher, NoMemory>
-        requires lawful { def_fault def.now ≡ None }
         requires levels { all_levels_fit def.now false maps.now ≡ true }
         requires values { all_values_fit def.now maps.now ≡ true }
         ensures { IfOk result (λ m. m ≡ record { def = def.now; maps = maps.now; reach = reach }) }
@@ -130,7 +126,6 @@ impl Matcher {
         resources: &Seq<PolicyResource>,
         reach: Reach,
     ) -> Result<Matcher, NoMemory>
-        requires lawful { def_fault def.now ≡ None }
         requires levels { levels_fit def.now false resources.now.items ≡ true }
         requires values { values_fit def.now resources.now.items ≡ true }
         ensures { IfOk result (λ m. m ≡ record { def = def.now; maps = record { levels = resources.now } ∷ []; reach = reach }) }
@@ -146,7 +141,6 @@ impl Matcher {
         policy: &Policy,
         reach: Reach,
     ) -> Result<Matcher, NoMemory>
-        requires lawful { def_fault def.now ≡ None }
         requires levels { all_levels_fit def.now false (maps_of policy.now) ≡ true }
         requires values { all_values_fit def.now (maps_of policy.now) ≡ true }
         ensures { IfOk result (λ m. m ≡ record { def = def.now; maps = maps_of policy.now; reach = reach }) }

@@ -9,7 +9,7 @@ ghost use Rattle.rg_resmatch.specs.Rules.{all_levels_fit, are_listed, part_level
 
 use crate::rules::{all_levels_fit, all_values_fit, levels_fit, values_fit};
 use rg_base::{Text, is_among};
-use rg_defs::{Paths, ServiceDef};
+use rg_defs::{PathedDef, ServiceDef};
 use rg_policy::{Policy, PolicyResource, ResourceMap};
 
 /// The levels that the definition lists for policies of this policy's type: 1 masks, 2 filters rows.
@@ -51,12 +51,11 @@ fn all_listed(levels: &[Text], maps: &[ResourceMap]) -> bool
 }
 
 /// Whether the levels of each map of the policy fit.
-fn levels_of_maps_fit(def: &ServiceDef, paths: &Paths, policy: &Policy) -> bool
-    requires { paths.now ≡ def.now.levels.items }
+fn levels_of_maps_fit(def: &PathedDef, policy: &Policy) -> bool
     ensures { result ≡ all_levels_fit def.now true (maps_of policy.now) }
 {
-    levels_fit(def, paths, true, policy.resources.as_slice())
-        && all_levels_fit(def, paths, true, policy.additional.as_slice())
+    levels_fit(def, true, policy.resources.as_slice())
+        && all_levels_fit(def, true, policy.additional.as_slice())
 }
 
 /// Whether each level of each map is one of these, where there are any.
@@ -68,15 +67,13 @@ fn maps_are_listed(levels: &[Text], policy: &Policy) -> bool
 }
 
 /// Whether the policy has at most 15 additional maps, the levels of each of its maps fit, mandatory ones among them,
-/// and for type 1 or 2 each is listed in that part of the definition, where the part lists any (rule V5). The paths
-/// are those of the definition.
-pub fn policy_levels_fit(def: &ServiceDef, paths: &Paths, policy: &Policy) -> bool
-    requires { paths.now ≡ def.now.levels.items }
+/// and for type 1 or 2 each is listed in that part of the definition, where the part lists any (rule V5).
+pub fn policy_levels_fit(def: &PathedDef, policy: &Policy) -> bool
     ensures { result ≡ policy_levels_fit def.now policy.now }
 {
     policy.additional.len() <= 15
-        && (levels_of_maps_fit(def, paths, policy)
-            && maps_are_listed(part_levels(def, policy), policy))
+        && (levels_of_maps_fit(def, policy)
+            && maps_are_listed(part_levels(def.def, policy), policy))
 }
 
 /// Whether the values of each map of the policy fit (rule V6).

@@ -7,7 +7,7 @@ ghost use Rattle.rg_policy.specs.declared.policy.PolicyResource.{PolicyResource}
 ghost use Rattle.rg_resmatch.specs.Rules.{all_levels_fit, all_values_fit, levels_fit, names_no_user, supports, tagged_fit, values_fit, values_fit_level};
 
 use rg_base::{Text, is_name, is_named, names_distinct};
-use rg_defs::{Level, Paths, ServiceDef, level_of, mandatory_named};
+use rg_defs::{Level, PathedDef, ServiceDef, level_of, mandatory_named};
 use rg_pattern::value_fits;
 use rg_policy::{PolicyResource, ResourceMap};
 
@@ -21,39 +21,28 @@ fn are_levels(levels: &[Level], resources: &[PolicyResource]) -> bool
 
 /// Whether there is a level, the levels are distinct ones of the definition on one path, and, where `mandatory` is
 /// set, every mandatory level above a named one is named (rule V5 of one map, save its part on masks and row
-/// filters). The paths are those of the definition. The work is linear in the number of resources: more than the
-/// definition has levels are refused as soon as one of them is named again.
+/// filters). The work is linear in the number of resources: more than the definition has levels are refused as soon as
+/// one of them is named again.
 #[tactic(auto, using(crate::proofs::Named::levels_first))]
-pub fn levels_fit(
-    def: &ServiceDef,
-    paths: &Paths,
-    mandatory: bool,
-    resources: &[PolicyResource],
-) -> bool
-    requires { paths.now ≡ def.now.levels.items }
+pub fn levels_fit(def: &PathedDef, mandatory: bool, resources: &[PolicyResource]) -> bool
     ensures { result ≡ levels_fit def.now mandatory resources.now }
 {
-    let levels = paths.levels();
+    let levels = def.paths.levels();
     match resources {
         [] => false,
         _ => are_levels(levels, resources)
             && (names_distinct(resources)
-                && (paths.on_one_path(resources)
+                && (def.paths.on_one_path(resources)
                     && (!mandatory || mandatory_named(levels, resources)))),
     }
 }
 
 /// As `levels_fit`, of each map.
-pub fn all_levels_fit(
-    def: &ServiceDef,
-    paths: &Paths,
-    mandatory: bool,
-    maps: &[ResourceMap],
-) -> bool
-    requires { paths.now ≡ def.now.levels.items }
+pub fn all_levels_fit(def: &PathedDef, mandatory: bool, maps: &[ResourceMap]) -> bool
     ensures { result ≡ all_levels_fit def.now mandatory maps.now }
 {
-    maps.iter().all(|map| levels_fit(def, paths, mandatory, map.levels.as_slice()))
+    maps.iter()
+        .all(|map| levels_fit(def, mandatory, map.levels.as_slice()))
 }
 
 fn supports(level: Option<&Level>, resource: &PolicyResource) -> bool
@@ -116,12 +105,9 @@ fn name_no_user(resources: &[PolicyResource]) -> bool
     resources.iter().all(|resource| names_no_user(resource))
 }
 
-/// Whether the resources of a tag row pass rule G2: V5 without mandatory levels, V6, and no value has `{USER}`. The
-/// paths are those of the definition.
-pub fn tagged_fit(def: &ServiceDef, paths: &Paths, resources: &[PolicyResource]) -> bool
-    requires { paths.now ≡ def.now.levels.items }
+/// Whether the resources of a tag row pass rule G2: V5 without mandatory levels, V6, and no value has `{USER}`.
+pub fn tagged_fit(def: &PathedDef, resources: &[PolicyResource]) -> bool
     ensures { result ≡ tagged_fit def.now resources.now }
 {
-    levels_fit(def, paths, false, resources)
-        && (values_fit(def, resources) && name_no_user(resources))
+    levels_fit(def, false, resources) && (values_fit(def.def, resources) && name_no_user(resources))
 }

@@ -1,17 +1,18 @@
 // Whether the resource maps of a policy lie on what is asked about, and what keeps them out.
-ghost use Rattle.std.specs.Prelude.{◌≡◌, ◌++◌, IfOk, List, ℕ, map, not, option_map};
+ghost use Rattle.std.specs.Prelude.{◌≡◌, ◌++◌, ◌&&◌, IfOk, List, ℕ, map, not, option_map};
 ghost use Rattle.std.specs.List.{find, list_all, list_any};
 ghost use Rattle.std.specs.Str.{chars};
 ghost use Rattle.rg_base.specs.Listed.{listed};
+ghost use Rattle.rg_policy.specs.declared.policy.PolicyResource.{PolicyResource as Named};
 ghost use Rattle.rg_policy.specs.declared.request.Element.{Element};
-ghost use Rattle.rg_resmatch.specs.Tests.{is_some_element, lies, may_name, names_level, some_lies};
+ghost use Rattle.rg_resmatch.specs.Tests.{is_some_element, lies, may_name, meets, names_level, some_lies, value_at};
 ghost use Rattle.rg_resmatch.specs.declared.reach.Reach.TheVariants.{Exact};
 ghost use Rattle.rg_standing.specs.Hits.{first_beyond, first_unmatched, is_near, map_near, miss_by, miss_of};
 
 use crate::hits::{level_hit, meets};
 use crate::reason::Miss;
 use rg_base::{NoMemory, Seq, TryCopy, is_named};
-use rg_defs::{Paths, ServiceDef};
+use rg_defs::{PathedDef, ServiceDef};
 use rg_policy::{Element, PolicyResource, ResourceMap};
 use rg_resmatch::Reach;
 use std::alloc::Global;
@@ -106,44 +107,56 @@ fn all_may_name(reach: Reach, resources: &[PolicyResource], elements: &[Element]
         .all(|element| may_name(reach, resources, element))
 }
 
-/// Whether the resources lie on these elements, asked by the user. The paths are those of the definition.
+/// Whether each resource is met by the element of its level, and each element may be named.
 #[tactic(auto, using(crate::proofs::Tests::all_by_first))]
-pub fn resources_lie(
+fn all_met(
     alloc: Global,
     def: &ServiceDef,
-    paths: &Paths,
     resources: &[PolicyResource],
     reach: Reach,
     elements: &[Element],
     user: &str,
 ) -> Result<bool, NoMemory>
-    requires { paths.now ≡ def.now.levels.items }
-    ensures { IfOk result (λ b. b ≡ lies def.now resources.now reach elements.now (chars user.now)) }
+    ensures { IfOk result (λ b. b
+        ≡ (list_all (λ (r : Named). meets def.now (chars user.now) r (value_at elements.now r.level)) resources.now
+        && list_all (may_name reach resources.now) elements.now)) }
 {
-    if !(is_some_element(elements) && paths.both_on_one_path(resources, elements)) {
-        return Ok(false);
-    }
     match first_unmatched(alloc, def, user, elements, resources)? {
         Some(_) => Ok(false),
         None => Ok(all_may_name(reach, resources, elements)),
     }
 }
 
+/// Whether the resources lie on these elements, asked by the user.
+pub fn resources_lie(
+    alloc: Global,
+    def: &PathedDef,
+    resources: &[PolicyResource],
+    reach: Reach,
+    elements: &[Element],
+    user: &str,
+) -> Result<bool, NoMemory>
+    ensures { IfOk result (λ b. b ≡ lies def.now resources.now reach elements.now (chars user.now)) }
+{
+    if !(is_some_element(elements) && def.paths.both_on_one_path(resources, elements)) {
+        return Ok(false);
+    }
+    all_met(alloc, def.def, resources, reach, elements, user)
+}
+
 /// Whether some map lies on what is asked about.
 pub(crate) fn some_lies(
     alloc: Global,
-    def: &ServiceDef,
-    paths: &Paths,
+    def: &PathedDef,
     maps: &[ResourceMap],
     elements: &[Element],
     user: &str,
 ) -> Result<bool, NoMemory>
-    requires { paths.now ≡ def.now.levels.items }
     ensures { IfOk result (λ b. b ≡ some_lies def.now maps.now Exact elements.now (chars user.now)) }
 {
     for map in maps {
         let levels = map.levels.as_slice();
-        if resources_lie(alloc, def, paths, levels, Reach::Exact, elements, user)? {
+        if resources_lie(alloc, def, levels, Reach::Exact, elements, user)? {
             return Ok(true);
         }
     }

@@ -28,7 +28,6 @@ pub struct Question<'a> {
 impl<'a> Model for Question<'a> {
     ghost use Rattle.std.specs.Prelude.{◌≡◌, None, option_map};
     ghost use Rattle.std.specs.Str.{chars};
-    ghost use Rattle.rg_defs.specs.Rules.{def_fault};
     ghost use Rattle.rg_evalr.specs.Frames.{def_of, requested_access};
     ghost use Rattle.rg_standing.specs.Asking.{Asked, elements_for};
 
@@ -40,8 +39,7 @@ impl<'a> Model for Question<'a> {
       context = record { request = q.request.now; roles = q.roles.now; tag = option_map (λ t. t.now) q.tag };
     } };
 
-    ghost invariant = { λ q. (def_fault (def_of q.frame.now q.side) ≡ None)
-        × (q.paths.now ≡ (def_of q.frame.now q.side).levels.items)
+    ghost invariant = { λ q. (q.paths.now ≡ (def_of q.frame.now q.side).levels.items)
         × (q.elements.now ≡ elements_for q.side q.request.now (option_map (λ t. t.now) q.tag))
         × (chars q.access.now ≡ requested_access q.frame.now q.side q.request.now.access) };
 }

@@ -11,6 +11,7 @@ use crate::question::Question;
 use crate::reason::Standing;
 use rg_base::{NoMemory, TryCopy};
 use rg_cond::Schedule;
+use rg_defs::PathedDef;
 use rg_evalr::Effect;
 use rg_policy::{Policy, ScheduleText, maps_of};
 use std::alloc::Global;
@@ -64,7 +65,11 @@ impl<'a> Question<'a> {
         if !self.is_scheduled(alloc, policy.schedules.as_slice())? {
             return Ok(Standing::Unscheduled);
         }
-        if !some_lies(alloc, def, self.paths, maps.as_slice(), self.elements, user)? {
+        let pathed = PathedDef {
+            def,
+            paths: self.paths,
+        };
+        if !some_lies(alloc, &pathed, maps.as_slice(), self.elements, user)? {
             let kept_out = misses(alloc, def, user, self.elements, maps.as_slice())?;
             return Ok(Standing::Elsewhere(kept_out));
         }

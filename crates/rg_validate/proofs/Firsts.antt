@@ -79,12 +79,6 @@ pub definition_is : (def : ServiceDef) → first_failing (definition_rules def) 
 unfolding def_fault
 definition_is def = definition_first (rules_of def)
 
-pub lawful_where : (def : ServiceDef) → first_failing (definition_rules def) ≡ None → def_fault def ≡ None
-lawful_where def h = go (def_fault def) (sym (definition_is def) ∙ h) where
-  go : (o : Option ℕ) → option_map definition_rule o ≡ None → o ≡ None
-  go None e = refl
-  go (Some n) e = absurd (none-some (definition_rule n) (sym e))
-
 -- ---- rules under the definition of a service
 
 pub no_service : (s : State) (name : List ℕ) → IsValid s → def_of s name ≡ None → (rules : List Tested) → Some E1 ≡ first_failing (service_exists s name ∷ rules)

@@ -65,12 +65,6 @@ module _ (s : State) (name : List ℕ) where
   pub there_with_def : (def : ServiceDef) → def_of s name ≡ Some def → list_any (is_service name) s.services.items ≡ true
   there_with_def def h = sym (found-some (is_service name) s.services.items) ∙ ap is_some (row_of def h).1
 
-  -- it passes S1 to S8, where each does
-  pub lawful_at : list_all definition_valid s.defs.items ≡ true → (def : ServiceDef) → def_of s name ≡ Some def → def_fault def ≡ None
-  lawful_at lawful def h =
-      let r = row_of def h in
-      none_of (def_fault def) (all_holds definition_valid s.defs.items lawful def (find_contained (is_def r.0.def) s.defs.items def r.2).0)
-
   module _ (valid : IsValid s) where
     -- the service of a valid state has a definition
     pub def_there : list_any (is_service name) s.services.items ≡ true → (def : ServiceDef) × (def_of s name ≡ Some def)

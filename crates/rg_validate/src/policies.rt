@@ -2,7 +2,6 @@
 ghost use Rattle.std.specs.Prelude.{◌≡◌, ◌≤◌, ◌&&◌, Bool, IfOk, None, option_map, false, true};
 ghost use Rattle.std.specs.List.{list_any};
 ghost use Rattle.rg_cond.specs.PolicyRules.{schedules_read};
-ghost use Rattle.rg_defs.specs.Rules.{def_fault};
 ghost use Rattle.rg_policy.specs.declared.policy.Policy.{Policy};
 ghost use Rattle.rg_validate.specs.Failing.{first_failing};
 ghost use Rattle.rg_validate.specs.Policies.{has_no_twin, is_namesake, is_other, old_form, policy_name_is_new, policy_place_fits, policy_rules, policy_subjects_fit, stays_in, zone_fits};
@@ -16,7 +15,7 @@ use crate::lookups::{has_id, policy_at};
 use rg_base::{NameIndex, NoMemory, PolicyId, is_name, same_text};
 use rg_cmd::{Rule, State, is_tag_service};
 use rg_cond::{TimeZoneFault, TimeZones, conditions_compile, schedules_read};
-use rg_defs::{Paths, ServiceDef};
+use rg_defs::{PathedDef, Paths, ServiceDef};
 use rg_items::{entries_fit, lists_fit, outcomes_fit, priority_fits, subjects_fit, type_fits};
 use rg_policy::Policy;
 use rg_resmatch::{policy_levels_fit, policy_values_fit};
@@ -221,11 +220,10 @@ fn name_fault(
 
 /// The first of V5 to V9 that fails.
 fn form_fault(alloc: Global, policy: &Policy, def: &ServiceDef) -> Result<Option<Rule>, NoMemory>
-    requires lawful { def_fault def.now ≡ None }
     ensures { IfOk result (λ fault. fault ≡ first_failing (form_rules policy.now def.now)) }
 {
     let paths = Paths::of(alloc, def)?;
-    if !policy_levels_fit(def, &paths, policy) {
+    if !policy_levels_fit(&PathedDef { def, paths: &paths }, policy) {
         return Ok(Some(Rule::V5));
     }
     if !policy_values_fit(def, policy) {
@@ -286,7 +284,6 @@ pub fn policy_fault(
 ) -> Result<Option<Rule>, NoMemory>
     requires valid { IsValid state.now }
     requires counted { IsCounted counts.now state.now.policies.items }
-    requires lawful { def_fault def.now ≡ None }
     ensures { IfOk result (λ fault. fault ≡ first_failing (policy_rules state.now updated policy.now def.now)) }
 {
     if let Some(rule) = name_fault(state, counts, updated, policy, def) {

@@ -3,12 +3,11 @@ ghost use Rattle.std.specs.Prelude.{◌≡◌, IfOk, option_map, true};
 ghost use Rattle.std.specs.List.{list_all};
 ghost use Rattle.rg_cmd.specs.Lookups.{tag_row_at};
 ghost use Rattle.rg_validate.specs.Tags.{row_id_fits, row_stays_in, tagged_resources_fit, tagged_service_fits};
-ghost use Rattle.rg_validate.specs.Valid.{definition_valid};
 
 use crate::existence::has_row_id;
 use rg_base::{NoMemory, same_text};
 use rg_cmd::{State, def_of, is_tag_service};
-use rg_defs::Paths;
+use rg_defs::{PathedDef, Paths};
 use rg_resmatch::tagged_fit;
 use rg_tags::TagRow;
 use std::alloc::Global;
@@ -21,16 +20,14 @@ pub fn tagged_service_fits(state: &State, row: &TagRow) -> bool
 }
 
 /// Whether the resources have distinct levels on one path, values that are patterns, and no `{USER}` (rule G2).
-#[tactic(auto, using(crate::proofs::ValidParts::lawful_at))]
 pub fn tagged_resources_fit(alloc: Global, state: &State, row: &TagRow) -> Result<bool, NoMemory>
-    requires lawful { list_all definition_valid state.now.defs.items ≡ true }
     ensures { IfOk result (λ fit. fit ≡ tagged_resources_fit state.now row.now) }
 {
     let Some(def) = def_of(state, &row.service) else {
         return Ok(false);
     };
     let paths = Paths::of(alloc, def)?;
-    Ok(tagged_fit(def, &paths, row.resources.as_slice()))
+    Ok(tagged_fit(&PathedDef { def, paths: &paths }, row.resources.as_slice()))
 }
 
 fn tag_row_at(state: &State, id: i64) -> Option<&TagRow>

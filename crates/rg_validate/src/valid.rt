@@ -21,7 +21,7 @@ use crate::users::time_zones_read;
 use crate::zones::{zone_levels_suit, zone_services_fit, zone_subjects_exist, zone_values_suit};
 use rg_base::{NoMemory, PolicyId, Text, all_names_distinct};
 use rg_cmd::{ServiceRow, State, def_of};
-use rg_defs::{DefFault, Paths, ServiceDef, check_def};
+use rg_defs::{DefFault, PathedDef, Paths, ServiceDef, check_def};
 use rg_items::priority_fits;
 use rg_policy::Policy;
 use rg_roles::role_fault;
@@ -66,20 +66,17 @@ fn services_valid(state: &State) -> bool
 }
 
 /// Whether the policy passes V3, V5 to V9 and V11 under the definition of its service.
-#[tactic(auto, using(crate::proofs::ValidParts::lawful_at))]
 fn suits_service(alloc: Global, state: &State, policy: &Policy) -> Result<bool, NoMemory>
-    requires lawful { list_all definition_valid state.now.defs.items ≡ true }
     ensures { IfOk result (λ suits. suits ≡ under (def_of state.now policy.now.service) (λ def. policy_suits def policy.now)) }
 {
     let Some(def) = def_of(state, &policy.service) else {
         return Ok(false);
     };
     let paths = Paths::of(alloc, def)?;
-    Ok(policy_suits(def, &paths, policy))
+    Ok(policy_suits(&PathedDef { def, paths: &paths }, policy))
 }
 
 fn policy_valid(alloc: Global, state: &State, policy: &Policy) -> Result<bool, NoMemory>
-    requires lawful { list_all definition_valid state.now.defs.items ≡ true }
     requires zones { time_zones_read state.now ≡ true }
     ensures { IfOk result (λ valid. valid ≡ policy_valid state.now policy.now) }
 {
@@ -94,7 +91,6 @@ fn policy_valid(alloc: Global, state: &State, policy: &Policy) -> Result<bool, N
 }
 
 fn policies_valid(alloc: Global, state: &State) -> Result<bool, NoMemory>
-    requires lawful { list_all definition_valid state.now.defs.items ≡ true }
     requires zones { time_zones_read state.now ≡ true }
     ensures { IfOk result (λ valid. valid ≡ list_all (policy_valid state.now) state.now.policies.items) }
 {
@@ -107,7 +103,6 @@ fn policies_valid(alloc: Global, state: &State) -> Result<bool, NoMemory>
 }
 
 fn zone_valid(alloc: Global, state: &State, zone: &ZoneRow) -> Result<bool, NoMemory>
-    requires lawful { list_all definition_valid state.now.defs.items ≡ true }
     ensures { IfOk result (λ valid. valid ≡ zone_valid state.now zone.now) }
 {
     if !zone_services_fit(alloc, state, zone)? || !zone_levels_suit(alloc, state, zone)? {
@@ -118,7 +113,6 @@ fn zone_valid(alloc: Global, state: &State, zone: &ZoneRow) -> Result<bool, NoMe
 }
 
 fn zones_valid(alloc: Global, state: &State) -> Result<bool, NoMemory>
-    requires lawful { list_all definition_valid state.now.defs.items ≡ true }
     ensures { IfOk result (λ valid. valid ≡ list_all (zone_valid state.now) state.now.zones.items) }
 {
     for zone in state.zones.as_slice() {
@@ -129,9 +123,8 @@ fn zones_valid(alloc: Global, state: &State) -> Result<bool, NoMemory>
     Ok(true)
 }
 
-#[tactic(auto, unfolding(crate::specs::Zones::are_apart_for), using(crate::proofs::ValidParts::lawful_at, crate::proofs::Apart::all_maps_fit_at))]
+#[tactic(auto, unfolding(crate::specs::Zones::are_apart_for), using(crate::proofs::Apart::all_maps_fit_at))]
 fn are_apart_for(alloc: Global, state: &State, service: &Text) -> Result<bool, NoMemory>
-    requires lawful { list_all definition_valid state.now.defs.items ≡ true }
     requires zones { list_all (zone_valid state.now) state.now.zones.items ≡ true }
     ensures { IfOk result (λ apart. apart ≡ are_apart_for state.now state.now.zones.items service.now) }
 {
@@ -144,7 +137,6 @@ fn are_apart_for(alloc: Global, state: &State, service: &Text) -> Result<bool, N
 
 #[tactic(auto, unfolding(crate::specs::Zones::are_apart))]
 fn are_apart(alloc: Global, state: &State) -> Result<bool, NoMemory>
-    requires lawful { list_all definition_valid state.now.defs.items ≡ true }
     requires zones { list_all (zone_valid state.now) state.now.zones.items ≡ true }
     ensures { IfOk result (λ apart. apart ≡ are_apart state.now state.now.zones.items) }
 {
@@ -157,7 +149,6 @@ fn are_apart(alloc: Global, state: &State) -> Result<bool, NoMemory>
 }
 
 fn tag_row_valid(alloc: Global, state: &State, row: &TagRow) -> Result<bool, NoMemory>
-    requires lawful { list_all definition_valid state.now.defs.items ≡ true }
     ensures { IfOk result (λ valid. valid ≡ tag_row_valid state.now row.now) }
 {
     if !tagged_service_fits(state, row) || !tagged_resources_fit(alloc, state, row)? {
@@ -167,7 +158,6 @@ fn tag_row_valid(alloc: Global, state: &State, row: &TagRow) -> Result<bool, NoM
 }
 
 fn tag_rows_valid(alloc: Global, state: &State) -> Result<bool, NoMemory>
-    requires lawful { list_all definition_valid state.now.defs.items ≡ true }
     ensures { IfOk result (λ valid. valid ≡ list_all (tag_row_valid state.now) state.now.tag_rows.items) }
 {
     for row in state.tag_rows.as_slice() {

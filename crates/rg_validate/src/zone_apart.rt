@@ -6,7 +6,7 @@ ghost use Rattle.rg_zones.specs.Entries.{entries_overlap};
 ghost use Rattle.rg_cmd.specs.Lookups.{def_of};
 ghost use Rattle.rg_validate.specs.Apart.{meets_entry, meets_zone};
 ghost use Rattle.rg_validate.specs.Definitions.{under};
-ghost use Rattle.rg_validate.specs.Valid.{IsValid, definition_valid};
+ghost use Rattle.rg_validate.specs.Valid.{IsValid};
 ghost use Rattle.rg_validate.specs.Zones.{zone_is_apart, zone_services_fit, zone_values_suit};
 
 use crate::def_index::{DefIndex, find_indexed};
@@ -17,14 +17,12 @@ use rg_zones::{entries_overlap, zone_overlap_is_symmetric, zones_apart_by_pairs}
 use std::alloc::Global;
 
 /// Whether the entries of two zones for one service overlap.
-#[tactic(auto, using(crate::proofs::ValidParts::lawful_at))]
 fn meets_at(
     alloc: Global,
     defs: &DefIndex,
     entry: &ZoneService,
     other: &ZoneService,
 ) -> Result<bool, NoMemory>
-    requires lawful { list_all definition_valid defs.now.defs.items ≡ true }
     requires values { entry_values_fit entry.now ≡ true }
     requires other_values { entry_values_fit other.now ≡ true }
     ensures { IfOk result (λ meets. meets ≡ under (def_of defs.now other.now.service) (λ def. entries_overlap def entry.now other.now)) }
@@ -43,7 +41,6 @@ fn meets_entry(
     listed: &NameIndex,
     other: &ZoneService,
 ) -> Result<bool, NoMemory>
-    requires lawful { list_all definition_valid defs.now.defs.items ≡ true }
     requires values { zone_values_suit zone.now ≡ true }
     requires listed { listed.now ≡ service_names zone.now }
     requires other_values { entry_values_fit other.now ≡ true }
@@ -63,7 +60,6 @@ fn meets_zone(
     listed: &NameIndex,
     other: &ZoneRow,
 ) -> Result<bool, NoMemory>
-    requires lawful { list_all definition_valid defs.now.defs.items ≡ true }
     requires values { zone_values_suit zone.now ≡ true }
     requires listed { listed.now ≡ service_names zone.now }
     requires other_values { zone_values_suit other.now ≡ true }
@@ -85,7 +81,6 @@ fn meets_some(
     listed: &NameIndex,
     others: &[ZoneRow],
 ) -> Result<bool, NoMemory>
-    requires lawful { list_all definition_valid defs.now.defs.items ≡ true }
     requires values { zone_values_suit zone.now ≡ true }
     requires listed { listed.now ≡ service_names zone.now }
     requires other_values { list_all zone_values_suit others.now ≡ true }

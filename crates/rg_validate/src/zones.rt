@@ -7,14 +7,13 @@ ghost use Rattle.rg_zone_rules.specs.Rules.{entry_levels_fit, entry_values_fit};
 ghost use Rattle.rg_zone_rules.specs.declared.row.ZoneService.{ZoneService};
 ghost use Rattle.rg_cmd.specs.Lookups.{def_of};
 ghost use Rattle.rg_validate.specs.Definitions.{under};
-ghost use Rattle.rg_validate.specs.Valid.{definition_valid};
 ghost use Rattle.rg_validate.specs.Zones.{plain_services, tag_services, zone_is_unused, zone_keeps, zone_keeps_policies, zone_levels_suit, zone_services_fit, zone_subjects_exist, zone_values_suit};
 
 use crate::def_index::DefIndex;
 use crate::definitions::names_with;
 use rg_base::{NameIndex, NoMemory, Text, TryCopy, same_text};
 use rg_cmd::{State, is_tag, is_tag_service};
-use rg_defs::{Paths, tag_name};
+use rg_defs::{PathedDef, Paths, tag_name};
 use rg_policy::Policy;
 use rg_shared::Shared;
 use rg_zone_rules::{
@@ -63,20 +62,17 @@ pub fn zone_services_fit(alloc: Global, state: &State, zone: &ZoneRow) -> Result
     Ok(fit)
 }
 
-#[tactic(auto, using(crate::proofs::ValidParts::lawful_at))]
 fn entry_levels_suit(alloc: Global, defs: &DefIndex, entry: &ZoneService) -> Result<bool, NoMemory>
-    requires lawful { list_all definition_valid defs.now.defs.items ≡ true }
     ensures { IfOk result (λ suit. suit ≡ under (def_of defs.now entry.now.service) (λ def. entry_levels_fit def entry.now)) }
 {
     let Some(def) = defs.def_of(&entry.service) else {
         return Ok(false);
     };
     let paths = Paths::of(alloc, def)?;
-    Ok(entry_levels_fit(def, &paths, entry))
+    Ok(entry_levels_fit(&PathedDef { def, paths: &paths }, entry))
 }
 
 fn levels_suit(alloc: Global, defs: &DefIndex, zone: &ZoneRow) -> Result<bool, NoMemory>
-    requires lawful { list_all definition_valid defs.now.defs.items ≡ true }
     ensures { IfOk result (λ suit. suit ≡ zone_levels_suit defs.now zone.now) }
 {
     for entry in zone.services.as_slice() {
@@ -90,7 +86,6 @@ fn levels_suit(alloc: Global, defs: &DefIndex, zone: &ZoneRow) -> Result<bool, N
 /// Whether each service has a resource map, and the levels of each map are distinct ones of its definition on one path
 /// (rule Z3).
 pub fn zone_levels_suit(alloc: Global, state: &State, zone: &ZoneRow) -> Result<bool, NoMemory>
-    requires lawful { list_all definition_valid state.now.defs.items ≡ true }
     ensures { IfOk result (λ suit. suit ≡ zone_levels_suit state.now zone.now) }
 {
     let defs = DefIndex::of(alloc, state, zone.services.len())?;

@@ -15,7 +15,7 @@ use crate::row::{ZoneLevel, ZoneRow, ZoneService};
 use rg_base::{
     NameIndex, Named, NoMemory, Seq, Text, is_among, is_empty, is_named, names_distinct, same_text,
 };
-use rg_defs::{Level, Paths, ServiceDef};
+use rg_defs::{Level, PathedDef};
 use rg_pattern::value_fits;
 use rg_policy::Policy;
 use std::alloc::Global;
@@ -129,13 +129,14 @@ fn are_levels(known: &[Level], levels: &[ZoneLevel]) -> bool
 
 /// Whether these are distinct levels of the definition on one path. That they are its levels is asked first, so that
 /// the work isn't quadratic in their number.
-fn lie_on_a_path(def: &ServiceDef, paths: &Paths, levels: &[ZoneLevel]) -> bool
-    requires { paths.now ≡ def.now.levels.items }
+fn lie_on_a_path(def: &PathedDef, levels: &[ZoneLevel]) -> bool
     ensures { result ≡ (list_all (λ (l : ZoneLevel). has_level def.now.levels.items l.level) levels.now
         && all_distinct (λ (l m : ZoneLevel). bytes_eq m.level l.level) levels.now
         && on_one_path def.now.levels.items (map (λ (l : ZoneLevel). l.level) levels.now)) }
 {
-    are_levels(paths.levels(), levels) && names_distinct(levels) && paths.on_one_path(levels)
+    are_levels(def.paths.levels(), levels)
+        && names_distinct(levels)
+        && def.paths.on_one_path(levels)
 }
 
 fn is_some_level(levels: &[ZoneLevel]) -> bool
@@ -148,47 +149,42 @@ fn is_some_level(levels: &[ZoneLevel]) -> bool
 }
 
 #[tactic(auto, using(crate::proofs::Levels::levels_alike))]
-fn levels_fit(def: &ServiceDef, paths: &Paths, levels: &[ZoneLevel]) -> bool
-    requires { paths.now ≡ def.now.levels.items }
+fn levels_fit(def: &PathedDef, levels: &[ZoneLevel]) -> bool
     ensures { result ≡ levels_fit def.now false (zone_resources def.now levels.now) }
 {
-    is_some_level(levels) && lie_on_a_path(def, paths, levels)
+    is_some_level(levels) && lie_on_a_path(def, levels)
 }
 
-fn map_levels_fit(def: &ServiceDef, paths: &Paths, map: &Seq<ZoneLevel>) -> bool
-    requires { paths.now ≡ def.now.levels.items }
+fn map_levels_fit(def: &PathedDef, map: &Seq<ZoneLevel>) -> bool
     ensures { result ≡ map_levels_fit def.now map.now }
 {
-    levels_fit(def, paths, map.as_slice())
+    levels_fit(def, map.as_slice())
 }
 
-fn each_map_levels_fit(def: &ServiceDef, paths: &Paths, maps: &[Seq<ZoneLevel>]) -> bool
-    requires { paths.now ≡ def.now.levels.items }
+fn each_map_levels_fit(def: &PathedDef, maps: &[Seq<ZoneLevel>]) -> bool
     ensures { result ≡ list_all (map_levels_fit def.now) maps.now }
 {
-    maps.iter().all(|map| map_levels_fit(def, paths, map))
+    maps.iter().all(|map| map_levels_fit(def, map))
 }
 
 /// Whether the service has a map in the zone, and the levels of each map are distinct ones of the definition on one
-/// path (rule Z3 for one service of a zone). The paths are those of the definition.
-pub fn entry_levels_fit(def: &ServiceDef, paths: &Paths, entry: &ZoneService) -> bool
-    requires { paths.now ≡ def.now.levels.items }
+/// path (rule Z3 for one service of a zone).
+pub fn entry_levels_fit(def: &PathedDef, entry: &ZoneService) -> bool
     ensures { result ≡ entry_levels_fit def.now entry.now }
 {
     match entry.resources.as_slice() {
         [] => false,
-        maps => each_map_levels_fit(def, paths, maps),
+        maps => each_map_levels_fit(def, maps),
     }
 }
 
 /// Whether the service has a map wherever the zone lists it, and the levels of each map are distinct ones of the
-/// definition on one path (rule Z3 for one service). The paths are those of the definition.
-pub fn zone_levels_fit(def: &ServiceDef, paths: &Paths, service: &str, zone: &ZoneRow) -> bool
-    requires { paths.now ≡ def.now.levels.items }
+/// definition on one path (rule Z3 for one service).
+pub fn zone_levels_fit(def: &PathedDef, service: &str, zone: &ZoneRow) -> bool
     ensures { result ≡ zone_levels_fit (chars service.now) def.now zone.now }
 {
     zone.services.as_slice().iter().all(|entry| !is_for(service, entry)
-        || entry_levels_fit(def, paths, entry))
+        || entry_levels_fit(def, entry))
 }
 
 fn values_fit(values: &[Text]) -> bool
@@ -231,20 +227,18 @@ pub fn zone_values_fit(service: &str, zone: &ZoneRow) -> bool
         .all(|entry| !is_for(service, entry) || entry_values_fit(entry))
 }
 
-/// Whether the zone passes Z3 and Z4 for the service. The paths are those of the definition.
-pub fn maps_fit(def: &ServiceDef, paths: &Paths, service: &str, zone: &ZoneRow) -> bool
-    requires { paths.now ≡ def.now.levels.items }
+/// Whether the zone passes Z3 and Z4 for the service.
+pub fn maps_fit(def: &PathedDef, service: &str, zone: &ZoneRow) -> bool
     ensures { result ≡ maps_fit (chars service.now) def.now zone.now }
 {
-    zone_levels_fit(def, paths, service, zone) && zone_values_fit(service, zone)
+    zone_levels_fit(def, service, zone) && zone_values_fit(service, zone)
 }
 
-/// Whether each of the zones passes Z3 and Z4 for the service. The paths are those of the definition.
-pub fn all_maps_fit(def: &ServiceDef, paths: &Paths, service: &str, zones: &[ZoneRow]) -> bool
-    requires { paths.now ≡ def.now.levels.items }
+/// Whether each of the zones passes Z3 and Z4 for the service.
+pub fn all_maps_fit(def: &PathedDef, service: &str, zones: &[ZoneRow]) -> bool
     ensures { result ≡ all_maps_fit (chars service.now) def.now zones.now }
 {
-    zones.iter().all(|zone| maps_fit(def, paths, service, zone))
+    zones.iter().all(|zone| maps_fit(def, service, zone))
 }
 
 /// Whether each role of the zone's admins and auditors is among these (rule Z5).

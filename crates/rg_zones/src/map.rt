@@ -81,7 +81,6 @@ fn compile_zone(
     service: &str,
     zone: &ZoneRow,
 ) -> Result<MatchedZone, NoMemory>
-    requires lawful { def_fault def.now ≡ None }
     requires fit { maps_fit (chars service.now) def.now zone.now ≡ true }
     ensures row { IfOk result (λ m. m.row ≡ zone.now) }
     ensures matched { IfOk result (λ m. (elements : List Element) → is_matched elements m ≡ in_zone (chars service.now) def.now elements zone.now) }
@@ -100,7 +99,6 @@ fn compile_zones(
     service: &str,
     zones: &[ZoneRow],
 ) -> Result<Vec<MatchedZone>, NoMemory>
-    requires lawful { def_fault def.now ≡ None }
     requires fit { all_maps_fit (chars service.now) def.now zones.now ≡ true }
     ensures rows { IfOk result (λ v. rows_of v.items ≡ zones.now) }
     ensures matched { IfOk result (λ v. AreMatched (chars service.now) def.now v.items) }

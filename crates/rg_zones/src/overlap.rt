@@ -2,7 +2,6 @@
 ghost use Rattle.std.specs.Prelude.{◌≡◌, ◌<◌, ◌≤◌, ◌^◌, IfOk, List, None, Option, ℕ, fold, length, map, true};
 ghost use Rattle.std.specs.List.{Contains, list_all, list_any, range_with_len};
 ghost use Rattle.std.specs.Str.{chars};
-ghost use Rattle.rg_defs.specs.Rules.{def_fault};
 ghost use Rattle.rg_trie.specs.declared.pair.Pair.{Pair};
 ghost use Rattle.rg_trie.specs.Walked.{entries_under};
 ghost use Rattle.rg_zones.specs.Best.{better, is_less, ordered};
@@ -293,7 +292,6 @@ fn first_overlap(
     service: &str,
     def: &ServiceDef,
 ) -> Result<Option<(u32, u32)>, NoMemory>
-    requires lawful { def_fault def.now ≡ None }
     requires fit { all_maps_fit (chars service.now) def.now zones.now ≡ true }
     ensures test { IfOk result (λ o. o ≡ first_overlap (chars service.now) def.now zones.now) }
     ensures scalars { IfOk result (λ o. list_all zone_scalars (map (zone_patterns (chars service.now) def.now) zones.now) ≡ true) }
@@ -317,7 +315,6 @@ pub fn overlapping(
     service: &str,
     def: &ServiceDef,
 ) -> Result<Option<(u32, u32)>, NoMemory>
-    requires lawful { def_fault def.now ≡ None }
     requires fit { all_maps_fit (chars service.now) def.now zones.now ≡ true }
     ensures exact { IfOk result (λ o. IsLeastOverlap (chars service.now) def.now zones.now o) }
     ensures test { IfOk result (λ o. o ≡ first_overlap (chars service.now) def.now zones.now) }
@@ -372,7 +369,6 @@ pub fn overlaps_any(
     service: &str,
     def: &ServiceDef,
 ) -> Result<bool, NoMemory>
-    requires lawful { def_fault def.now ≡ None }
     requires fit { maps_fit (chars service.now) def.now zone.now ≡ true }
     requires all_fit { all_maps_fit (chars service.now) def.now others.now ≡ true }
     ensures { IfOk result (λ b. b ≡ list_any (zones_overlap (chars service.now) def.now zone.now) others.now) }
@@ -390,7 +386,6 @@ pub fn entries_overlap(
     other: &ZoneService,
     def: &ServiceDef,
 ) -> Result<bool, NoMemory>
-    requires lawful { def_fault def.now ≡ None }
     requires values { entry_values_fit entry.now ≡ true }
     requires other_values { entry_values_fit other.now ≡ true }
     ensures { IfOk result (λ b. b ≡ entries_overlap def.now entry.now other.now) }

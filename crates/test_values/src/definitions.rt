@@ -1,13 +1,8 @@
 // Rows about definitions. What is given is a definition in JSON; in the row `KIND|A|B|OLD|NEW|..` each OLD of it gives way to the NEW
 // behind it.
-ghost use Rattle.std.specs.Prelude.{◌≡◌, None};
-ghost use Rattle.rg_defs.specs.Rules.{def_fault};
-
 use crate::rows::{add_names, field, names, number, spread, told, yes_or_no};
 use rg_base::{NoMemory, Seq, Text};
-use rg_defs::{
-    DefFault, Level, Paths, ServiceDef, check_def, expand, grants, mandatory_named, paths,
-};
+use rg_defs::{DefFault, Level, Paths, ServiceDef, check_def, expand, grants, mandatory_named};
 use rg_wire::read_def;
 use std::alloc::Global;
 
@@ -54,11 +49,9 @@ fn add_paths(answer: &mut String, paths: &[Seq<u32>]) -> Result<(), NoMemory> {
     Ok(())
 }
 
-/// `paths`: the number of levels, and the paths, by themselves and kept with the levels.
-fn tell_paths(alloc: Global, kept: &Paths, found: &[Seq<u32>]) -> Result<String, NoMemory> {
+/// `paths`: the number of levels, and the paths.
+fn tell_paths(alloc: Global, kept: &Paths) -> Result<String, NoMemory> {
     let mut answer = format!(in alloc; "{} levels, ", kept.levels().len())?;
-    add_paths(&mut answer, found)?;
-    answer.push_str(", ")?;
     add_paths(&mut answer, kept.as_slice())?;
     Ok(answer)
 }
@@ -92,9 +85,7 @@ fn tell_both(alloc: Global, kept: &Paths, row: &str) -> Result<String, NoMemory>
 }
 
 /// `expand|ACCESS`: the access types that it brings along.
-fn tell_expanded(alloc: Global, def: &ServiceDef, row: &str) -> Result<String, NoMemory>
-    requires { def_fault def.now ≡ None }
-{
+fn tell_expanded(alloc: Global, def: &ServiceDef, row: &str) -> Result<String, NoMemory> {
     let list = expand(alloc, def, field(row, 1))?;
     let mut answer = String::new(alloc);
     add_names(&mut answer, list.as_slice())?;
@@ -109,7 +100,7 @@ fn answer_of_def(alloc: Global, def: &ServiceDef, row: &str) -> Result<String, N
             let kept = Paths::of(alloc, def)?;
             match field(row, 0) {
                 "fault" => tell_fault(alloc, None),
-                "paths" => tell_paths(alloc, &kept, paths(alloc, def)?.as_slice()),
+                "paths" => tell_paths(alloc, &kept),
                 "on_path" => tell_on_path(alloc, &kept, row),
                 "both" => tell_both(alloc, &kept, row),
                 "grants" => told(alloc, yes_or_no(grants(def, field(row, 1), field(row, 2)))),

@@ -18,7 +18,11 @@ struct SecondKey {
 impl Enricher for SecondKey {
     ghost remembered = { λ e. [] };
 
-    ghost meaning = { λ e numbers request. record { remembered = []; pair = option_map (λ value. record { key = e.other; value = value }) (value_of e.key request.context.items) } };
+    ghost meaning = { λ e numbers request. record {
+      remembered = [];
+      pair = option_map (λ value.
+          record { key = e.other; value = value }) (value_of e.key request.context.items);
+    } };
 
     fn enrich(&mut self, alloc: Global, request: &AccessRequest) -> Result<Option<Pair>, NoMemory> {
         match value_of(request.context.as_slice(), self.key.as_str()) {

@@ -17,7 +17,7 @@ use crate::reading;
 use rg_base::{NameIndex, NoMemory, Seq, Text, TryCopy, Version};
 use rg_cmd::{PolicyDelta, PolicyPart};
 use rg_cmd_wire::print_policy_part;
-use rg_defs::ServiceDef;
+use rg_defs::{PathedDef, ServiceDef};
 use rg_zone_rules::{
     ZoneLevel, ZoneRow, ZoneService, all_maps_fit, listing_fits, lists_service, maps_fit,
     policy_zone_fits, services_fit, subjects_exist, tag_policy_zone_fits, zone_levels_fit,
@@ -165,7 +165,11 @@ impl ZoneTable {
     /// The zones made ready, which pass their rules.
     fn map(&self, alloc: Global, zones: &[ZoneRow]) -> Result<ZoneMap, NoMemory> {
         let paths = reading::paths(alloc, &self.hive)?;
-        if !all_maps_fit(&self.hive, &paths, "hive", zones) {
+        let hive = PathedDef {
+            def: &self.hive,
+            paths: &paths,
+        };
+        if !all_maps_fit(&hive, "hive", zones) {
             return Err(NoMemory);
         }
         ZoneMap::build(alloc, zones, "hive", &self.hive)
@@ -185,13 +189,17 @@ impl ZoneTable {
     fn rules(&self, alloc: Global, asked: &str) -> Result<String, NoMemory> {
         let zone = zone(alloc, asked)?;
         let paths = reading::paths(alloc, &self.hive)?;
+        let hive = PathedDef {
+            def: &self.hive,
+            paths: &paths,
+        };
         let listed = yes_or_no(lists_service(false, "hive", &zone));
         let tagged = yes_or_no(lists_service(true, "hive", &zone));
         let listing = yes_or_no(listing_fits(false, "hive", &zone));
         let tag_listing = yes_or_no(listing_fits(true, "hive", &zone));
-        let levels = yes_or_no(zone_levels_fit(&self.hive, &paths, "hive", &zone));
+        let levels = yes_or_no(zone_levels_fit(&hive, "hive", &zone));
         let values = yes_or_no(zone_values_fit("hive", &zone));
-        let maps = yes_or_no(maps_fit(&self.hive, &paths, "hive", &zone));
+        let maps = yes_or_no(maps_fit(&hive, "hive", &zone));
         Ok(format!(in alloc; "{listed} {tagged} {listing} {tag_listing} {levels} {values} {maps}")?)
     }
 
@@ -199,7 +207,11 @@ impl ZoneTable {
         let zones = zones(alloc, asked)?;
         let zones = zones.as_slice();
         let paths = reading::paths(alloc, &self.hive)?;
-        if !all_maps_fit(&self.hive, &paths, "hive", zones) {
+        let hive = PathedDef {
+            def: &self.hive,
+            paths: &paths,
+        };
+        if !all_maps_fit(&hive, "hive", zones) {
             return Err(NoMemory);
         }
         match overlapping(alloc, zones, "hive", &self.hive)? {
@@ -214,9 +226,11 @@ impl ZoneTable {
         let others = zones(alloc, others)?;
         let others = others.as_slice();
         let paths = reading::paths(alloc, &self.hive)?;
-        if !maps_fit(&self.hive, &paths, "hive", &zone)
-            || !all_maps_fit(&self.hive, &paths, "hive", others)
-        {
+        let hive = PathedDef {
+            def: &self.hive,
+            paths: &paths,
+        };
+        if !maps_fit(&hive, "hive", &zone) || !all_maps_fit(&hive, "hive", others) {
             return Err(NoMemory);
         }
         told(

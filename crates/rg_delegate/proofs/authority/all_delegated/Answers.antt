@@ -1,34 +1,22 @@
 use Rattle.std.proofs.Common.{◌∙◌, Contains, List, Some, map, sym, ap, subst}
 use Rattle.std.specs.List.{list_all, list_any}
-use Rattle.rg_defs.specs.Rules.{def_fault}
 use Rattle.rg_defs.specs.declared.service_def.ServiceDef.{ServiceDef}
 use Rattle.rg_items.specs.Accesses.{any_grants}
 use Rattle.rg_delegate.specs.Accesses.{accesses}
 use Rattle.rg_delegate.specs.Authority.{is_delegated}
 use Rattle.rg_delegate.specs.Compiled.{DefinedPolicy, under}
 use Rattle.rg_delegate.specs.Found.{Delegated, candidates, items_in}
-use Rattle.rg_delegate.proofs.Finding.{all_found, candidates_suffice, def_is_lawful, policies_under, under_it}
+use Rattle.rg_delegate.proofs.Finding.{all_found, candidates_suffice, policies_under, under_it}
 use Rattle.rg_delegate.proofs.authority.all_delegated.Goals as goal
 
-pub delegating_items-requires-clause-lawful : goal.delegating_items-requires-clause-lawful
-delegating_items-requires-clause-lawful c =
-    ap (λ (a : DefinedPolicy). def_fault a.def) c.in_ok-asked.ensures
-    ∙ def_is_lawful c.args.state.now c.args.policy.now.service c.delegated.inside.def.now c.requires.ready
-    (c.requires.def ∙ ap (λ (d : Delegated). Some d.def) (sym c.delegated.view_is))
-
-pub delegating_items-requires-clause-same_def : goal.delegating_items-requires-clause-same_def
-delegating_items-requires-clause-same_def c = λ q within.
+pub delegating_items-requires : goal.delegating_items-requires
+delegating_items-requires c = λ q within.
     let view = c.delegated.view_is in
     let policies = candidates c.args.policy.now.service c.args.actor.now c.args.state.now.policies.items in
     ap (λ (a : DefinedPolicy). a.def) c.in_ok-asked.ensures
     ∙ ap (λ (d : Delegated). d.def) view
     ∙ under_it c.args.delegated.now.def policies q (subst (λ (policies : List DefinedPolicy). Contains policies q)
     (c.deref.ensures.value ∙ ap (λ (d : Delegated). d.policies) (view ∙ c.requires.delegations)) within)
-
-pub all_granted-requires : goal.all_granted-requires
-all_granted-requires c =
-    def_is_lawful c.args.state.now c.args.policy.now.service c.delegated.inside.def.now c.requires.ready
-    (c.requires.def ∙ ap (λ (d : Delegated). Some d.def) (sym c.delegated.view_is))
 
 pub returns-clause-answer : goal.returns-clause-answer
 returns-clause-answer c =

@@ -3,18 +3,12 @@ use Rattle.rg_cmd.specs.Lookups.{def_of}
 use Rattle.rg_validate.specs.Policies.{policy_rules}
 use Rattle.rg_validate.specs.Rules.{rules_under}
 use Rattle.rg_validate.proofs.Firsts.{no_service, under_service}
-use Rattle.rg_validate.proofs.ValidParts.{lawful_at}
 use Rattle.rg_validate.proofs.commands.create_policy_fault.Goals as goal
 
 pub returns-in_default : goal.returns-in_default
 returns-in_default c =
     let none : def_of c.args.state.now c.args.policy.now.service ≡ None = search rules in
     no_service c.args.state.now c.args.policy.now.service c.requires.valid none (rules_under (def_of c.args.state.now c.args.policy.now.service) (policy_rules c.args.state.now None c.args.policy.now))
-
-pub policy_fault-requires-clause-lawful : goal.policy_fault-requires-clause-lawful
-policy_fault-requires-clause-lawful c =
-    let there : def_of c.args.state.now c.args.policy.now.service ≡ Some c.in-Some.def.now = search rules in
-    lawful_at c.args.state.now c.args.policy.now.service c.requires.valid.definitions c.in-Some.def.now there
 
 pub returns : goal.returns
 returns c =

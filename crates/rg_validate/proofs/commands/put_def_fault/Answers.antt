@@ -2,18 +2,13 @@ use Rattle.std.proofs.Common.{rules, ◌≡◌, [], ◌∷◌, Some, None, ap, �
 use Rattle.rg_cmd.specs.declared.rule.Rule.TheVariants.{C1}
 use Rattle.rg_validate.specs.Definitions.{definition_rules, definition_suits}
 use Rattle.rg_validate.specs.Failing.{first_failing}
-use Rattle.rg_validate.proofs.Firsts.{by_first, by_more, lawful_where}
+use Rattle.rg_validate.proofs.Firsts.{by_first, by_more}
 use Rattle.rg_validate.proofs.commands.put_def_fault.Goals as goal
 
 pub returns-in-Some : goal.returns-in-Some
 returns-in-Some c =
     let fails : first_failing (definition_rules c.args.def.now) ≡ Some c.in-Some.rule = search rules in
     by_first (definition_rules c.args.def.now) ((C1, definition_suits c.args.state.now c.args.def.now) ∷ []) c.in-Some.rule fails
-
-pub definition_suits-requires : goal.definition_suits-requires
-definition_suits-requires c =
-    let none : first_failing (definition_rules c.args.def.now) ≡ None = search rules in
-    lawful_where c.args.def.now none
 
 pub returns : goal.returns
 returns c =

@@ -5,7 +5,6 @@ use Rattle.rg_cmd.specs.declared.rule.Rule.TheVariants.{E2}
 use Rattle.rg_validate.specs.Policies.{policy_rules}
 use Rattle.rg_validate.specs.Rules.{rules_under, service_exists}
 use Rattle.rg_validate.proofs.Firsts.{no_service, passed_first, under_service}
-use Rattle.rg_validate.proofs.ValidParts.{lawful_at}
 use Rattle.rg_validate.proofs.commands.update_policy_fault.Goals as goal
 
 pub returns-in_default : goal.returns-in_default
@@ -14,11 +13,6 @@ returns-in_default c =
     let old : list_any (has_id c.args.policy.now.id.0) c.args.state.now.policies.items ≡ true = search rules in
     no_service c.args.state.now c.args.policy.now.service c.requires.valid none (rules_under (def_of c.args.state.now c.args.policy.now.service) (policy_rules c.args.state.now (Some c.args.policy.now.id) c.args.policy.now))
     ∙ passed_first E2 (list_any (has_id c.args.policy.now.id.0) c.args.state.now.policies.items) old (service_exists c.args.state.now c.args.policy.now.service ∷ rules_under (def_of c.args.state.now c.args.policy.now.service) (policy_rules c.args.state.now (Some c.args.policy.now.id) c.args.policy.now))
-
-pub policy_fault-requires-clause-lawful : goal.policy_fault-requires-clause-lawful
-policy_fault-requires-clause-lawful c =
-    let there : def_of c.args.state.now c.args.policy.now.service ≡ Some c.in-Some.def.now = search rules in
-    lawful_at c.args.state.now c.args.policy.now.service c.requires.valid.definitions c.in-Some.def.now there
 
 pub returns : goal.returns
 returns c =
