@@ -26,7 +26,8 @@ fn ask_visited<'a, L: Ledger>(
     tag: Option<&'a Tag>,
     steps: &mut Steps<L>,
 ) -> Best<'a>
-    ensures best { result ≡ after Pass.All setting.now (asked_for (option_map (λ t. t.now) tag.entry) visits.entry) best.entry }
+    ensures best { result ≡ after Pass.All setting.now
+        (asked_for (option_map (λ t. t.now) tag.entry) visits.entry) best.entry }
     ensures tries { TriesWithin (length visits.entry) steps.old steps.new }
 {
     let mut best = best;
@@ -77,7 +78,8 @@ fn ask_tags<'a, L: Ledger>(
 
 /// Whether the row reaches down to the resource, whoever asks.
 fn reaches<L: Ledger>(setting: &Setting, row: &CompiledRow, steps: &mut Steps<L>) -> bool
-    ensures answer { result ≡ lies row.now.def row.now.row.resources.items Down setting.now.request.resource.elements.items [] }
+    ensures answer { result ≡ lies row.now.def
+        row.now.row.resources.items Down setting.now.request.resource.elements.items [] }
     ensures tries { TriesWithin 1 steps.old steps.new }
 {
     row.matcher().matches(&setting.request.resource, "", steps)
@@ -92,8 +94,10 @@ pub(crate) fn ask_rows<'a, L: Ledger>(
     steps: &mut Steps<L>,
 ) -> Best<'a>
     requires { policies.now.side ≡ Tagged }
-    ensures best { Finds setting.now (all_tagged policies.now (reaching_tags setting.now.request.resource.elements.items rows.entry)) best.entry result }
-    ensures tries { TriesWithin (length rows.entry + sum_by (tag_tries policies.now) (reaching_tags setting.now.request.resource.elements.items rows.entry)) steps.old steps.new }
+    ensures best { Finds setting.now (all_tagged policies.now (reaching_tags
+        setting.now.request.resource.elements.items rows.entry)) best.entry result }
+    ensures tries { TriesWithin (length rows.entry + sum_by (tag_tries policies.now) (reaching_tags
+        setting.now.request.resource.elements.items rows.entry)) steps.old steps.new }
 {
     let mut best = best;
     let mut rows = rows;
@@ -116,7 +120,8 @@ pub(crate) fn ask_policies<'a, L: Ledger>(
     requires side { policies.now.side ≡ Own }
     requires resource { resource.now ≡ setting.now.request.resource }
     ensures best { Finds setting.now (all_for policies.now None) best.entry result }
-    ensures tries { TriesWithin (bound (def_of policies.now.frame policies.now.side) (policy_forms policies.now.policies) resource.now.elements.items) steps.old steps.new }
+    ensures tries { TriesWithin (bound (def_of policies.now.frame policies.now.side)
+        (policy_forms policies.now.policies) resource.now.elements.items) steps.old steps.new }
 {
     let visits = policies.visit(resource);
     ask_visited(setting, best, visits, None, steps)

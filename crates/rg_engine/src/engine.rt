@@ -56,7 +56,8 @@ impl Model for Engine {
 
     ghost view = { λ e. joined (arc_value e.setup) e.versions (lists_of e.spares e.sets) };
 
-    ghost invariant = { λ e. (sound (joined (arc_value e.setup) e.versions (lists_of e.spares e.sets)) ≡ true)
+    ghost invariant = { λ e.
+        (sound (joined (arc_value e.setup) e.versions (lists_of e.spares e.sets)) ≡ true)
         × (e.sets ≡ compiled_of (joined (arc_value e.setup) e.versions (lists_of e.spares e.sets))) };
 }
 
@@ -94,7 +95,8 @@ fn setup_after(
     roles: &RoleDelta,
 ) -> Result<Arc<Setup>, NoMemory>
     requires lawful { def_fault (arc_value setup.now).def ≡ None }
-    requires zones { let s = arc_value setup.now in all_maps_fit s.service s.def (unless_new s.zones policies.now.zones).items ≡ true }
+    requires zones { let s = arc_value setup.now in
+        all_maps_fit s.service s.def (unless_new s.zones policies.now.zones).items ≡ true }
     ensures { IfOk result (λ s. let old = arc_value setup.now in
         arc_value s ≡ record old { zones = unless_new old.zones policies.now.zones; roles = unless_new old.roles roles.now.roles }) }
 {
@@ -143,7 +145,8 @@ impl Engine {
         roles: &RoleDelta,
     ) -> Result<(), ApplyFault>
         ensures ok { IfOk result (λ _. wrong_base self.now policies.now tags.now roles.now ≡ None) }
-        ensures err { IfErr result (λ f. Tells f (wrong_base self.now policies.now tags.now roles.now)) }
+        ensures err { IfErr result
+            (λ f. Tells f (wrong_base self.now policies.now tags.now roles.now)) }
     {
         let versions = self.versions;
         if versions.policies.0 != policies.from.0 {
@@ -169,11 +172,15 @@ impl Engine {
         steps: &mut Steps<L>,
     ) -> Result<Engine, ApplyFault>
         requires sound { sound (applied self.now policies.now tags.now roles.now) ≡ true }
-        requires forward { (policies.now.from.0 ≤ policies.now.to.0) × (tags.now.from.0 ≤ tags.now.to.0) × (roles.now.from.0 ≤ roles.now.to.0) }
+        requires forward { (policies.now.from.0 ≤ policies.now.to.0)
+            × (tags.now.from.0 ≤ tags.now.to.0) × (roles.now.from.0 ≤ roles.now.to.0) }
         ensures facts { IfOk result (λ e. e ≡ applied self.now policies.now tags.now roles.now) }
-        ensures bases { IfOk result (λ _. wrong_base self.now policies.now tags.now roles.now ≡ None) }
-        ensures fault { IfErr result (λ f. Tells f (wrong_base self.now policies.now tags.now roles.now)) }
-        ensures steps { WorkWithin (made policies.now.changes.items) (pairs_of_changes self.now policies.now tags.now) steps.old steps.new }
+        ensures bases { IfOk result
+            (λ _. wrong_base self.now policies.now tags.now roles.now ≡ None) }
+        ensures fault { IfErr result
+            (λ f. Tells f (wrong_base self.now policies.now tags.now roles.now)) }
+        ensures steps { WorkWithin (made policies.now.changes.items)
+            (pairs_of_changes self.now policies.now tags.now) steps.old steps.new }
     {
         self.check_bases(policies, tags, roles)?;
         let frame = self.setup.frame();
@@ -237,7 +244,11 @@ impl Engine {
 
     /// The policies, tag policies and tag rows that it decides by.
     fn lists(&self, alloc: Global) -> Result<Lists, NoMemory>
-        ensures { IfOk result (λ lists. lists ≡ record { policies = self.now.policies; tag_policies = self.now.tag_policies; tag_rows = self.now.tag_rows }) }
+        ensures { IfOk result (λ lists. lists ≡ record {
+          policies = self.now.policies;
+          tag_policies = self.now.tag_policies;
+          tag_rows = self.now.tag_rows;
+        }) }
     {
         self.sets.copies(alloc, self.spares)
     }

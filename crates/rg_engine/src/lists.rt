@@ -21,7 +21,11 @@ pub(crate) struct Lists {
 impl Lists {
     /// Lets the lists of the facts go, and leaves empty ones.
     pub(crate) fn clear(alloc: Global, facts: &mut Facts)
-        ensures { facts.new ≡ record facts.old { policies = listed []; tag_policies = listed []; tag_rows = listed [] } }
+        ensures { facts.new ≡ record facts.old {
+          policies = listed [];
+          tag_policies = listed [];
+          tag_rows = listed [];
+        } }
     {
         facts.policies = Seq::new(alloc);
         facts.tag_policies = Seq::new(alloc);
@@ -40,7 +44,11 @@ pub(crate) struct Spares {
 impl Spares {
     /// Those of the lists of facts.
     pub(crate) fn of(facts: &Facts) -> Spares
-        ensures { lists_of result (compiled_of facts.now) ≡ record { policies = facts.now.policies; tag_policies = facts.now.tag_policies; tag_rows = facts.now.tag_rows } }
+        ensures { lists_of result (compiled_of facts.now) ≡ record {
+          policies = facts.now.policies;
+          tag_policies = facts.now.tag_policies;
+          tag_rows = facts.now.tag_rows;
+        } }
     {
         Spares {
             policies: facts.policies.is_reserved(),

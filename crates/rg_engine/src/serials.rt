@@ -9,7 +9,8 @@ use rg_facts::Decision;
 
 /// The decision as one of the publication of this serial.
 pub fn numbered(decision: Decision, serial: Serial) -> Decision
-    ensures { (facts : Facts) (q : AccessRequest) → decision ≡ decide facts q (record { 0 = 0 }) → result ≡ decide facts q serial }
+    ensures { (facts : Facts) (q : AccessRequest)
+        → decision ≡ decide facts q (record { 0 = 0 }) → result ≡ decide facts q serial }
 {
     let mut decision = decision;
     decision.serial = serial;

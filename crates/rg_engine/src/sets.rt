@@ -54,9 +54,15 @@ impl Model for Sets {
 
     ghost Value = { Compiled };
 
-    ghost view = { λ s. record { frame = s.policies.frame; policies = s.policies.policies; tag_policies = tag_policies_of s.tag_policies; rows = s.rows.rows } };
+    ghost view = { λ s. record {
+      frame = s.policies.frame;
+      policies = s.policies.policies;
+      tag_policies = tag_policies_of s.tag_policies;
+      rows = s.rows.rows;
+    } };
 
-    ghost invariant = { λ s. (s.policies.side ≡ Resource) × IsTagSet s.policies.frame s.tag_policies × (s.rows.def ≡ s.policies.frame.def) };
+    ghost invariant = { λ s. (s.policies.side ≡ Resource)
+        × IsTagSet s.policies.frame s.tag_policies × (s.rows.def ≡ s.policies.frame.def) };
 }
 
 /// The tag policies, where there is a definition for them.
@@ -71,7 +77,8 @@ fn build_tag_policies<L: Ledger>(
     requires none { frame.now.tag_def ≡ None → policies.now ≡ [] }
     ensures set { IfOk result (λ o. IsTagSet frame.now o) }
     ensures policies { IfOk result (λ o. tag_policies_of o ≡ policies.now) }
-    ensures steps { WorkWithin (length policies.now) (pairs_under frame.now.tag_def (policy_forms policies.now)) steps.old steps.new }
+    ensures steps { WorkWithin (length policies.now)
+        (pairs_under frame.now.tag_def (policy_forms policies.now)) steps.old steps.new }
 {
     if frame.tag_def.is_none() {
         return Ok(None);
@@ -89,12 +96,17 @@ fn apply_tag_policies<L: Ledger>(
     steps: &mut Steps<L>,
 ) -> Result<Option<PolicySet>, NoMemory>
     requires set { IsTagSet frame.now set.now }
-    requires rules { list_all (passes frame.now Tagged) (fold tag_policies_after (tag_policies_of set.now) changes.now) ≡ true }
-    requires distinct { all_distinct same_id (fold tag_policies_after (tag_policies_of set.now) changes.now) ≡ true }
-    requires none { frame.now.tag_def ≡ None → fold tag_policies_after (tag_policies_of set.now) changes.now ≡ [] }
+    requires rules { list_all (passes frame.now Tagged)
+        (fold tag_policies_after (tag_policies_of set.now) changes.now) ≡ true }
+    requires distinct { all_distinct same_id
+        (fold tag_policies_after (tag_policies_of set.now) changes.now) ≡ true }
+    requires none { frame.now.tag_def ≡ None
+        → fold tag_policies_after (tag_policies_of set.now) changes.now ≡ [] }
     ensures set { IfOk result (λ o. IsTagSet frame.now o) }
-    ensures policies { IfOk result (λ o. tag_policies_of o ≡ fold tag_policies_after (tag_policies_of set.now) changes.now) }
-    ensures steps { WorkWithin (made_on Tagged changes.now) (tag_pairs frame.now.tag_def (tag_policies_of set.now) changes.now) steps.old steps.new }
+    ensures policies { IfOk result
+        (λ o. tag_policies_of o ≡ fold tag_policies_after (tag_policies_of set.now) changes.now) }
+    ensures steps { WorkWithin (made_on Tagged changes.now)
+        (tag_pairs frame.now.tag_def (tag_policies_of set.now) changes.now) steps.old steps.new }
 {
     match set {
         Some(set) => {
@@ -135,7 +147,8 @@ impl Sets {
         requires frame { frame.now ≡ frame_of facts.now }
         requires may { MayCompile (compiled_of facts.now) }
         ensures made { IfOk result (λ s. s ≡ compiled_of facts.now) }
-        ensures steps { WorkWithin (policies_in facts.now) (pairs_in facts.now) steps.old steps.new }
+        ensures steps { WorkWithin (policies_in facts.now)
+            (pairs_in facts.now) steps.old steps.new }
     {
         let policies = facts.policies.as_slice();
         let policies = PolicySet::build(alloc, frame, Side::Resource, policies, steps)?;
@@ -203,8 +216,10 @@ impl Sets {
         steps: &mut Steps<L>,
     ) -> Best<'a>
         requires { resource.now ≡ setting.now.request.resource }
-        ensures best { (facts : Facts) → self.now ≡ compiled_of facts → Finds setting.now (candidates facts setting.now.request) none_yet result }
-        ensures tries { (facts : Facts) → self.now ≡ compiled_of facts → TriesWithin (bound_on facts setting.now.request) steps.old steps.new }
+        ensures best { (facts : Facts) → self.now ≡ compiled_of facts
+            → Finds setting.now (candidates facts setting.now.request) none_yet result }
+        ensures tries { (facts : Facts) → self.now ≡ compiled_of facts
+            → TriesWithin (bound_on facts setting.now.request) steps.old steps.new }
     {
         let best = self.ask_tag_policies(setting, resource, steps);
         ask_policies(setting, best, &self.policies, resource, steps)

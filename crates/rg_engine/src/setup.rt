@@ -26,7 +26,11 @@ pub(crate) struct Versions {
 
 impl Versions {
     pub(crate) fn of(facts: &Facts) -> Versions
-        ensures { result ≡ record { policies = facts.now.policy_version; tags = facts.now.tag_version; roles = facts.now.role_version } }
+        ensures { result ≡ record {
+          policies = facts.now.policy_version;
+          tags = facts.now.tag_version;
+          roles = facts.now.role_version;
+        } }
     {
         Versions {
             policies: facts.policy_version,
@@ -87,7 +91,11 @@ fn roles_of(alloc: Global, rows: &[RoleRow]) -> Result<Roles, NoMemory>
 fn zones_of(alloc: Global, facts: &Facts) -> Result<ZoneMap, NoMemory>
     requires lawful { def_fault facts.now.def ≡ None }
     requires zones { all_maps_fit facts.now.service facts.now.def facts.now.zones.items ≡ true }
-    ensures { IfOk result (λ m. m ≡ record { zones = facts.now.zones.items; service = facts.now.service; def = facts.now.def }) }
+    ensures { IfOk result (λ m. m ≡ record {
+      zones = facts.now.zones.items;
+      service = facts.now.service;
+      def = facts.now.def;
+    }) }
 {
     let map = ZoneMap::build(
         alloc,
@@ -96,15 +104,6 @@ fn zones_of(alloc: Global, facts: &Facts) -> Result<ZoneMap, NoMemory>
         &facts.def,
     )?;
     Ok(map)
-}
-
-/// The paths of the definition of sound facts.
-fn paths_of(alloc: Global, facts: &Facts) -> Result<Paths, NoMemory>
-    requires { def_fault facts.now.def ≡ None }
-    ensures { IfOk result (λ paths. paths ≡ facts.now.def.levels.items) }
-{
-    let paths = Paths::of(alloc, &facts.def)?;
-    Ok(paths)
 }
 
 /// The new list, where there is one.
@@ -134,7 +133,7 @@ impl Setup {
     {
         let roles = roles_of(alloc, facts.roles.as_slice())?;
         let zones = zones_of(alloc, &facts)?;
-        let paths = paths_of(alloc, &facts)?;
+        let paths = Paths::of(alloc, &facts.def)?;
         Ok(Setup {
             facts,
             frame,
@@ -152,8 +151,13 @@ impl Setup {
         roles: &Option<Seq<RoleRow>>,
     ) -> Result<Setup, NoMemory>
         requires lawful { def_fault self.now.def ≡ None }
-        requires zones { all_maps_fit self.now.service self.now.def (unless_new self.now.zones zones.now).items ≡ true }
-        ensures { IfOk result (λ s. s ≡ record self.now { zones = unless_new self.now.zones zones.now; roles = unless_new self.now.roles roles.now }) }
+        requires zones { all_maps_fit self.now.service self.now.def
+            (unless_new self.now.zones zones.now).items ≡ true }
+        ensures { IfOk result (λ s. s ≡ record self.now {
+          zones = unless_new
+              self.now.zones zones.now;
+          roles = unless_new self.now.roles roles.now;
+        }) }
     {
         let mut facts = self.facts.try_copy(alloc)?;
         take_new(alloc, &mut facts.zones, zones)?;

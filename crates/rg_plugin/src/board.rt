@@ -56,11 +56,12 @@ fn stand_of<K: Cache + Drop, Q: Wait + Drop>(
     settled: Option<Moment>,
     fault: Option<Cause>,
 ) -> Stand {
+    let engine = plugin.newest();
     Stand {
         serial: plugin.serial(),
-        policy_version: plugin.policy_version(),
-        tag_version: plugin.tag_version(),
-        role_version: plugin.role_version(),
+        policy_version: engine.policy_version(),
+        tag_version: engine.tag_version(),
+        role_version: engine.role_version(),
         settled,
         fault,
     }

@@ -1,5 +1,5 @@
 // What a plugin decides by, and how a round renews it.
-ghost use Rattle.std.specs.Prelude.{◌≡◌, ◌≤◌, ◌⊎◌, ◌∷◌, [], false, true, IfOk, IfErr, OnOk, OnErr, replicate};
+ghost use Rattle.std.specs.Prelude.{◌≡◌, ◌≤◌, ◌⊎◌, ◌∷◌, [], false, true, IfOk, IfErr, OnOk, OnErr, length, replicate};
 ghost use Rattle.rg_facts.specs.Sound.{sound};
 ghost use Rattle.rg_cache.specs.Kept.{kept_text};
 ghost use Rattle.rg_cache.specs.Places.{Holds};
@@ -8,7 +8,7 @@ ghost use Rattle.rg_publish.specs.Publications.{publication};
 ghost use Rattle.rg_plugin.specs.Following.{HasFailed, HasFollowed, HasPublished, HasSettledAt, HasStrayed, IsUnfit};
 
 use crate::cause::{cause_of, is_delta};
-use rg_base::{NoMemory, Serial, Steps, Text, TryCopy, Version};
+use rg_base::{NoMemory, Serial, Steps, Text, TryCopy};
 use rg_cache::{Cache, CacheFault, keep};
 use rg_facts::Facts;
 use rg_facts_check::facts_fault;
@@ -38,7 +38,12 @@ impl<K: Cache + Drop, R: Wait + Drop> Model for Plugin<K, R> {
 
     ghost Value = { Following };
 
-    ghost view = { λ p. record { published = p.publisher; held = K.held p.cache; service = p.service; is_anew = p.is_anew } };
+    ghost view = { λ p. record {
+      published = p.publisher;
+      held = K.held p.cache;
+      service = p.service;
+      is_anew = p.is_anew;
+    } };
 }
 
 impl<K: Cache + Drop, R: Wait + Drop> Plugin<K, R> {
@@ -55,7 +60,8 @@ impl<K: Cache + Drop, R: Wait + Drop> Plugin<K, R> {
         requires passes { (1 ≤ passes) × (passes ≤ 64) }
         ensures published { IfOk result (λ t. t.0.published.list ≡ publication 1 0 facts ∷ []) }
         ensures passes { IfOk result (λ t. t.1.items ≡ replicate passes (new_pass t.0.published)) }
-        ensures rest { IfOk result (λ t. (t.0.held ≡ K.held cache) × (t.0.service ≡ service) × (t.0.is_anew ≡ false)) }
+        ensures rest { IfOk result (λ t. (t.0.held ≡ K.held cache)
+            × (t.0.service ≡ service) × (t.0.is_anew ≡ false)) }
     {
         let engine = match Engine::build(alloc, facts, &mut Steps::silent()) {
             Ok(engine) => engine,
@@ -86,23 +92,17 @@ impl<K: Cache + Drop, R: Wait + Drop> Plugin<K, R> {
     }
 
     /// The number of the newest publication.
-    pub fn serial(&self) -> Serial {
+    pub fn serial(&self) -> Serial
+        ensures { result.0 ≡ length self.now.published.list }
+    {
         self.publisher.serial()
     }
 
-    /// The policies' version of the newest publication.
-    pub fn policy_version(&self) -> Version {
-        self.publisher.newest().policy_version()
-    }
-
-    /// The tag rows' version.
-    pub fn tag_version(&self) -> Version {
-        self.publisher.newest().tag_version()
-    }
-
-    /// The roles' version.
-    pub fn role_version(&self) -> Version {
-        self.publisher.newest().role_version()
+    /// The engine of the newest publication.
+    pub fn newest(&self) -> &Engine
+        ensures { Ends self.now.published.list (λ p. result.now ≡ p.facts) }
+    {
+        self.publisher.newest()
     }
 
     /// Whether the newest publication is still to be kept.
@@ -134,9 +134,12 @@ impl<K: Cache + Drop, R: Wait + Drop> Plugin<K, R> {
 
     // Publishes these facts, unless they break a rule that holds of all facts.
     fn publish(&mut self, alloc: Global, facts: Facts) -> Result<(), Cause>
-        ensures same { (self.new.published.book ≡ self.old.published.book) × (self.new.held ≡ self.old.held) × (self.new.service ≡ self.old.service) × (self.new.is_anew ≡ self.old.is_anew) }
+        ensures same { (self.new.published.book ≡ self.old.published.book)
+            × (self.new.held ≡ self.old.held)
+            × (self.new.service ≡ self.old.service) × (self.new.is_anew ≡ self.old.is_anew) }
         ensures published { OnOk result (HasPublished self.old.published facts self.new.published) }
-        ensures failed { IfErr result (λ cause. (self.new.published.list ≡ self.old.published.list) × IsUnfit facts cause) }
+        ensures failed { IfErr result (λ cause. (self.new.published.list ≡ self.old.published.list)
+            × IsUnfit facts cause) }
     {
         match facts_fault(alloc, &facts) {
             Ok(false) => {}
@@ -169,9 +172,12 @@ impl<K: Cache + Drop, R: Wait + Drop> Plugin<K, R> {
         alloc: Global,
         remote: &mut Remote<T>,
     ) -> Result<bool, Cause>
-        ensures same { (self.new.published.book ≡ self.old.published.book) × (self.new.held ≡ self.old.held) × (self.new.service ≡ self.old.service) }
-        ensures followed { IfOk result (λ changed. HasFollowed self.old changed self.new remote.old remote.new) }
-        ensures failed { IfErr result (λ cause. HasFailed self.old cause self.new remote.old remote.new) }
+        ensures same { (self.new.published.book ≡ self.old.published.book)
+            × (self.new.held ≡ self.old.held) × (self.new.service ≡ self.old.service) }
+        ensures followed { IfOk result
+            (λ changed. HasFollowed self.old changed self.new remote.old remote.new) }
+        ensures failed { IfErr result
+            (λ cause. HasFailed self.old cause self.new remote.old remote.new) }
     {
         match self.settle(alloc, remote) {
             Ok(None) => Ok(false),
@@ -193,9 +199,12 @@ impl<K: Cache + Drop, R: Wait + Drop> Plugin<K, R> {
 
     /// Keeps the newest publication for a restart.
     pub fn keep_newest(&mut self, alloc: Global) -> Result<(), CacheFault>
-        ensures same { (self.new.published ≡ self.old.published) × (self.new.service ≡ self.old.service) × (self.new.is_anew ≡ self.old.is_anew) }
-        ensures kept { OnOk result (Ends self.old.published.list (λ p. Holds self.old.held self.new.held (kept_text p.facts))) }
-        ensures fault { OnErr result (Ends self.old.published.list (λ p. (self.new.held ≡ self.old.held) ⊎ Holds self.old.held self.new.held (kept_text p.facts))) }
+        ensures same { (self.new.published ≡ self.old.published)
+            × (self.new.service ≡ self.old.service) × (self.new.is_anew ≡ self.old.is_anew) }
+        ensures kept { OnOk result (Ends self.old.published.list
+            (λ p. Holds self.old.held self.new.held (kept_text p.facts))) }
+        ensures fault { OnErr result (Ends self.old.published.list (λ p. (self.new.held
+            ≡ self.old.held) ⊎ Holds self.old.held self.new.held (kept_text p.facts))) }
     {
         let Ok(facts) = self.publisher.newest().facts(alloc) else {
             return Err(CacheFault::NoMemory);

@@ -1,7 +1,4 @@
 // What compiles policies and tag rows.
-ghost use Rattle.std.specs.Prelude.{◌≡◌, None};
-ghost use Rattle.rg_defs.specs.Rules.{def_fault};
-ghost use Rattle.rg_evalr.specs.Frames.{def_of};
 ghost use Rattle.rg_facts.specs.Sound.{passes};
 ghost use Rattle.rg_resmatch.specs.Rules.{tagged_fit};
 ghost use Rattle.rg_policy_sets.specs.Seen.{row_source, source};
@@ -26,8 +23,6 @@ pub(crate) struct PolicyCompiler<'a> {
 impl<'a> Compile<Shared<Policy>, HeldPolicy> for PolicyCompiler<'a> {
     ghost hold = { λ c p. source c.frame.now c.side p };
 
-    ghost Ready = { λ c. def_fault (def_of c.frame.now c.side) ≡ None };
-
     ghost passes = { λ c p. passes c.frame.now c.side p };
 
     ghost cost = { 1 };
@@ -51,8 +46,6 @@ pub(crate) struct RowCompiler<'a> {
 
 impl<'a> Compile<TagRow, HeldRow> for RowCompiler<'a> {
     ghost hold = { λ c row. row_source c.def.now row };
-
-    ghost Ready = { λ c. def_fault c.def.now ≡ None };
 
     ghost passes = { λ c row. tagged_fit c.def.now row.resources.items };
 

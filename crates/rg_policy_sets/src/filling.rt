@@ -18,9 +18,9 @@ fn compile_slot<X, H: Fileable, C: Compile<X, H>, L: Ledger>(
     item: &X,
     steps: &mut Steps<L>,
 ) -> Result<Slot<H>, NoMemory>
-    requires ready { C.Ready compiler.now }
-    requires passes { C.passes compiler.now item.now ≡ true }
-    ensures slot { IfOk result (λ s. s ≡ record { ordinal = pos place; held = C.hold compiler.now item.now }) }
+    requires { C.passes compiler.now item.now ≡ true }
+    ensures slot { IfOk result
+        (λ s. s ≡ record { ordinal = pos place; held = C.hold compiler.now item.now }) }
     ensures steps { WorkWithin C.cost 0 steps.old steps.new }
 {
     let ordinal = ordinal_of(place)?;
@@ -35,9 +35,9 @@ pub(crate) fn compile_slots<X, H: Fileable, C: Compile<X, H>, L: Ledger>(
     items: &[X],
     steps: &mut Steps<L>,
 ) -> Result<Vec<Slot<H>>, NoMemory>
-    requires ready { C.Ready compiler.now }
     requires pass { list_all (C.passes compiler.now) items.now ≡ true }
-    ensures slots { IfOk result (λ slots. slots.items ≡ placed_from 0 (map (C.hold compiler.now) items.now)) }
+    ensures slots { IfOk result
+        (λ slots. slots.items ≡ placed_from 0 (map (C.hold compiler.now) items.now)) }
     ensures steps { WorkWithin (sum_by (λ x. C.cost) items.now) 0 steps.old steps.new }
 {
     let mut slots = Vec::new(alloc);

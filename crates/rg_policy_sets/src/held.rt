@@ -1,7 +1,6 @@
 // What the slots of a set hold: a policy with its evaluator, a tag row with its matcher.
 ghost use Rattle.std.specs.Prelude.{◌≡◌, IfOk, None, true};
 ghost use Rattle.rg_base.specs.Counts.{one_compile};
-ghost use Rattle.rg_defs.specs.Rules.{def_fault};
 ghost use Rattle.rg_evalr.specs.Compiling.{policy_fault};
 ghost use Rattle.rg_evalr.specs.Frames.{def_of};
 ghost use Rattle.rg_resmatch.specs.Rules.{tagged_fit};
@@ -54,7 +53,8 @@ impl Model for HeldPolicy {
 
     ghost view = { λ h. h.evaluator };
 
-    ghost invariant = { λ h. (h.evaluator.policy ≡ h.policy) × (h.first ≡ source_mark 0 h.evaluator) × (h.second ≡ source_mark 1 h.evaluator) };
+    ghost invariant = { λ h. (h.evaluator.policy ≡ h.policy)
+        × (h.first ≡ source_mark 0 h.evaluator) × (h.second ≡ source_mark 1 h.evaluator) };
 }
 
 impl Fileable for HeldPolicy {
@@ -132,7 +132,6 @@ impl HeldPolicy {
         shared: &Shared<Policy>,
         steps: &mut Steps<L>,
     ) -> Result<HeldPolicy, NoMemory>
-        requires lawful { def_fault (def_of frame.now side) ≡ None }
         requires rules { policy_fault frame.now side shared.now ≡ None }
         ensures source { IfOk result (λ h. h ≡ source frame.now side shared.now) }
         ensures steps { steps.new ≡ one_compile steps.old }
@@ -165,7 +164,6 @@ impl HeldRow {
         def: &ServiceDef,
         row: &TagRow,
     ) -> Result<HeldRow, NoMemory>
-        requires lawful { def_fault def.now ≡ None }
         requires fits { tagged_fit def.now row.now.resources.items ≡ true }
         ensures { IfOk result (λ h. h ≡ row_source def.now row.now) }
     {

@@ -208,7 +208,8 @@ fn policy_key(alloc: Global, level: &Level, policy: &Policy) -> Result<Text, NoM
 
 /// A policy that lies on a resource has marks with which the values of the resource agree.
 pub(crate) fn lying_policies_agree()
-    ensures { (def : ServiceDef) (p : Policy) (elements : List Element) (user : List ℕ) (place : ℕ) → def_fault def ≡ None
+    ensures { (def : ServiceDef) (p : Policy) (elements : List Element) (user : List ℕ) (place : ℕ)
+        → def_fault def ≡ None
         → some_lies def (maps_of p) Exact elements user ≡ true
         → agrees (asked_at (slice_get def.levels.items place) elements) (mark_at (slice_get def.levels.items place) p) ≡ true }
 {

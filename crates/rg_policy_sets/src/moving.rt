@@ -1,7 +1,6 @@
 // How slots and their index move with a plan. Only what an edit puts into the list is compiled; all else is shared.
 ghost use Rattle.std.specs.Prelude.{◌≡◌, ◌+◌, ◌++◌, [], ◌∷◌, Contains, IfOk, List, OnOk, length, map, option_to_list, pos, ◌+ℤ◌, sum_by, true, false, not, if◌then◌else◌};
 ghost use Rattle.std.specs.List.{list_all, list_any};
-ghost use Rattle.rg_defs.specs.Rules.{def_fault};
 ghost use Rattle.rg_index.specs.Changes.{form_fits, same_id};
 ghost use Rattle.rg_index.specs.Filing.{EditsWithin, pairs};
 ghost use Rattle.rg_index.specs.declared.form.Form.{Form};
@@ -27,9 +26,6 @@ pub(crate) trait Compile<X, H> {
     /// What is held of a thing.
     ghost hold: { Self → X → H };
 
-    /// Whether things can be compiled at all.
-    ghost Ready: { Self → Type 0 };
-
     /// Whether the thing passes the rules.
     ghost passes: { Self → X → Bool };
 
@@ -42,7 +38,6 @@ pub(crate) trait Compile<X, H> {
         item: &X,
         steps: &mut Steps<L>,
     ) -> Result<H, NoMemory>
-        requires ready { Ready self.now }
         requires passes { passes self.now item.now ≡ true }
         ensures held { IfOk result (λ h. h ≡ hold self.now item.now) }
         ensures steps { WorkWithin cost 0 steps.old steps.new };
@@ -59,7 +54,8 @@ fn without_form<L: Ledger>(
     requires same { def.now ≡ index.now.def }
     requires among { Contains index.now.forms old.now }
     ensures def { IfOk result (λ x. x.def ≡ def.now) }
-    ensures forms { IfOk result (λ x. (before after : List Form) → index.now.forms ≡ before ++ old.now ∷ after → x.forms ≡ before ++ after) }
+    ensures forms { IfOk result (λ x. (before after : List Form)
+        → index.now.forms ≡ before ++ old.now ∷ after → x.forms ≡ before ++ after) }
     ensures steps { EditsWithin (pairs def.now old.now) steps.old steps.new }
 {
     index.law_of_forms();
@@ -80,8 +76,10 @@ fn with_form_for<L: Ledger>(
     requires id { new.now.id ≡ old.now.id }
     requires fit { form_fits def.now new.now ≡ true }
     ensures def { IfOk result (λ x. x.def ≡ def.now) }
-    ensures forms { IfOk result (λ x. (before after : List Form) → index.now.forms ≡ before ++ old.now ∷ after → x.forms ≡ before ++ new.now ∷ after) }
-    ensures steps { EditsWithin (pairs def.now old.now + pairs def.now new.now) steps.old steps.new }
+    ensures forms { IfOk result (λ x. (before after : List Form)
+        → index.now.forms ≡ before ++ old.now ∷ after → x.forms ≡ before ++ new.now ∷ after) }
+    ensures steps { EditsWithin
+        (pairs def.now old.now + pairs def.now new.now) steps.old steps.new }
 {
     index.law_of_forms();
     index.apply(alloc, def, Some(old), Some(new), steps)
@@ -130,9 +128,9 @@ fn compiled_slot<X, H: Fileable, C: Compile<X, H>, L: Ledger>(
     item: &X,
     steps: &mut Steps<L>,
 ) -> Result<Slot<H>, NoMemory>
-    requires ready { C.Ready compiler.now }
-    requires passes { C.passes compiler.now item.now ≡ true }
-    ensures slot { IfOk result (λ s. s ≡ record { ordinal = ordinal.0; held = C.hold compiler.now item.now }) }
+    requires { C.passes compiler.now item.now ≡ true }
+    ensures slot { IfOk result
+        (λ s. s ≡ record { ordinal = ordinal.0; held = C.hold compiler.now item.now }) }
     ensures steps { WorkWithin C.cost 0 steps.old steps.new }
 {
     let held = compiler.compile(alloc, item, steps)?;
@@ -151,14 +149,16 @@ fn replace_slot<X, H: Fileable, C: Compile<X, H>, L: Ledger>(
 ) -> Result<(), NoMemory>
     requires same { def.now ≡ moving.old.index.def }
     requires among { Contains moving.old.index.forms (slot_form H.form_of slot.now) }
-    requires ready { C.Ready compiler.now }
     requires passes { C.passes compiler.now item.now ≡ true }
     requires fits { form_fits def.now (H.form_of (C.hold compiler.now item.now)) ≡ true }
-    ensures slots { OnOk result (moving.new.slots.items ≡ moving.old.slots.items ++ record { ordinal = slot.now.ordinal; held = C.hold compiler.now item.now } ∷ []) }
+    ensures slots { OnOk result (moving.new.slots.items ≡ moving.old.slots.items
+        ++ record { ordinal = slot.now.ordinal; held = C.hold compiler.now item.now } ∷ []) }
     ensures def { OnOk result (moving.new.index.def ≡ def.now) }
-    ensures forms { OnOk result ((before after : List Form) → moving.old.index.forms ≡ before ++ slot_form H.form_of slot.now ∷ after
+    ensures forms { OnOk result ((before after : List Form)
+        → moving.old.index.forms ≡ before ++ slot_form H.form_of slot.now ∷ after
         → moving.new.index.forms ≡ before ++ slot_form H.form_of (record { ordinal = slot.now.ordinal; held = C.hold compiler.now item.now }) ∷ after) }
-    ensures steps { WorkWithin C.cost (pairs def.now (H.form_of slot.now.held) + pairs def.now (H.form_of (C.hold compiler.now item.now))) steps.old steps.new }
+    ensures steps { WorkWithin C.cost (pairs def.now (H.form_of slot.now.held)
+        + pairs def.now (H.form_of (C.hold compiler.now item.now))) steps.old steps.new }
 {
     let ordinal = own_ordinal(slot);
     let renewed = compiled_slot(alloc, compiler, ordinal, item, steps)?;
@@ -191,7 +191,8 @@ fn leave_slot<H: Fileable, L: Ledger>(
     requires among { Contains moving.old.index.forms (slot_form H.form_of slot.now) }
     ensures slots { OnOk result (moving.new.slots.items ≡ moving.old.slots.items) }
     ensures def { OnOk result (moving.new.index.def ≡ def.now) }
-    ensures forms { OnOk result ((before after : List Form) → moving.old.index.forms ≡ before ++ slot_form H.form_of slot.now ∷ after → moving.new.index.forms ≡ before ++ after) }
+    ensures forms { OnOk result ((before after : List Form) → moving.old.index.forms ≡ before
+        ++ slot_form H.form_of slot.now ∷ after → moving.new.index.forms ≡ before ++ after) }
     ensures steps { WorkWithin 0 (pairs def.now (H.form_of slot.now.held)) steps.old steps.new }
 {
     let old = form_of(alloc, slot)?;
@@ -211,11 +212,13 @@ fn move_slot<X, H: Fileable, C: Compile<X, H>, L: Ledger>(
 ) -> Result<(), NoMemory>
     requires same { def.now ≡ moving.old.index.def }
     requires among { Contains moving.old.index.forms (slot_form H.form_of slot.now) }
-    requires ready { C.Ready compiler.now }
-    requires fit { list_all (is_compiled (C.passes compiler.now) def.now H.form_of (C.hold compiler.now)) (option_to_list (put_there fate.now)) ≡ true }
-    ensures slots { OnOk result (moving.new.slots.items ≡ moving.old.slots.items ++ option_to_list (moved_slot (C.hold compiler.now) fate.now slot.now)) }
+    requires fit { list_all (is_compiled (C.passes compiler.now) def.now H.form_of
+        (C.hold compiler.now)) (option_to_list (put_there fate.now)) ≡ true }
+    ensures slots { OnOk result (moving.new.slots.items ≡ moving.old.slots.items
+        ++ option_to_list (moved_slot (C.hold compiler.now) fate.now slot.now)) }
     ensures def { OnOk result (moving.new.index.def ≡ def.now) }
-    ensures forms { OnOk result ((before after : List Form) → moving.old.index.forms ≡ before ++ slot_form H.form_of slot.now ∷ after
+    ensures forms { OnOk result ((before after : List Form)
+        → moving.old.index.forms ≡ before ++ slot_form H.form_of slot.now ∷ after
         → moving.new.index.forms ≡ before ++ (slot_forms H.form_of (option_to_list (moved_slot (C.hold compiler.now) fate.now slot.now)) ++ after)) }
     ensures steps { WorkWithin (sum_by (λ x. C.cost) (option_to_list (put_there fate.now)))
         ((if is_kept fate.now then 0 else pairs def.now (H.form_of slot.now.held)) + sum_by (λ x. pairs def.now (H.form_of (C.hold compiler.now x))) (option_to_list (put_there fate.now))) steps.old steps.new }
@@ -242,9 +245,10 @@ fn move_slots<X, H: Fileable, C: Compile<X, H>, L: Ledger>(
     requires same { def.now ≡ index.def }
     requires forms { index.forms ≡ slot_forms H.form_of slots.now }
     requires long { length places.now ≡ length slots.now }
-    requires ready { C.Ready compiler.now }
-    requires fit { list_all (is_compiled (C.passes compiler.now) def.now H.form_of (C.hold compiler.now)) (put_at places.now) ≡ true }
-    ensures slots { IfOk result (λ m. m.slots.items ≡ moved_slots (C.hold compiler.now) places.now slots.now) }
+    requires fit { list_all (is_compiled (C.passes compiler.now) def.now H.form_of
+        (C.hold compiler.now)) (put_at places.now) ≡ true }
+    ensures slots { IfOk result
+        (λ m. m.slots.items ≡ moved_slots (C.hold compiler.now) places.now slots.now) }
     ensures def { IfOk result (λ m. m.index.def ≡ def.now) }
     ensures forms { IfOk result (λ m. m.index.forms ≡ slot_forms H.form_of m.slots.items) }
     ensures steps { WorkWithin (sum_by (λ x. C.cost) (put_at places.now))
@@ -275,12 +279,15 @@ fn add_at<X, H: Fileable, C: Compile<X, H>, L: Ledger>(
     requires same { def.now ≡ moving.old.index.def }
     requires forms { moving.old.index.forms ≡ slot_forms H.form_of moving.old.slots.items }
     requires below { are_below ordinal.0 moving.old.slots.items ≡ true }
-    requires ready { C.Ready compiler.now }
-    requires fits { is_compiled (C.passes compiler.now) def.now H.form_of (C.hold compiler.now) item.now ≡ true }
-    ensures slots { OnOk result (moving.new.slots.items ≡ moving.old.slots.items ++ record { ordinal = ordinal.0; held = C.hold compiler.now item.now } ∷ []) }
+    requires fits { is_compiled (C.passes compiler.now) def.now H.form_of
+        (C.hold compiler.now) item.now ≡ true }
+    ensures slots { OnOk result (moving.new.slots.items ≡ moving.old.slots.items
+        ++ record { ordinal = ordinal.0; held = C.hold compiler.now item.now } ∷ []) }
     ensures def { OnOk result (moving.new.index.def ≡ def.now) }
-    ensures forms { OnOk result (moving.new.index.forms ≡ slot_forms H.form_of moving.new.slots.items) }
-    ensures steps { WorkWithin C.cost (pairs def.now (H.form_of (C.hold compiler.now item.now))) steps.old steps.new }
+    ensures forms { OnOk result (moving.new.index.forms
+        ≡ slot_forms H.form_of moving.new.slots.items) }
+    ensures steps { WorkWithin C.cost
+        (pairs def.now (H.form_of (C.hold compiler.now item.now))) steps.old steps.new }
 {
     let slot = compiled_slot(alloc, compiler, ordinal, item, steps)?;
     let form = form_of(alloc, &slot)?;
@@ -322,13 +329,16 @@ fn add_slot<X, H: Fileable, C: Compile<X, H>, L: Ledger>(
     requires same { def.now ≡ moving.old.index.def }
     requires forms { moving.old.index.forms ≡ slot_forms H.form_of moving.old.slots.items }
     requires rising { are_rising moving.old.slots.items ≡ true }
-    requires ready { C.Ready compiler.now }
-    requires fits { is_compiled (C.passes compiler.now) def.now H.form_of (C.hold compiler.now) item.now ≡ true }
-    ensures held { OnOk result (held_in moving.new.slots.items ≡ held_in moving.old.slots.items ++ C.hold compiler.now item.now ∷ []) }
+    requires fits { is_compiled (C.passes compiler.now) def.now H.form_of
+        (C.hold compiler.now) item.now ≡ true }
+    ensures held { OnOk result (held_in moving.new.slots.items
+        ≡ held_in moving.old.slots.items ++ C.hold compiler.now item.now ∷ []) }
     ensures rising { OnOk result (are_rising moving.new.slots.items ≡ true) }
     ensures def { OnOk result (moving.new.index.def ≡ def.now) }
-    ensures forms { OnOk result (moving.new.index.forms ≡ slot_forms H.form_of moving.new.slots.items) }
-    ensures steps { WorkWithin C.cost (pairs def.now (H.form_of (C.hold compiler.now item.now))) steps.old steps.new }
+    ensures forms { OnOk result (moving.new.index.forms
+        ≡ slot_forms H.form_of moving.new.slots.items) }
+    ensures steps { WorkWithin C.cost
+        (pairs def.now (H.form_of (C.hold compiler.now item.now))) steps.old steps.new }
 {
     let ordinal = next_ordinal(&moving.slots)?;
     add_at(alloc, def, compiler, ordinal, item, moving, steps)?;
@@ -347,13 +357,16 @@ fn add_slots<X, H: Fileable, C: Compile<X, H>, L: Ledger>(
     requires same { def.now ≡ moving.old.index.def }
     requires forms { moving.old.index.forms ≡ slot_forms H.form_of moving.old.slots.items }
     requires rising { are_rising moving.old.slots.items ≡ true }
-    requires ready { C.Ready compiler.now }
-    requires fit { list_all (is_compiled (C.passes compiler.now) def.now H.form_of (C.hold compiler.now)) added.now ≡ true }
-    ensures held { OnOk result (held_in moving.new.slots.items ≡ held_in moving.old.slots.items ++ map (C.hold compiler.now) added.now) }
+    requires fit { list_all (is_compiled
+        (C.passes compiler.now) def.now H.form_of (C.hold compiler.now)) added.now ≡ true }
+    ensures held { OnOk result (held_in moving.new.slots.items
+        ≡ held_in moving.old.slots.items ++ map (C.hold compiler.now) added.now) }
     ensures rising { OnOk result (are_rising moving.new.slots.items ≡ true) }
     ensures def { OnOk result (moving.new.index.def ≡ def.now) }
-    ensures forms { OnOk result (moving.new.index.forms ≡ slot_forms H.form_of moving.new.slots.items) }
-    ensures steps { WorkWithin (sum_by (λ x. C.cost) added.now) (sum_by (λ x. pairs def.now (H.form_of (C.hold compiler.now x))) added.now) steps.old steps.new }
+    ensures forms { OnOk result (moving.new.index.forms
+        ≡ slot_forms H.form_of moving.new.slots.items) }
+    ensures steps { WorkWithin (sum_by (λ x. C.cost) added.now) (sum_by (λ x.
+        pairs def.now (H.form_of (C.hold compiler.now x))) added.now) steps.old steps.new }
 {
     for made in added {
         add_slot(alloc, def, compiler, made.item, moving, steps)?;
@@ -373,10 +386,12 @@ impl<H: Fileable> Shelf<H> {
     ) -> Result<Shelf<H>, NoMemory>
         requires same { def.now ≡ self.now.def }
         requires long { length plan.now.places ≡ length self.now.slots }
-        requires ready { C.Ready compiler.now }
-        requires fit { list_all (is_compiled (C.passes compiler.now) def.now H.form_of (C.hold compiler.now)) (made_in plan.now) ≡ true }
+        requires fit { list_all (is_compiled (C.passes compiler.now) def.now H.form_of
+            (C.hold compiler.now)) (made_in plan.now) ≡ true }
         ensures def { IfOk result (λ s. s.def ≡ def.now) }
-        ensures held { IfOk result (λ s. (xs : List X) → held_in self.now.slots ≡ map (C.hold compiler.now) xs → held_in s.slots ≡ map (C.hold compiler.now) (standing plan.now xs)) }
+        ensures held { IfOk result (λ s. (xs : List X)
+            → held_in self.now.slots ≡ map (C.hold compiler.now) xs
+            → held_in s.slots ≡ map (C.hold compiler.now) (standing plan.now xs)) }
         ensures steps { WorkWithin (sum_by (λ x. C.cost) (made_in plan.now))
             (lost (λ s. pairs def.now (H.form_of s.held)) plan.now.places self.now.slots + sum_by (λ x. pairs def.now (H.form_of (C.hold compiler.now x))) (made_in plan.now)) steps.old steps.new }
     {

@@ -231,7 +231,8 @@ pub(crate) fn plan_of<'a, X: Identified + Drop>(
     edits: &[Edit<'a, X>],
 ) -> Result<Plan<'a, X>, NoMemory>
     ensures plan { IfOk result (λ p. p ≡ plan_of X.id_of ids.now edits.now) }
-    ensures stands { IfOk result (λ p. (xs : List X) → map X.id_of xs ≡ ids.now → standing p xs ≡ fold (edited X.id_of) xs edits.now) }
+    ensures stands { IfOk result (λ p. (xs : List X)
+        → map X.id_of xs ≡ ids.now → standing p xs ≡ fold (edited X.id_of) xs edits.now) }
 {
     let mut plan = at_first(alloc, ids)?;
     for edit in edits {

@@ -69,9 +69,14 @@ impl Model for PolicySet {
 
     ghost Value = { Policies };
 
-    ghost view = { λ s. record { frame = s.frame.value; side = s.side; policies = policies_in s.shelf.slots } };
+    ghost view = { λ s. record {
+      frame = s.frame.value;
+      side = s.side;
+      policies = policies_in s.shelf.slots;
+    } };
 
-    ghost invariant = { λ s. ArePolicies s.frame.value s.side s.shelf × (arc_value s.levels ≡ (def_of s.frame.value s.side).levels) };
+    ghost invariant = { λ s. ArePolicies s.frame.value s.side s.shelf
+        × (arc_value s.levels ≡ (def_of s.frame.value s.side).levels) };
 }
 
 /// The levels of the definition, to be shared.
@@ -105,8 +110,10 @@ impl PolicySet {
     ) -> Result<PolicySet, NoMemory>
         requires lawful { def_fault (def_of frame.now side) ≡ None }
         requires rules { list_all (passes frame.now side) policies.now ≡ true }
-        ensures made { IfOk result (λ s. s ≡ record { frame = frame.now; side = side; policies = policies.now }) }
-        ensures steps { WorkWithin (length policies.now) (sum_by (pairs (def_of frame.now side)) (policy_forms policies.now)) steps.old steps.new }
+        ensures made { IfOk result
+            (λ s. s ≡ record { frame = frame.now; side = side; policies = policies.now }) }
+        ensures steps { WorkWithin (length policies.now) (sum_by
+            (pairs (def_of frame.now side)) (policy_forms policies.now)) steps.old steps.new }
     {
         let def = def_of(frame, side);
         let levels = levels_of(alloc, def)?;
@@ -132,12 +139,19 @@ impl PolicySet {
         steps: &mut Steps<L>,
     ) -> Result<PolicySet, NoMemory>
         requires same { frame.now ≡ self.now.frame }
-        requires rules { list_all (passes self.now.frame self.now.side) (fold (side_after self.now.side) self.now.policies changes.now) ≡ true }
-        requires distinct { all_distinct same_id (fold (side_after self.now.side) self.now.policies changes.now) ≡ true }
-        ensures made { IfOk result (λ s. s ≡ record { frame = self.now.frame; side = self.now.side; policies = fold (side_after self.now.side) self.now.policies changes.now }) }
-        ensures steps { WorkWithin (made_on self.now.side changes.now) (pairs_on (def_of self.now.frame self.now.side) self.now.side self.now.policies changes.now) steps.old steps.new }
+        requires rules { list_all (passes self.now.frame self.now.side)
+            (fold (side_after self.now.side) self.now.policies changes.now) ≡ true }
+        requires distinct { all_distinct same_id
+            (fold (side_after self.now.side) self.now.policies changes.now) ≡ true }
+        ensures made { IfOk result (λ s. s ≡ record {
+          frame = self.now.frame;
+          side = self.now.side;
+          policies = fold (side_after self.now.side) self.now.policies changes.now;
+        }) }
+        ensures steps { WorkWithin (made_on self.now.side changes.now)
+            (pairs_on (def_of self.now.frame self.now.side)
+            self.now.side self.now.policies changes.now) steps.old steps.new }
     {
-        self.law_of_definition();
         let levels = Arc::try_clone(&self.levels)?;
         let plan = policy_plan(alloc, self.side, self.shelf.as_slice(), changes)?;
         let compiler = PolicyCompiler {
@@ -155,7 +169,7 @@ impl PolicySet {
     }
 
     /// The law of the definition: it passes its rules. The call does nothing.
-    pub fn law_of_definition(&self)
+    fn law_of_definition(&self)
         ensures { def_fault (def_of self.now.frame self.now.side) ≡ None }
     {
         self.shelf.law_of_definition();
@@ -170,8 +184,10 @@ impl PolicySet {
 
     /// The policies of which one may lie on the resource, each with its evaluator. No memory is taken.
     pub fn visit<'a>(&'a self, resource: &'a Resource) -> Visits<'a>
-        ensures few { length result ≤ bound (def_of self.now.frame self.now.side) (policy_forms self.now.policies) resource.now.elements.items }
-        ensures among { (s : Source) → Contains result s → Contains (map (source self.now.frame self.now.side) self.now.policies) s }
+        ensures few { length result ≤ bound (def_of self.now.frame self.now.side)
+            (policy_forms self.now.policies) resource.now.elements.items }
+        ensures among { (s : Source) → Contains result s
+            → Contains (map (source self.now.frame self.now.side) self.now.policies) s }
         ensures all { (p : Policy) (user : List ℕ) → Contains self.now.policies p
             → some_lies (def_of self.now.frame self.now.side) (maps_of p) Exact resource.now.elements.items user ≡ true → Contains result (source self.now.frame self.now.side p) }
     {
@@ -191,8 +207,10 @@ impl PolicySet {
 
     /// As `visit`, for a resource whose one element has the level `tag` and this value.
     pub fn visit_tag<'a>(&'a self, tag: &'a str) -> Visits<'a>
-        ensures few { length result ≤ bound (def_of self.now.frame self.now.side) (policy_forms self.now.policies) (tag_elements (chars tag.now)) }
-        ensures among { (s : Source) → Contains result s → Contains (map (source self.now.frame self.now.side) self.now.policies) s }
+        ensures few { length result ≤ bound (def_of self.now.frame self.now.side)
+            (policy_forms self.now.policies) (tag_elements (chars tag.now)) }
+        ensures among { (s : Source) → Contains result s
+            → Contains (map (source self.now.frame self.now.side) self.now.policies) s }
         ensures all { (p : Policy) (user : List ℕ) → Contains self.now.policies p
             → some_lies (def_of self.now.frame self.now.side) (maps_of p) Exact (tag_elements (chars tag.now)) user ≡ true → Contains result (source self.now.frame self.now.side p) }
     {

@@ -70,9 +70,11 @@ impl RowSet {
         steps: &mut Steps<L>,
     ) -> Result<RowSet, NoMemory>
         requires lawful { def_fault def.now ≡ None }
-        requires fit { list_all (λ (row : TagRow). tagged_fit def.now row.resources.items) rows.now ≡ true }
+        requires fit { list_all (λ (row : TagRow). tagged_fit def.now row.resources.items) rows.now
+            ≡ true }
         ensures made { IfOk result (λ s. s ≡ record { def = def.now; rows = rows.now }) }
-        ensures steps { WorkWithin 0 (sum_by (pairs def.now) (row_forms rows.now)) steps.old steps.new }
+        ensures steps { WorkWithin 0
+            (sum_by (pairs def.now) (row_forms rows.now)) steps.old steps.new }
     {
         let compiler = RowCompiler { def };
         let slots = compile_slots(alloc, &compiler, rows, steps)?;
@@ -91,23 +93,19 @@ impl RowSet {
         steps: &mut Steps<L>,
     ) -> Result<RowSet, NoMemory>
         requires same { def.now ≡ self.now.def }
-        requires fit { list_all (λ (row : TagRow). tagged_fit self.now.def row.resources.items) (fold rows_after self.now.rows changes.now) ≡ true }
-        requires distinct { all_distinct int_eq (row_ids (fold rows_after self.now.rows changes.now)) ≡ true }
-        ensures made { IfOk result (λ s. s ≡ record { def = self.now.def; rows = fold rows_after self.now.rows changes.now }) }
-        ensures steps { WorkWithin 0 (row_pairs self.now.def self.now.rows changes.now) steps.old steps.new }
+        requires fit { list_all (λ (row : TagRow). tagged_fit self.now.def row.resources.items)
+            (fold rows_after self.now.rows changes.now) ≡ true }
+        requires distinct { all_distinct int_eq
+            (row_ids (fold rows_after self.now.rows changes.now)) ≡ true }
+        ensures made { IfOk result (λ s. s
+            ≡ record { def = self.now.def; rows = fold rows_after self.now.rows changes.now }) }
+        ensures steps { WorkWithin 0
+            (row_pairs self.now.def self.now.rows changes.now) steps.old steps.new }
     {
-        self.law_of_definition();
         let plan = row_plan(alloc, self.shelf.as_slice(), changes)?;
         let compiler = RowCompiler { def };
         let shelf = self.shelf.moved(alloc, def, &compiler, &plan, steps)?;
         Ok(RowSet { shelf })
-    }
-
-    /// The law of the definition: it passes its rules. The call does nothing.
-    pub fn law_of_definition(&self)
-        ensures { def_fault self.now.def ≡ None }
-    {
-        self.shelf.law_of_definition();
     }
 
     /// Whether there is no row.
@@ -119,9 +117,12 @@ impl RowSet {
 
     /// The rows of which one may lie on the resource, each at most once, with its matcher. No memory is taken.
     pub fn visit<'a>(&'a self, resource: &'a Resource) -> RowVisits<'a>
-        ensures few { length result ≤ bound self.now.def (row_forms self.now.rows) resource.now.elements.items }
-        ensures among { (s : RowSource) → Contains result s → Contains (map (row_source self.now.def) self.now.rows) s }
-        ensures once { (weigh : TagRow → ℕ) → sum_by (λ (s : RowSource). weigh s.row) result ≤ sum_by weigh self.now.rows }
+        ensures few { length result ≤ bound self.now.def
+            (row_forms self.now.rows) resource.now.elements.items }
+        ensures among { (s : RowSource) → Contains result s
+            → Contains (map (row_source self.now.def) self.now.rows) s }
+        ensures once { (weigh : TagRow → ℕ)
+            → sum_by (λ (s : RowSource). weigh s.row) result ≤ sum_by weigh self.now.rows }
         ensures all { (row : TagRow) (user : List ℕ) → Contains self.now.rows row
             → lies self.now.def row.resources.items Down resource.now.elements.items user ≡ true → Contains result (row_source self.now.def row) }
     {

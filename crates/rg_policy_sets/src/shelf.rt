@@ -32,7 +32,8 @@ impl<H: Fileable> Model for Shelf<H> {
 
     ghost view = { λ s. record { def = s.index.def; slots = s.slots.items } };
 
-    ghost invariant = { λ s. (s.index.forms ≡ slot_forms H.form_of s.slots.items) × (are_rising s.slots.items ≡ true) };
+    ghost invariant = { λ s. (s.index.forms ≡ slot_forms H.form_of s.slots.items)
+        × (are_rising s.slots.items ≡ true) };
 }
 
 impl<H: Fileable> Shelf<H> {
@@ -47,7 +48,8 @@ impl<H: Fileable> Shelf<H> {
         requires rising { are_rising slots.items ≡ true }
         requires fit { forms_fit def.now (slot_forms H.form_of slots.items) ≡ true }
         ensures made { IfOk result (λ s. s ≡ record { def = def.now; slots = slots.items }) }
-        ensures steps { EditsWithin (sum_by (pairs def.now) (slot_forms H.form_of slots.items)) steps.old steps.new }
+        ensures steps { EditsWithin
+            (sum_by (pairs def.now) (slot_forms H.form_of slots.items)) steps.old steps.new }
     {
         let forms = forms_of(alloc, &slots)?;
         let index = Index::build(alloc, def, &forms, steps)?;

@@ -61,7 +61,8 @@ pub(crate) fn policy_plan<'a>(
     slots: &[Slot<HeldPolicy>],
     changes: &'a [PolicyChange],
 ) -> Result<Plan<'a, Shared<Policy>>, NoMemory>
-    ensures { IfOk result (λ p. p ≡ plan_of policy_id (map policy_id (policies_in slots.now)) (edits_of side changes.now)) }
+    ensures { IfOk result (λ p. p ≡ plan_of policy_id
+        (map policy_id (policies_in slots.now)) (edits_of side changes.now)) }
 {
     let edits = edits_of(alloc, side, changes)?;
     let ids = policy_ids(alloc, slots)?;
@@ -74,7 +75,8 @@ pub(crate) fn row_plan<'a>(
     slots: &[Slot<HeldRow>],
     changes: &'a [TagChange],
 ) -> Result<Plan<'a, TagRow>, NoMemory>
-    ensures { IfOk result (λ p. p ≡ plan_of row_id (map row_id (rows_in slots.now)) (map row_edit changes.now)) }
+    ensures { IfOk result
+        (λ p. p ≡ plan_of row_id (map row_id (rows_in slots.now)) (map row_edit changes.now)) }
 {
     let edits = row_edits(alloc, changes)?;
     let ids = row_ids(alloc, slots)?;

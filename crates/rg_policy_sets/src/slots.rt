@@ -68,7 +68,8 @@ fn is_below<H>(slot: &Slot<H>, ordinal: i64) -> bool
 /// The place of the first slot of which the ordinal isn't below this one: the slot of this ordinal, if there is one.
 fn place_of<H>(slots: &[Slot<H>], ordinal: i64) -> usize
     requires { are_rising slots.now ≡ true }
-    ensures { held_at slots.now ordinal ≡ held_at (option_to_list (slice_get slots.now result)) ordinal }
+    ensures { held_at slots.now ordinal
+        ≡ held_at (option_to_list (slice_get slots.now result)) ordinal }
 {
     slots.partition_point(|slot| is_below(slot, ordinal))
 }
@@ -76,7 +77,8 @@ fn place_of<H>(slots: &[Slot<H>], ordinal: i64) -> usize
 /// What the slot holds whose place is the ordinal, if it has that ordinal: so it is where no slot before it was taken away.
 fn held_first<'a, H>(slots: &'a [Slot<H>], ordinal: i64) -> Option<&'a H>
     requires { are_rising slots.now ≡ true }
-    ensures { IfSome (option_map (λ h. h.now) result) (λ held. held_at slots.now ordinal ≡ Some held) }
+    ensures { IfSome (option_map (λ h. h.now) result)
+        (λ held. held_at slots.now ordinal ≡ Some held) }
 {
     let Ok(place) = usize::try_from(ordinal) else {
         return None;
@@ -128,7 +130,8 @@ pub(crate) fn next_held<'a, H>(
     requires rising { are_rising slots.now ≡ true }
     requires held { list_all (is_held slots.now) candidates.old ≡ true }
     ensures held { list_all (is_held slots.now) candidates.new ≡ true }
-    ensures next { MatchOption (option_map (λ h. h.now) result) ((all_held slots.now candidates.old ≡ []) × (all_held slots.now candidates.new ≡ []))
+    ensures next { MatchOption (option_map (λ h. h.now) result)
+        ((all_held slots.now candidates.old ≡ []) × (all_held slots.now candidates.new ≡ []))
         (λ x. all_held slots.now candidates.old ≡ x ∷ all_held slots.now candidates.new) }
 {
     match candidates.next() {

@@ -66,7 +66,8 @@ impl<'a> Model for Visits<'a> {
 
     ghost view = { λ v. admitted v.first v.second (all_held v.slots.now v.candidates) };
 
-    ghost invariant = { λ v. (are_rising v.slots.now ≡ true) × (list_all (is_held v.slots.now) v.candidates ≡ true) };
+    ghost invariant = { λ v. (are_rising v.slots.now ≡ true)
+        × (list_all (is_held v.slots.now) v.candidates ≡ true) };
 }
 
 /// The next policy that may lie on the resource, and what is left after it.

@@ -4,8 +4,8 @@ use Rattle.rg_policy_sets.proofs.Counting.{one_more, one_of}
 use Rattle.rg_policy_sets.proofs.Rising.{placed_more}
 use Rattle.rg_policy_sets.proofs.filling.compile_slots.Goals as goal
 
-pub compile_slot-requires-clause-passes : goal.compile_slot-requires-clause-passes
-compile_slot-requires-clause-passes g c =
+pub compile_slot-requires : goal.compile_slot-requires
+compile_slot-requires g c =
     let items = c.args.items.now in
     let i = c.loop-place.place in
     let item = c.index-items-place.result in

@@ -10,8 +10,8 @@ use Rattle.rg_policy_sets.proofs.Counting.{with_edits}
 use Rattle.rg_policy_sets.proofs.Reshelved.{as_many, compiled_alone, none_named, one_fits, one_passes}
 use Rattle.rg_policy_sets.proofs.moving.add_at.Goals as goal
 
-pub compiled_slot-requires-clause-passes : goal.compiled_slot-requires-clause-passes
-compiled_slot-requires-clause-passes g c =
+pub compiled_slot-requires : goal.compiled_slot-requires
+compiled_slot-requires g c =
     one_passes (g.C.Compile.passes c.args.compiler.now) c.args.def.now g.H.Fileable.form_of (g.C.Compile.hold c.args.compiler.now) c.args.item.now c.requires.fits
 
 pub returns-in_err-slot-clause-steps : goal.returns-in_err-slot-clause-steps

@@ -31,11 +31,6 @@ moved-requires-clause-long g c =
     policies_long c.args.frame.now c.self.inside.side c.self.inside.shelf (subst (λ (f : Frame). ArePolicies f c.self.inside.side c.self.inside.shelf) frame c.self.invariant.0) c.args.changes.now c.def_of-def.result.now c.def_of-def.ensures c.in_ok-plan.plan
     (c.in_ok-plan.ensures ∙ ap (λ l. plan_of policy_id (map policy_id (policies_in l)) (edits_of c.self.inside.side c.args.changes.now)) c.as_slice.ensures.slots)
 
-pub moved-requires-clause-ready : goal.moved-requires-clause-ready
-moved-requires-clause-ready g c =
-    let frame = ap (λ (s : Policies). s.frame) c.self.view_is ∙ sym c.requires.same in
-    (λ i. def_fault (def_of (sym frame i) c.self.inside.side)) ∙ ap (λ (s : Policies). def_fault (def_of s.frame s.side)) c.self.view_is ∙ c.law_of_definition.ensures
-
 pub moved-requires-clause-fit : goal.moved-requires-clause-fit
 moved-requires-clause-fit g c =
     let frame = ap (λ (s : Policies). s.frame) c.self.view_is ∙ sym c.requires.same in

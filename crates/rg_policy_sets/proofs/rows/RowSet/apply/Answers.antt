@@ -29,9 +29,6 @@ moved-requires-clause-long g c =
     rows_long c.self.inside.shelf c.self.invariant c.args.changes.now c.args.def.now (c.requires.same ∙ sym (ap (λ (s : Rows). s.def) c.self.view_is)) c.in_ok-plan.plan
     (c.in_ok-plan.ensures ∙ ap (λ l. plan_of row_id (map row_id (rows_in l)) (map row_edit c.args.changes.now)) c.as_slice.ensures.slots)
 
-pub moved-requires-clause-ready : goal.moved-requires-clause-ready
-moved-requires-clause-ready g c = ap def_fault c.requires.same ∙ c.law_of_definition.ensures
-
 pub moved-requires-clause-fit : goal.moved-requires-clause-fit
 moved-requires-clause-fit g c =
     let def = c.requires.same ∙ sym (ap (λ (s : Rows). s.def) c.self.view_is) in
