@@ -47,7 +47,8 @@ impl Asker {
 
     /// For a role, its member, who has no groups.
     pub(crate) fn of_role(alloc: Global, name: &Text, member: Text) -> Result<Asker, NoMemory>
-        ensures { IfOk result (λ asker. asker ≡ record { kind = Role; name = name.now; user = member; groups = listed [] }) }
+        ensures { IfOk result (λ asker. asker
+            ≡ record { kind = Role; name = name.now; user = member; groups = listed [] }) }
     {
         let name = match name.try_copy(alloc) {
             Ok(name) => name,

@@ -67,9 +67,11 @@ fn add_rows_for<L: Ledger>(
     rows: &mut Vec<ReportRow>,
     steps: &mut Steps<L>,
 ) -> Result<(), NoMemory>
-    ensures rows { OnOk result (rows.new.items ≡ rows.old.items ++ rows_for engine.now ask.now accesses.now asker.now) }
+    ensures rows { OnOk result (rows.new.items
+        ≡ rows.old.items ++ rows_for engine.now ask.now accesses.now asker.now) }
     ensures made { NothingMade steps.old steps.new }
-    ensures tries { OnOk result (IsTriedFor (bound_for engine.now ask.now) (length rows.old.items) (length rows.new.items) steps.old steps.new) }
+    ensures tries { OnOk result (IsTriedFor (bound_for engine.now ask.now)
+        (length rows.old.items) (length rows.new.items) steps.old steps.new) }
 {
     for access in accesses {
         let row = row_of(alloc, engine, ask, asker, access, steps)?;
@@ -88,9 +90,11 @@ pub(crate) fn add_rows<L: Ledger>(
     rows: &mut Vec<ReportRow>,
     steps: &mut Steps<L>,
 ) -> Result<(), NoMemory>
-    ensures rows { OnOk result (rows.new.items ≡ rows.old.items ++ rows_of engine.now ask.now accesses.now askers.now) }
+    ensures rows { OnOk result (rows.new.items
+        ≡ rows.old.items ++ rows_of engine.now ask.now accesses.now askers.now) }
     ensures made { NothingMade steps.old steps.new }
-    ensures tries { OnOk result (IsTriedFor (bound_for engine.now ask.now) (length rows.old.items) (length rows.new.items) steps.old steps.new) }
+    ensures tries { OnOk result (IsTriedFor (bound_for engine.now ask.now)
+        (length rows.old.items) (length rows.new.items) steps.old steps.new) }
 {
     for asker in askers {
         add_rows_for(alloc, engine, ask, accesses, asker, rows, steps)?;

@@ -19,7 +19,8 @@ ghost use Rattle.rg_acl.specs.declared.row.ReportRow.{ReportRow};
 /// Each row says what is decided: for a user the decision of that user without groups, for a group that of a stranger who is
 /// in that one group, for a role that of a stranger who is its member, and for all others that of the stranger.
 pub fn rows_are_decisions()
-    ensures { (facts : Facts) (ask : ReportAsk) (row : ReportRow) → Contains (report_rows facts ask) row → IsDecided facts ask row }
+    ensures { (facts : Facts) (ask : ReportAsk) (row : ReportRow)
+        → Contains (report_rows facts ask) row → IsDecided facts ask row }
 {}
 
 /// The rows are complete: each named user, each named group and each role has a row for each access, whatever is decided, and
@@ -31,20 +32,25 @@ pub fn rows_are_complete()
 /// Where no value has `{USER}`, any two users who aren't named, don't own the resource and aren't `{USER}` or `{OWNER}` get the
 /// same verdicts, if they are in the same groups.
 pub fn others_are_decided_alike()
-    ensures { (facts : Facts) (q : AccessRequest) (user other : List ℕ) → values_are_plain facts ≡ true → is_unnamed facts q.resource.owner user ≡ true
+    ensures { (facts : Facts) (q : AccessRequest) (user other : List ℕ)
+        → values_are_plain facts ≡ true → is_unnamed facts q.resource.owner user ≡ true
         → is_unnamed facts q.resource.owner other ≡ true → eval facts (record q { user = user }) ≡ eval facts (record q { user = other }) }
 {}
 
 /// The stranger isn't named: its name begins the name of no named user, and not the owner's; of fewer `#` this isn't so.
 pub fn strangers_are_unnamed()
-    ensures unnamed { (facts : Facts) (owner : List ℕ) → is_unnamed facts owner (stranger facts owner) ≡ true }
-    ensures begins { (facts : Facts) (owner text : List ℕ) → Contains (owner ∷ named Users facts) text → Begins (stranger facts owner) text → ⊥ }
-    ensures least { (facts : Facts) (owner : List ℕ) (n : ℕ) → 0 < n → n < length (stranger facts owner)
+    ensures unnamed { (facts : Facts) (owner : List ℕ)
+        → is_unnamed facts owner (stranger facts owner) ≡ true }
+    ensures begins { (facts : Facts) (owner text : List ℕ)
+        → Contains (owner ∷ named Users facts) text → Begins (stranger facts owner) text → ⊥ }
+    ensures least { (facts : Facts) (owner : List ℕ) (n : ℕ)
+        → 0 < n → n < length (stranger facts owner)
         → (text : List ℕ) × Contains (owner ∷ named Users facts) text × Begins (replicate n 35) text }
 {}
 
 /// Names in order rise by their bytes, so that none stands twice, and they are those that were put in order.
 pub fn names_stand_once()
     ensures rise { (all : List (List ℕ)) → IsRising Below (bytes_in_order all) }
-    ensures same { (all : List (List ℕ)) (bytes : List ℕ) → Contains (bytes_in_order all) bytes ↔ Contains all bytes }
+    ensures same { (all : List (List ℕ)) (bytes : List ℕ)
+        → Contains (bytes_in_order all) bytes ↔ Contains all bytes }
 {}

@@ -52,7 +52,12 @@ fn members_of(alloc: Global, stranger: &Text, rows: &[RoleRow]) -> Result<Seq<Ro
 
 /// A delta of the engine that changes nothing.
 fn no_policies(alloc: Global, engine: &Engine) -> PolicyDelta
-    ensures { result ≡ record { from = engine.now.policy_version; to = engine.now.policy_version; changes = listed []; zones = None } }
+    ensures { result ≡ record {
+      from = engine.now.policy_version;
+      to = engine.now.policy_version;
+      changes = listed [];
+      zones = None;
+    } }
 {
     PolicyDelta {
         from: engine.policy_version(),
@@ -63,7 +68,11 @@ fn no_policies(alloc: Global, engine: &Engine) -> PolicyDelta
 }
 
 fn no_tags(alloc: Global, engine: &Engine) -> TagDelta
-    ensures { result ≡ record { from = engine.now.tag_version; to = engine.now.tag_version; changes = listed [] } }
+    ensures { result ≡ record {
+      from = engine.now.tag_version;
+      to = engine.now.tag_version;
+      changes = listed [];
+    } }
 {
     TagDelta {
         from: engine.tag_version(),
@@ -74,7 +83,11 @@ fn no_tags(alloc: Global, engine: &Engine) -> TagDelta
 
 /// A delta of the engine that changes the roles alone, and their version not.
 fn these_roles(engine: &Engine, rows: Seq<RoleRow>) -> RoleDelta
-    ensures { result ≡ record { from = engine.now.role_version; to = engine.now.role_version; roles = Some rows } }
+    ensures { result ≡ record {
+      from = engine.now.role_version;
+      to = engine.now.role_version;
+      roles = Some rows;
+    } }
 {
     RoleDelta {
         from: engine.role_version(),
@@ -94,7 +107,8 @@ pub(crate) fn with_members<L: Ledger>(
 ) -> Result<Engine, NoMemory>
     requires sound { sound engine.now ≡ true }
     requires rows { rows.now ≡ engine.now.roles.items }
-    ensures answers { IfOk result (λ e. (q : AccessRequest) → eval e q ≡ eval (with_members stranger.now engine.now) q) }
+    ensures answers { IfOk result (λ e. (q : AccessRequest)
+        → eval e q ≡ eval (with_members stranger.now engine.now) q) }
     ensures bound { IfOk result (λ e. (q : AccessRequest) → bound_on e q ≡ bound_on engine.now q) }
     ensures made { NothingMade steps.old steps.new }
     ensures tries { steps.new.tries ≡ steps.old.tries }

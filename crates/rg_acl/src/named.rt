@@ -79,7 +79,8 @@ fn add_of_lists(
     lists: &[&[Item]],
     found: &mut Vec<Text>,
 ) -> Result<(), NoMemory>
-    ensures { OnOk result (found.new.items ≡ found.old.items ++ flat_map (λ list. named_by_items listing list.now) lists.now) }
+    ensures { OnOk result (found.new.items
+        ≡ found.old.items ++ flat_map (λ list. named_by_items listing list.now) lists.now) }
 {
     for list in lists {
         add_of_items(alloc, listing, list, found)?;
@@ -93,7 +94,8 @@ fn add_of_policy(
     policy: &Policy,
     found: &mut Vec<Text>,
 ) -> Result<(), NoMemory>
-    ensures { OnOk result (found.new.items ≡ found.old.items ++ named_by_policy listing policy.now) }
+    ensures { OnOk result (found.new.items
+        ≡ found.old.items ++ named_by_policy listing policy.now) }
 {
     let lists = item_lists(policy);
     add_of_lists(alloc, listing, &lists, found)
@@ -105,7 +107,8 @@ fn add_of_policies(
     policies: &[Shared<Policy>],
     found: &mut Vec<Text>,
 ) -> Result<(), NoMemory>
-    ensures { OnOk result (found.new.items ≡ found.old.items ++ named_by_policies listing policies.now) }
+    ensures { OnOk result (found.new.items
+        ≡ found.old.items ++ named_by_policies listing policies.now) }
 {
     for policy in policies {
         add_of_policy(alloc, listing, policy, found)?;

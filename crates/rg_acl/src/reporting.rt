@@ -81,7 +81,8 @@ fn add_groups(
     groups: &[Text],
     askers: &mut Vec<Asker>,
 ) -> Result<(), NoMemory>
-    ensures { OnOk result (askers.new.items ≡ askers.old.items ++ map (group_asker stranger.now) groups.now) }
+    ensures { OnOk result (askers.new.items
+        ≡ askers.old.items ++ map (group_asker stranger.now) groups.now) }
 {
     for group in groups {
         let asker = Asker::of_group(alloc, stranger, group)?;
@@ -126,7 +127,8 @@ fn role_asker(
     rows: &NameIndex,
     name: &Text,
 ) -> Result<Asker, NoMemory>
-    ensures { (all : List RoleRow) → rows.now ≡ names_of all → IfOk result (λ asker. asker ≡ role_asker stranger.now all name.now) }
+    ensures { (all : List RoleRow) → rows.now ≡ names_of all
+        → IfOk result (λ asker. asker ≡ role_asker stranger.now all name.now) }
 {
     let place = rows.place_of(name.as_str()).unwrap_or(0);
     let member = member(alloc, stranger, place as u64)?;
@@ -165,7 +167,8 @@ fn add_role_rows<L: Ledger>(
     ensures rows { OnOk result (rows.new.items
         ≡ rows.old.items ++ rows_of (with_members stranger.now engine.now) ask.now accesses.now (role_askers roles.now stranger.now)) }
     ensures made { NothingMade steps.old steps.new }
-    ensures tries { OnOk result (IsTriedFor (bound_for engine.now ask.now) (length rows.old.items) (length rows.new.items) steps.old steps.new) }
+    ensures tries { OnOk result (IsTriedFor (bound_for engine.now ask.now)
+        (length rows.old.items) (length rows.new.items) steps.old steps.new) }
 {
     let askers = role_askers(alloc, roles, stranger)?;
     let members = with_members(alloc, engine, stranger, roles, steps)?;
@@ -190,9 +193,11 @@ fn add_other_rows<L: Ledger>(
     rows: &mut Vec<ReportRow>,
     steps: &mut Steps<L>,
 ) -> Result<(), NoMemory>
-    ensures rows { OnOk result (rows.new.items ≡ rows.old.items ++ rows_of engine.now ask.now accesses.now (other_asker stranger.now ∷ [])) }
+    ensures rows { OnOk result (rows.new.items ≡ rows.old.items
+        ++ rows_of engine.now ask.now accesses.now (other_asker stranger.now ∷ [])) }
     ensures made { NothingMade steps.old steps.new }
-    ensures tries { OnOk result (IsTriedFor (bound_for engine.now ask.now) (length rows.old.items) (length rows.new.items) steps.old steps.new) }
+    ensures tries { OnOk result (IsTriedFor (bound_for engine.now ask.now)
+        (length rows.old.items) (length rows.new.items) steps.old steps.new) }
 {
     let asker = Asker::of_others(alloc, stranger)?;
     add_rows(alloc, engine, ask, accesses, &[asker], rows, steps)
@@ -211,9 +216,11 @@ fn rows_of<L: Ledger>(
 ) -> Result<Vec<ReportRow>, NoMemory>
     requires sound { sound engine.now ≡ true }
     requires roles { roles.now ≡ engine.now.roles.items }
-    ensures rows { IfOk result (λ rows. rows.items ≡ rows_by engine.now ask.now accesses.now stranger.now askers.now roles.now) }
+    ensures rows { IfOk result (λ rows. rows.items
+        ≡ rows_by engine.now ask.now accesses.now stranger.now askers.now roles.now) }
     ensures made { NothingMade steps.old steps.new }
-    ensures tries { IfOk result (λ rows. steps.new.tries ≤ steps.old.tries + length rows.items * bound_for engine.now ask.now) }
+    ensures tries { IfOk result (λ rows.
+        steps.new.tries ≤ steps.old.tries + length rows.items * bound_for engine.now ask.now) }
 {
     let mut rows = Vec::new(alloc);
     add_rows(alloc, engine, ask, accesses, askers, &mut rows, steps)?;
@@ -236,7 +243,8 @@ fn rows_over<L: Ledger>(
     requires same { facts.now ≡ engine.now }
     ensures rows { IfOk result (λ rows. rows.items ≡ report_rows engine.now ask.now) }
     ensures made { NothingMade steps.old steps.new }
-    ensures tries { IfOk result (λ rows. steps.new.tries ≤ steps.old.tries + length rows.items * bound_for engine.now ask.now) }
+    ensures tries { IfOk result (λ rows.
+        steps.new.tries ≤ steps.old.tries + length rows.items * bound_for engine.now ask.now) }
 {
     let types = facts.def.access_types.as_slice();
     let accesses = accesses_of(alloc, ask.accesses.as_slice(), types)?;
@@ -263,10 +271,12 @@ pub fn report<L: Ledger>(
 ) -> Result<Seq<ReportRow>, NoMemory>
     requires sound { sound engine.now ≡ true }
     ensures rows { IfOk result (λ rows. rows ≡ listed (report_rows engine.now ask.now)) }
-    ensures others { IfOk result (λ rows. (user : List ℕ) → values_are_plain engine.now ≡ true → is_unnamed engine.now ask.now.resource.owner user ≡ true
+    ensures others { IfOk result (λ rows. (user : List ℕ) → values_are_plain engine.now ≡ true
+        → is_unnamed engine.now ask.now.resource.owner user ≡ true
         → AreForOthers engine.now ask.now user rows.items) }
     ensures made { NothingMade steps.old steps.new }
-    ensures tries { IfOk result (λ rows. steps.new.tries ≤ steps.old.tries + length rows.items * bound_for engine.now ask.now) }
+    ensures tries { IfOk result (λ rows.
+        steps.new.tries ≤ steps.old.tries + length rows.items * bound_for engine.now ask.now) }
 {
     let facts = engine.facts(alloc)?;
     let rows = rows_over(alloc, engine, &facts, ask, steps)?;

@@ -30,7 +30,8 @@ pub(crate) struct Checker {
 /// Adds the line that names a bad line and its cause.
 #[tactic(auto, unfolding(crate::specs::Checking::finding_line))]
 fn add_finding(text: &mut String, number: u64, why: &str) -> Result<(), NoMemory>
-    ensures { OnOk result (string_bytes text.new ≡ string_bytes text.old ++ finding_line number why.now) }
+    ensures { OnOk result (string_bytes text.new
+        ≡ string_bytes text.old ++ finding_line number why.now) }
 {
     match writeln!(text, "line {number}: {why}") {
         Ok(()) => Ok(()),
@@ -72,7 +73,8 @@ impl Checker {
         cause: &Cause,
         text: &mut String,
     ) -> Result<(), NoMemory>
-        ensures { OnOk result (string_bytes text.new ≡ string_bytes text.old ++ finding_line self.number (cause_text self.command self.place kind cause.now)) }
+        ensures { OnOk result (string_bytes text.new ≡ string_bytes text.old
+            ++ finding_line self.number (cause_text self.command self.place kind cause.now)) }
     {
         let why = cause_words(alloc, self.command, self.place, kind, cause)?;
         add_finding(text, self.number, why.as_str())
@@ -86,7 +88,8 @@ impl Checker {
         now: Moment,
         text: &mut String,
     ) -> Result<Checker, NoMemory>
-        ensures { IfOk result (λ next. IsWorked (check_step self line.now now) next (string_bytes text.old) (string_bytes text.new)) }
+        ensures { IfOk result (λ next. IsWorked (check_step self line.now now) next
+            (string_bytes text.old) (string_bytes text.new)) }
     {
         let number = self.number.saturating_add(1);
         let Seen { kind, cause } = look(alloc, self.command, self.place, line, now)?;
@@ -111,7 +114,8 @@ impl Checker {
 
     /// Names the end of the lines, where it is bad. The answer is the status of the check: a script with a bad line isn't done.
     pub(crate) fn finish(self, text: &mut String) -> Result<Status, NoMemory>
-        ensures text { OnOk result (string_bytes text.new ≡ string_bytes text.old ++ end_told self) }
+        ensures text { OnOk result (string_bytes text.new
+            ≡ string_bytes text.old ++ end_told self) }
         ensures status { IfOk result (λ status. status ≡ status_after self.found (ending self)) }
     {
         if is_bad_end(self.command, self.place) {

@@ -21,15 +21,20 @@ use rg_zones::zones_apart_by_pairs;
 /// whatever the enrichers, and for `keep` whatever the records that it found, unless one of them is bad. It asks no moment for the
 /// lines after that one.
 pub fn scripts_end_at_first()
-    ensures replay { (es : List EnricherState) (lines : List (List ℕ)) (moments later : List Moment) (output : Output (Hooked replay.State))
+    ensures replay { (es : List EnricherState) (lines : List (List ℕ))
+        (moments later : List Moment) (output : Output (Hooked replay.State))
         → replay.replayed_with es lines moments ≡ Some output → EndsAtFirst output (found_by command.Replay lines (moments ++ later)) }
-    ensures grants { (es : List EnricherState) (lines : List (List ℕ)) (moments later : List Moment) (output : Output (Hooked grants.State))
+    ensures grants { (es : List EnricherState) (lines : List (List ℕ))
+        (moments later : List Moment) (output : Output (Hooked grants.State))
         → grants.grants es lines moments ≡ Some output → EndsAtFirst output (found_by command.Grants lines (moments ++ later)) }
-    ensures report { (lines : List (List ℕ)) (moments later : List Moment) (output : Output report.State) → report.reported lines moments ≡ Some output
+    ensures report { (lines : List (List ℕ)) (moments later : List Moment)
+        (output : Output report.State) → report.reported lines moments ≡ Some output
         → EndsAtFirst output (found_by command.Report lines (moments ++ later)) }
-    ensures keep { (es : List EnricherState) (records lines : List (List ℕ)) (moments later : List Moment) (output : Output (Hooked keep.State))
+    ensures keep { (es : List EnricherState) (records lines : List (List ℕ))
+        (moments later : List Moment) (output : Output (Hooked keep.State))
         → keep.keeps es records lines moments ≡ Some output → output.state.state.bad ≡ None → EndsAtFirst output (found_by command.Keep lines (moments ++ later)) }
-    ensures serve { (lines : List (List ℕ)) (moments later : List Moment) (output : Output serve.Asking) → serve.taken lines moments ≡ Some output
+    ensures serve { (lines : List (List ℕ)) (moments later : List Moment)
+        (output : Output serve.Asking) → serve.taken lines moments ≡ Some output
         → EndsAtFirst output (found_by command.Serve lines (moments ++ later)) }
 {
     plugin_is_always_viewed();

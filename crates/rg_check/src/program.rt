@@ -24,7 +24,8 @@ fn check_lines<C: Clock>(
     clock: &mut C,
 ) -> Result<Worked, NoMemory>
     requires { length bytes.now < 2 ^ 32 }
-    ensures done { IfOk result (λ w. (found : List Finding) × (decided : List Decided) × Comes _ (checked command) bytes.now (C.given clock.old) (C.given clock.new) []
+    ensures done { IfOk result (λ w. (found : List Finding) × (decided : List Decided)
+        × Comes _ (checked command) bytes.now (C.given clock.old) (C.given clock.new) []
         (record { text = string_bytes w.text; status = w.status; state = found; decided = decided })) }
     ensures ends { IfOk result (λ w. (w.status ≡ Status.Done) ⊎ (w.status ≡ Status.BadLine)) }
     ensures cut_off { OnErr result ((later : List Moment) × (output : Output (List Finding))

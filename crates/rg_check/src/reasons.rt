@@ -61,7 +61,8 @@ fn plain_seen(
     now: Moment,
 ) -> Result<Seen, NoMemory>
     ensures kind { IfOk result (λ seen. seen.kind ≡ plain_kind (line_read line.now now)) }
-    ensures cause { IfOk result (λ seen. seen.cause ≡ plain_cause command place (line_read line.now now)) }
+    ensures cause { IfOk result
+        (λ seen. seen.cause ≡ plain_cause command place (line_read line.now now)) }
 {
     let kind = LineKind::of(alloc, line, now)?;
     if !may_stand(command, kind) {

@@ -9,20 +9,23 @@ use serde_json::Value;
 use std::alloc::Global;
 
 fn past_quote(text: &str) -> Option<&str>
-    ensures { MatchOption result ((rest : List ℕ) → text.now ≢ 34 ∷ rest) (λ rest. text.now ≡ 34 ∷ rest.now) }
+    ensures { MatchOption result ((rest : List ℕ) → text.now ≢ 34 ∷ rest)
+        (λ rest. text.now ≡ 34 ∷ rest.now) }
 {
     text.strip_prefix('"')
 }
 
 fn before_quote(text: &str) -> Option<&str>
-    ensures { MatchOption result ((front : List ℕ) → text.now ≢ front ++ 34 ∷ []) (λ front. text.now ≡ front.now ++ 34 ∷ []) }
+    ensures { MatchOption result ((front : List ℕ) → text.now ≢ front ++ 34 ∷ [])
+        (λ front. text.now ≡ front.now ++ 34 ∷ []) }
 {
     text.strip_suffix('"')
 }
 
 /// What stands between the quotes of a JSON string.
 fn unquoted(string: &str) -> Option<&str>
-    ensures { (text : List ℕ) → string.now ≡ quoted text → option_map (λ inner. inner.now) result ≡ Some (escape text) }
+    ensures { (text : List ℕ) → string.now ≡ quoted text
+        → option_map (λ inner. inner.now) result ≡ Some (escape text) }
 {
     before_quote(past_quote(string)?)
 }

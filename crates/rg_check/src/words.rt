@@ -108,7 +108,8 @@ fn standing(place: Place, command: Command, kind: LineKind) -> &'static str
 
 /// A line of this kind in a script of a command that has no such lines.
 fn foreign_words(alloc: Global, command: Command, kind: LineKind) -> Result<String, NoMemory>
-    ensures { IfOk result (λ s. string_bytes s ≡ kind_word kind ++ (codes " in a script of " ++ command_word command)) }
+    ensures { IfOk result (λ s. string_bytes s
+        ≡ kind_word kind ++ (codes " in a script of " ++ command_word command)) }
 {
     let word = kind.word();
     let script = command.word();
@@ -229,7 +230,8 @@ fn role_words(alloc: Global, fault: RoleFault) -> Result<String, NoMemory>
 }
 
 fn policy_words(alloc: Global, id: PolicyId, rule: u8) -> Result<String, NoMemory>
-    ensures { IfOk result (λ s. string_bytes s ≡ broken_text (codes "policy " ++ signed_decimal id.0) (policy_rule rule)) }
+    ensures { IfOk result (λ s. string_bytes s
+        ≡ broken_text (codes "policy " ++ signed_decimal id.0) (policy_rule rule)) }
 {
     let id = id.0;
     let who = format!(in alloc; "policy {id}")?;
@@ -237,14 +239,16 @@ fn policy_words(alloc: Global, id: PolicyId, rule: u8) -> Result<String, NoMemor
 }
 
 fn zone_words(alloc: Global, place: usize, rule: u8) -> Result<String, NoMemory>
-    ensures { IfOk result (λ s. string_bytes s ≡ broken_text (at_place (codes "/zones") place) (zone_rule rule)) }
+    ensures { IfOk result
+        (λ s. string_bytes s ≡ broken_text (at_place (codes "/zones") place) (zone_rule rule)) }
 {
     let who = at_place(alloc, "/zones", place as u64)?;
     broken(alloc, who.as_str(), zone_rule(rule))
 }
 
 fn overlap_words(alloc: Global, one: u32, other: u32) -> Result<String, NoMemory>
-    ensures { IfOk result (λ s. string_bytes s ≡ broken_text (at_place (codes "/zones") one ++ (codes " with " ++ at_place (codes "/zones") other)) rule.Z6) }
+    ensures { IfOk result (λ s. string_bytes s ≡ broken_text (at_place (codes "/zones") one
+        ++ (codes " with " ++ at_place (codes "/zones") other)) rule.Z6) }
 {
     let one = at_place(alloc, "/zones", one as u64)?;
     let other = at_place(alloc, "/zones", other as u64)?;
@@ -255,14 +259,16 @@ fn overlap_words(alloc: Global, one: u32, other: u32) -> Result<String, NoMemory
 }
 
 fn tag_row_words(alloc: Global, id: i64, rule: u8) -> Result<String, NoMemory>
-    ensures { IfOk result (λ s. string_bytes s ≡ broken_text (codes "tag row " ++ signed_decimal id) (tag_row_rule rule)) }
+    ensures { IfOk result (λ s. string_bytes s
+        ≡ broken_text (codes "tag row " ++ signed_decimal id) (tag_row_rule rule)) }
 {
     let who = format!(in alloc; "tag row {id}")?;
     broken(alloc, who.as_str(), tag_row_rule(rule))
 }
 
 fn time_zone_words(alloc: Global, place: u32) -> Result<String, NoMemory>
-    ensures { IfOk result (λ s. string_bytes s ≡ broken_text (at_place (codes "/timeZones") place) rule.U2) }
+    ensures { IfOk result
+        (λ s. string_bytes s ≡ broken_text (at_place (codes "/timeZones") place) rule.U2) }
 {
     let who = at_place(alloc, "/timeZones", place as u64)?;
     broken(alloc, who.as_str(), Rule::U2)
@@ -302,7 +308,8 @@ fn add_unsound(alloc: Global, unsound: Unsound, text: &mut String) -> Result<(),
 }
 
 fn add_all_unsound(alloc: Global, list: &[Unsound], text: &mut String) -> Result<(), NoMemory>
-    ensures { OnOk result (string_bytes text.new ≡ string_bytes text.old ++ flat_map besides list.now) }
+    ensures { OnOk result (string_bytes text.new
+        ≡ string_bytes text.old ++ flat_map besides list.now) }
 {
     for unsound in list {
         add_unsound(alloc, *unsound, text)?;

@@ -42,7 +42,8 @@ fn print_in(
     request: &AccessRequest,
     explanation: &Explanation,
 ) -> Result<Text, NoMemory>
-    ensures { IfOk result (λ t. encode_utf8_all t ≡ text_in style.form style.all request.now explanation.now) }
+    ensures { IfOk result
+        (λ t. encode_utf8_all t ≡ text_in style.form style.all request.now explanation.now) }
 {
     match style.form {
         Form::Words => print_words(alloc, request, explanation, style.all),
@@ -60,7 +61,8 @@ fn add_explanation(
     text: &mut String,
 ) -> Result<(), NoMemory>
     requires { sound facts ≡ true }
-    ensures { OnOk result (string_bytes text.new ≡ string_bytes text.old ++ explained_text style facts request.now) }
+    ensures { OnOk result (string_bytes text.new
+        ≡ string_bytes text.old ++ explained_text style facts request.now) }
 {
     let explainer = Explainer::build(alloc, facts)?;
     // (its serial isn't printed)
@@ -94,9 +96,12 @@ impl<'a, R: Wait> Explaining<'a, R> {
         text: &mut String,
     ) -> Result<(), LineFault>
         requires { is_wanted self.old.wanted ≡ true }
-        ensures worked { OnOk result (IsWorked (explain_work self.old request.now) self.new (string_bytes text.old) (string_bytes text.new)) }
-        ensures bad { result ≡ Err LineFault.Bad → (explain_work self.old request.now ≡ None) × (self.new ≡ self.old) }
-        ensures unwritten { result ≡ Err LineFault.Bad → string_bytes text.new ≡ string_bytes text.old }
+        ensures worked { OnOk result (IsWorked (explain_work self.old request.now) self.new
+            (string_bytes text.old) (string_bytes text.new)) }
+        ensures bad { result ≡ Err LineFault.Bad
+            → (explain_work self.old request.now ≡ None) × (self.new ≡ self.old) }
+        ensures unwritten { result ≡ Err LineFault.Bad
+            → string_bytes text.new ≡ string_bytes text.old }
     {
         let facts = match self.replay.newest_facts(alloc) {
             Ok(Some(facts)) => facts,
@@ -117,8 +122,10 @@ impl<'a, R: Wait> Explaining<'a, R> {
     #[tactic(auto, using(crate::proofs::Working::requests), unfolding(crate::specs::Explained::explain_work))]
     fn pass(&mut self, alloc: Global, request: &AccessRequest) -> Result<(), LineFault>
         requires { is_wanted self.old.wanted ≡ false }
-        ensures worked { OnOk result ((text : List ℕ) → IsWorked (explain_work self.old request.now) self.new text text) }
-        ensures bad { result ≡ Err LineFault.Bad → (explain_work self.old request.now ≡ None) × (self.new ≡ self.old) }
+        ensures worked { OnOk result ((text : List ℕ)
+            → IsWorked (explain_work self.old request.now) self.new text text) }
+        ensures bad { result ≡ Err LineFault.Bad
+            → (explain_work self.old request.now ≡ None) × (self.new ≡ self.old) }
     {
         match self.replay.newest_decision(alloc, request) {
             Ok(None) => Err(LineFault::Bad),
@@ -137,9 +144,12 @@ impl<'a, R: Wait> Explaining<'a, R> {
         request: &AccessRequest,
         text: &mut String,
     ) -> Result<(), LineFault>
-        ensures worked { OnOk result (IsWorked (explain_work self.old request.now) self.new (string_bytes text.old) (string_bytes text.new)) }
-        ensures bad { result ≡ Err LineFault.Bad → (explain_work self.old request.now ≡ None) × (self.new ≡ self.old) }
-        ensures unwritten { result ≡ Err LineFault.Bad → string_bytes text.new ≡ string_bytes text.old }
+        ensures worked { OnOk result (IsWorked (explain_work self.old request.now) self.new
+            (string_bytes text.old) (string_bytes text.new)) }
+        ensures bad { result ≡ Err LineFault.Bad
+            → (explain_work self.old request.now ≡ None) × (self.new ≡ self.old) }
+        ensures unwritten { result ≡ Err LineFault.Bad
+            → string_bytes text.new ≡ string_bytes text.old }
     {
         if self.wanted.is_next() {
             self.tell(alloc, request, text)

@@ -8,5 +8,6 @@ ghost use Rattle.rg_explain_script.specs.Explained.{explained};
 
 /// A script ends alike whether it is explained or replayed: with the same status, and where a line is bad at the same one.
 pub fn explained_as_replayed()
-    ensures { (options : Options) (lines : List (List ℕ)) (moments : List Moment) → EndAlike (replayed lines moments) (explained options lines moments) }
+    ensures { (options : Options) (lines : List (List ℕ)) (moments : List Moment)
+        → EndAlike (replayed lines moments) (explained options lines moments) }
 {}

@@ -118,7 +118,8 @@ fn command_line<'a>(alloc: Global) -> Result<clap::Command<'a>, AllocError>
 
 /// The words as `clap` reads them. Where they fit, it refuses them for want of memory alone.
 fn matches_of<'a>(alloc: Global, words: &'a [String]) -> Result<ArgMatches<'a>, NoMemory>
-    ensures { IfOk result (λ matches. rows_of (found_of matches) ≡ matches_of words_app (map string_bytes words.entry.now)) }
+    ensures { IfOk result (λ matches. rows_of (found_of matches)
+        ≡ matches_of words_app (map string_bytes words.entry.now)) }
 {
     let line = command_line(alloc)?;
     match line.try_get_matches_from(words) {
@@ -128,7 +129,8 @@ fn matches_of<'a>(alloc: Global, words: &'a [String]) -> Result<ArgMatches<'a>, 
 }
 
 fn has_flag(matches: &ArgMatches, id: &str) -> bool
-    ensures { (is : Bool) → one_text (found_of matches.now) id.now ≡ Some (flag_text is) → result ≡ is }
+    ensures { (is : Bool) → one_text (found_of matches.now) id.now ≡ Some (flag_text is)
+        → result ≡ is }
 {
     matches.get_flag(id)
 }

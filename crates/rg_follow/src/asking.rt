@@ -23,7 +23,11 @@ pub(crate) fn ask<T: Link + Drop>(
     remote: &mut Remote<T>,
     known: Known,
 ) -> Result<Download, AskFault>
-    ensures { IfOk result (λ d. WasAsked (record { policies = known.policies; tags = known.tags; roles = known.roles }) d remote.old remote.new) }
+    ensures { IfOk result (λ d. WasAsked (record {
+      policies = known.policies;
+      tags = known.tags;
+      roles = known.roles;
+    }) d remote.old remote.new) }
 {
     let policies = match remote.policies(alloc, known.policies) {
         Ok(part) => part,

@@ -20,13 +20,15 @@ use rg_admin_laws::{downloads_lead, unchanged_from_present_versions, versions_ne
 /// than there were at the round's first question, and no more than at its last. It asks that what was had, if anything, is such a
 /// view of an earlier moment, and that the service isn't deleted meanwhile.
 pub fn settled_is_a_view()
-    ensures on { (start : Administration) (h : List (Entry Ask AdminReply)) → IsStart start → IsLegal step start h
+    ensures on { (start : Administration) (h : List (Entry Ask AdminReply))
+        → IsStart start → IsLegal step start h
         → (service : List ℕ) (j : ℕ) → IsNotDeleted h j (length h) service
         → (had : Facts) → view (state_at step start h j) service ≡ Some had
         → (first last : ℕ) → j ≤ first → (ds : List Download) → AreAnswered start h service had ds first last
         → (after : Facts) → Settles had ds after
         → (n : ℕ) × (first ≤ n) × (n ≤ last) × (view (state_at step start h n) service ≡ Some after) }
-    ensures anew { (start : Administration) (h : List (Entry Ask AdminReply)) → IsStart start → IsLegal step start h
+    ensures anew { (start : Administration) (h : List (Entry Ask AdminReply))
+        → IsStart start → IsLegal step start h
         → (service : List ℕ) (first last : ℕ) → IsNotDeleted h first (length h) service
         → (ds : List Download) → AreAnsweredAnew start h service ds first last
         → (after : Facts) → SettlesAnew service ds after
@@ -41,14 +43,16 @@ pub fn settled_is_a_view()
 /// answer, what the later settles at is the view of no earlier moment, and none of its versions is less. It asks of the earlier
 /// round what the law of rounds does.
 pub fn rounds_go_on()
-    ensures never_back { (start : Administration) (h : List (Entry Ask AdminReply)) → IsStart start → IsLegal step start h
+    ensures never_back { (start : Administration) (h : List (Entry Ask AdminReply))
+        → IsStart start → IsLegal step start h
         → (service : List ℕ) (j : ℕ) → IsNotDeleted h j (length h) service
         → (had : Option Facts) → WasSeen start h service j had → (after later : Facts)
         → (first last again end : ℕ) → j ≤ first → IsRound start h service had after first last
         → last ≤ again → IsRound start h service (Some after) later again end
         → (n : ℕ) × (k : ℕ) × (first ≤ n) × (n ≤ last) × (n ≤ k) × (again ≤ k) × (k ≤ end)
         × (view (state_at step start h n) service ≡ Some after) × (view (state_at step start h k) service ≡ Some later) }
-    ensures no_version_falls { (start : Administration) (h : List (Entry Ask AdminReply)) → IsStart start → IsLegal step start h
+    ensures no_version_falls { (start : Administration) (h : List (Entry Ask AdminReply))
+        → IsStart start → IsLegal step start h
         → (service : List ℕ) (j : ℕ) → IsNotDeleted h j (length h) service
         → (had : Option Facts) → WasSeen start h service j had → (after later : Facts)
         → (first last again end : ℕ) → j ≤ first → IsRound start h service had after first last

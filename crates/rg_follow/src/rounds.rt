@@ -56,7 +56,8 @@ fn fits(facts: &Facts, download: &Download) -> bool
 
 // The versions of these facts.
 fn known_of(facts: &Facts) -> Known
-    ensures { record { policies = result.policies; tags = result.tags; roles = result.roles } ≡ from_of facts.now }
+    ensures { record { policies = result.policies; tags = result.tags; roles = result.roles }
+        ≡ from_of facts.now }
 {
     Known {
         policies: Some(facts.policy_version),
@@ -67,8 +68,10 @@ fn known_of(facts: &Facts) -> Known
 
 // The facts to which a download leads that fits them.
 fn take(alloc: Global, facts: Facts, download: Download) -> Result<Facts, FollowFault>
-    ensures taken { IfOk result (λ after. (after ≡ led facts download) × (fits facts download ≡ true)) }
-    ensures fault { IfErr result (λ f. (f ≡ FollowFault.Misfit → fits facts download ≡ false) × (f ≢ FollowFault.Unsettled)) }
+    ensures taken { IfOk result (λ after. (after ≡ led facts download)
+        × (fits facts download ≡ true)) }
+    ensures fault { IfErr result (λ f. (f ≡ FollowFault.Misfit → fits facts download ≡ false)
+        × (f ≢ FollowFault.Unsettled)) }
 {
     if !fits(&facts, &download) {
         drop(facts);
@@ -130,7 +133,8 @@ pub fn settle<T: Link + Drop>(
 
 // The versions of an engine's facts.
 fn known_to(engine: &Engine) -> Known
-    ensures { record { policies = result.policies; tags = result.tags; roles = result.roles } ≡ from_of engine.now }
+    ensures { record { policies = result.policies; tags = result.tags; roles = result.roles }
+        ≡ from_of engine.now }
 {
     Known {
         policies: Some(engine.policy_version()),
@@ -213,7 +217,8 @@ pub fn begin<T: Link + Drop>(
     service: Text,
 ) -> Result<Facts, FollowFault>
     ensures settled { IfOk result (λ after. HasSettledAnew service after remote.old remote.new) }
-    ensures strayed { IfErr result (λ f. StraysAnew most_downloads service f remote.old remote.new) }
+    ensures strayed { IfErr result
+        (λ f. StraysAnew most_downloads service f remote.old remote.new) }
 {
     let nothing = Known {
         policies: None,

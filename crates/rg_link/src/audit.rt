@@ -20,7 +20,9 @@ pub(crate) fn audit<H: RequestHooks>(
     request: &AccessRequest,
     decision: &Decision,
 ) -> Result<(), NoMemory>
-    ensures ok { OnOk result ((asked : AccessRequest) (serial : ℕ) → AreAudited (chars plugin.now) (decided asked request.now serial decision.now ∷ []) (H.sinks hooks.old) (H.sinks hooks.new)) }
+    ensures ok { OnOk result ((asked : AccessRequest) (serial : ℕ)
+        → AreAudited (chars plugin.now) (decided asked request.now serial decision.now ∷ [])
+        (H.sinks hooks.old) (H.sinks hooks.new)) }
     ensures err { OnErr result (H.sinks hooks.new ≡ H.sinks hooks.old) }
     ensures kept { H.enrichers hooks.new ≡ H.enrichers hooks.old }
 {

@@ -46,7 +46,8 @@ fn call_turn<P: Recorder, G: Gate, R: Wait>(
 ) -> Result<AdminReply, NoMemory>
     requires { seat.old.turn ≡ setting.now.turn.now.turn }
     ensures same { (seat.new.turn ≡ seat.old.turn) × IsPrefix seat.old.history seat.new.history }
-    ensures called { MatchResult result (λ reply. IsCalled seat.old (ask_of message.now command) reply seat.new) (λ _. seat.new.calls ≡ seat.old.calls) }
+    ensures called { MatchResult result (λ reply. IsCalled seat.old
+        (ask_of message.now command) reply seat.new) (λ _. seat.new.calls ≡ seat.old.calls) }
 {
     let alloc = setting.alloc();
     match actor_of(alloc, message) {
@@ -91,7 +92,8 @@ fn administer<P: Recorder, G: Gate, R: Wait>(
     requires { seat.old.turn ≡ setting.now.turn.now.turn }
     ensures called { IfOk result (IsCall seat.old seat.new message.now command part) }
     ensures status { IfOk result (λ r. IsStatusCode r.status) }
-    ensures uncalled { OnErr result (IsUncalled seat.old seat.new ⊎ ((r : Response) × IsCall seat.old seat.new message.now command part r)) }
+    ensures uncalled { OnErr result (IsUncalled seat.old seat.new
+        ⊎ ((r : Response) × IsCall seat.old seat.new message.now command part r)) }
 {
     let alloc = setting.alloc();
     let form = AnswerForm::of(&command, part);
@@ -118,10 +120,13 @@ pub(crate) fn answer_call<P: Recorder, T: Link, G: Gate, R: Wait>(
     part: Part,
 ) -> Result<(), LinkFault>
     requires { seat.old.turn ≡ setting.now.turn.now.turn }
-    ensures served { OnOk result ((r : Response) × IsCall seat.old seat.new message.now command part r × Wrote (T.held link.old) (T.held link.new) (response_text r)) }
-    ensures unserved { OnErr result ((IsUncalled seat.old seat.new × Wrote (T.held link.old) (T.held link.new) [])
+    ensures served { OnOk result ((r : Response) × IsCall seat.old seat.new message.now
+        command part r × Wrote (T.held link.old) (T.held link.new) (response_text r)) }
+    ensures unserved { OnErr result
+        ((IsUncalled seat.old seat.new × Wrote (T.held link.old) (T.held link.new) [])
         ⊎ ((r : Response) × (begun : List ℕ) × IsCall seat.old seat.new message.now command part r × Wrote (T.held link.old) (T.held link.new) begun × IsPrefix begun (response_text r))) }
-    ensures faults { MatchResult result (λ _. T.faults link.new ≡ T.faults link.old) (λ f. Counts f (T.faults link.old) (T.faults link.new)) }
+    ensures faults { MatchResult result (λ _. T.faults link.new ≡ T.faults link.old)
+        (λ f. Counts f (T.faults link.old) (T.faults link.new)) }
     ensures unread { (T.left link.new ≡ T.left link.old) × (T.ended link.new ≡ T.ended link.old) }
 {
     let response = match administer(setting, seat, message, command, part) {

@@ -29,7 +29,8 @@ pub fn next_message<T: Link>(
         × MatchResult result
         (Comes (framer.old.bytes ++ read) (wire (T.left link.old) (T.held link.old) (T.ended link.old)) (wire (T.left link.new) (T.held link.new) (T.ended link.new)) framer.new)
         (λ _. BreaksOff (framer.old.bytes ++ read) (T.held link.old) (T.held link.new)) }
-    ensures faults { MatchResult result (λ _. T.faults link.new ≡ T.faults link.old) (λ f. Counts f (T.faults link.old) (T.faults link.new)) }
+    ensures faults { MatchResult result (λ _. T.faults link.new ≡ T.faults link.old)
+        (λ f. Counts f (T.faults link.old) (T.faults link.new)) }
 {
     let next = match framer.next(alloc, link) {
         Ok(next) => next,

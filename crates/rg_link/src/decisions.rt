@@ -33,8 +33,11 @@ fn judge<G: Gate, H: RequestHooks>(
     hooks: &mut H,
     request: &mut AccessRequest,
 ) -> Result<Decision, NoMemory>
-    ensures judged { IfOk result (λ d. IsJudged pass.old pass.new (H.enrichers hooks.old) (H.enrichers hooks.new) request.old (decided request.old request.new (length pass.new.list) d)) }
-    ensures unjudged { OnErr result (IsUnjudged pass.old pass.new (H.enrichers hooks.old) (H.enrichers hooks.new)) }
+    ensures judged { IfOk result
+        (λ d. IsJudged pass.old pass.new (H.enrichers hooks.old) (H.enrichers hooks.new) request.old
+        (decided request.old request.new (length pass.new.list) d)) }
+    ensures unjudged { OnErr result
+        (IsUnjudged pass.old pass.new (H.enrichers hooks.old) (H.enrichers hooks.new)) }
     ensures unheard { H.sinks hooks.new ≡ H.sinks hooks.old }
 {
     match hooks.enrich(deciding.alloc, request) {
@@ -58,14 +61,16 @@ pub fn answer_decision<T: Link, G: Gate, H: RequestHooks>(
     request: &mut AccessRequest,
     close: bool,
 ) -> Result<(), LinkFault>
-    ensures served { OnOk result ((d : Decided) × IsJudged pass.old pass.new (H.enrichers hooks.old) (H.enrichers hooks.new) request.old d
+    ensures served { OnOk result ((d : Decided) × IsJudged pass.old pass.new
+        (H.enrichers hooks.old) (H.enrichers hooks.new) request.old d
         × Wrote (T.held link.old) (T.held link.new) (response_text (decision_response d.decision close))
         × AreAudited (chars deciding.now.plugin.now) (d ∷ []) (H.sinks hooks.old) (H.sinks hooks.new)) }
     ensures unserved { OnErr result ((H.sinks hooks.new ≡ H.sinks hooks.old)
         × ((IsUnjudged pass.old pass.new (H.enrichers hooks.old) (H.enrichers hooks.new) × Wrote (T.held link.old) (T.held link.new) [])
         ⊎ ((d : Decided) × (part : List ℕ) × IsJudged pass.old pass.new (H.enrichers hooks.old) (H.enrichers hooks.new) request.old d
         × Wrote (T.held link.old) (T.held link.new) part × IsPrefix part (response_text (decision_response d.decision close))))) }
-    ensures faults { MatchResult result (λ _. T.faults link.new ≡ T.faults link.old) (λ f. Counts f (T.faults link.old) (T.faults link.new)) }
+    ensures faults { MatchResult result (λ _. T.faults link.new ≡ T.faults link.old)
+        (λ f. Counts f (T.faults link.old) (T.faults link.new)) }
     ensures unread { (T.left link.new ≡ T.left link.old) × (T.ended link.new ≡ T.ended link.old) }
 {
     let alloc = deciding.alloc;

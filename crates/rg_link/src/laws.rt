@@ -15,11 +15,16 @@ ghost use Rattle.rg_link.specs.Audits.{AfterLines, Decided};
 /// A sink that isn't dropped, and whose count of faults didn't rise, holds its old lines and then those that were given, in order.
 #[tactic(auto, using(crate::proofs::Held::lines_held))]
 pub fn lines_are_held()
-    ensures { (lines : List (List ℕ)) (old new : SinkState × ℕ) (held : List (List ℕ)) → AfterLines lines old new → old.1 < drop_at → new.0.faults ≡ old.0.faults → old.0.heard ≡ Some held → new.0.heard ≡ Some (held ++ lines) }
+    ensures { (lines : List (List ℕ)) (old new : SinkState × ℕ) (held : List (List ℕ))
+        → AfterLines lines old new → old.1 < drop_at → new.0.faults ≡ old.0.faults
+        → old.0.heard ≡ Some held → new.0.heard ≡ Some (held ++ lines) }
 {}
 
 /// Messages, moments, entries and decisions decide the responses.
 #[tactic(auto, using(crate::proofs::Once::answers_once))]
 pub fn answers_are_one()
-    ensures { (plugin : List ℕ) (pubs : List Publication) (ms : List Message) (ts : List Moment) (own : List (Entry Ask AdminReply)) (decided : List Decided) (rs qs : List Response) → Answers plugin pubs ms ts own decided rs → Answers plugin pubs ms ts own decided qs → rs ≡ qs }
+    ensures { (plugin : List ℕ) (pubs : List Publication) (ms : List Message) (ts : List Moment)
+        (own : List (Entry Ask AdminReply)) (decided : List Decided) (rs qs : List Response)
+        → Answers plugin pubs ms ts own decided rs
+        → Answers plugin pubs ms ts own decided qs → rs ≡ qs }
 {}

@@ -43,7 +43,8 @@ fn answer_messages<P: Recorder, T: Link, C: Clock, H: RequestHooks, G: Gate, R: 
         (worker_of seat.old pass.old (C.given clock.old) (H.sinks hooks.old) (H.enrichers hooks.old))
         (worker_of seat.new pass.new (C.given clock.new) (H.sinks hooks.new) (H.enrichers hooks.new))
         (wire (T.left link.old) (T.held link.old) (T.ended link.old)) (wire (T.left link.new) (T.held link.new) (T.ended link.new))) }
-    ensures faults { MatchResult result (λ _. T.faults link.new ≡ T.faults link.old) (λ f. Counts f (T.faults link.old) (T.faults link.new)) }
+    ensures faults { MatchResult result (λ _. T.faults link.new ≡ T.faults link.old)
+        (λ f. Counts f (T.faults link.old) (T.faults link.new)) }
 {
     judged_stays_judged();
     let alloc = setting.alloc();
@@ -99,9 +100,11 @@ pub fn answer_link<P: Recorder, T: Link, C: Clock, H: RequestHooks, G: Gate, R: 
         (worker_of seat.new pass.new (C.given clock.new) (H.sinks hooks.new) (H.enrichers hooks.new))
         (wire (T.left link.old) (T.held link.old) (T.ended link.old)) (wire (T.left link.new) (T.held link.new) (T.ended link.new))) }
     ensures same { (seat.new.turn ≡ seat.old.turn) × (pass.new.book ≡ pass.old.book) }
-    ensures begins { IsPrefix seat.old.history seat.new.history × IsPrefix pass.old.list pass.new.list }
+    ensures begins { IsPrefix seat.old.history seat.new.history
+        × IsPrefix pass.old.list pass.new.list }
     ensures legal { IsLegal step setting.now.turn.now.start seat.new.history }
-    ensures faults { MatchResult result (λ _. T.faults link.new ≡ T.faults link.old) (λ f. Counts f (T.faults link.old) (T.faults link.new)) }
+    ensures faults { MatchResult result (λ _. T.faults link.new ≡ T.faults link.old)
+        (λ f. Counts f (T.faults link.old) (T.faults link.new)) }
 {
     match answer_messages(setting, link, seat, pass, clock, hooks) {
         Ok(report) => {
@@ -140,9 +143,11 @@ pub fn serve_link<P: Recorder, T: Link, C: Clock, H: RequestHooks, G: Gate, R: W
         (worker_of seat.new pass.new (C.given clock.new) (H.sinks hooks.new) (H.enrichers hooks.new))
         (wire (T.left link.old) (T.held link.old) (T.ended link.old)) (wire (T.left link.new) (T.held link.new) (T.ended link.new))) }
     ensures same { (seat.new.turn ≡ seat.old.turn) × (pass.new.book ≡ pass.old.book) }
-    ensures begins { IsPrefix seat.old.history seat.new.history × IsPrefix pass.old.list pass.new.list }
+    ensures begins { IsPrefix seat.old.history seat.new.history
+        × IsPrefix pass.old.list pass.new.list }
     ensures legal { IsLegal step turn.now.start seat.new.history }
-    ensures faults { MatchResult result (λ _. T.faults link.new ≡ T.faults link.old) (λ f. Counts f (T.faults link.old) (T.faults link.new)) }
+    ensures faults { MatchResult result (λ _. T.faults link.new ≡ T.faults link.old)
+        (λ f. Counts f (T.faults link.old) (T.faults link.new)) }
 {
     judged_stays_judged();
     let Ok(router) = Router::new(alloc) else {

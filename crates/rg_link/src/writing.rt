@@ -16,9 +16,12 @@ use std::alloc::Global;
 /// Writes a response, or a part of it.
 pub fn send<T: Link>(alloc: Global, link: &mut T, response: &Response) -> Result<(), LinkFault>
     requires { IsStatusCode response.now.status }
-    ensures ok { OnOk result (Wrote (T.held link.old) (T.held link.new) (response_text response.now)) }
-    ensures err { OnErr result ((part : List ℕ) × Wrote (T.held link.old) (T.held link.new) part × IsPrefix part (response_text response.now)) }
-    ensures faults { MatchResult result (λ _. T.faults link.new ≡ T.faults link.old) (λ f. Counts f (T.faults link.old) (T.faults link.new)) }
+    ensures ok { OnOk result
+        (Wrote (T.held link.old) (T.held link.new) (response_text response.now)) }
+    ensures err { OnErr result ((part : List ℕ) × Wrote (T.held link.old) (T.held link.new) part
+        × IsPrefix part (response_text response.now)) }
+    ensures faults { MatchResult result (λ _. T.faults link.new ≡ T.faults link.old)
+        (λ f. Counts f (T.faults link.old) (T.faults link.new)) }
     ensures unread { (T.left link.new ≡ T.left link.old) × (T.ended link.new ≡ T.ended link.old) }
 {
     let Ok(bytes) = print_response(alloc, response) else {
@@ -44,9 +47,12 @@ fn refusal(alloc: Global, status: u16) -> Response
 /// Answers a bad place.
 pub fn refuse<T: Link>(alloc: Global, link: &mut T, status: u16) -> Result<(), LinkFault>
     requires { IsStatusCode status }
-    ensures ok { OnOk result (Wrote (T.held link.old) (T.held link.new) (response_text (refusal status))) }
-    ensures err { OnErr result ((part : List ℕ) × Wrote (T.held link.old) (T.held link.new) part × IsPrefix part (response_text (refusal status))) }
-    ensures faults { MatchResult result (λ _. T.faults link.new ≡ T.faults link.old) (λ f. Counts f (T.faults link.old) (T.faults link.new)) }
+    ensures ok { OnOk result
+        (Wrote (T.held link.old) (T.held link.new) (response_text (refusal status))) }
+    ensures err { OnErr result ((part : List ℕ) × Wrote (T.held link.old) (T.held link.new) part
+        × IsPrefix part (response_text (refusal status))) }
+    ensures faults { MatchResult result (λ _. T.faults link.new ≡ T.faults link.old)
+        (λ f. Counts f (T.faults link.old) (T.faults link.new)) }
     ensures unread { (T.left link.new ≡ T.left link.old) × (T.ended link.new ≡ T.ended link.old) }
 {
     let response = refusal(alloc, status);

@@ -48,7 +48,8 @@ impl<'g, 's, 'p, G: Gate, S: Standing> Desk<'g, 's, 'p, G, S> {
             (decider_of pass.new (C.given clock.new) (H.sinks hooks.new) (H.enrichers hooks.new))
             (wire (T.left link.old) (T.held link.old) (T.ended link.old)) (wire (T.left link.new) (T.held link.new) (T.ended link.new))) }
         ensures same { (pass.new.book ≡ pass.old.book) × IsPrefix pass.old.list pass.new.list }
-        ensures faults { MatchResult result (λ _. T.faults link.new ≡ T.faults link.old) (λ f. Counts f (T.faults link.old) (T.faults link.new)) }
+        ensures faults { MatchResult result (λ _. T.faults link.new ≡ T.faults link.old)
+            (λ f. Counts f (T.faults link.old) (T.faults link.new)) }
     {
         judged_stays_judged();
         let alloc = self.deciding.alloc;

@@ -33,7 +33,8 @@ pub(crate) fn answer_message<T: Link, C: Clock, H: RequestHooks, G: Gate, S: Sta
         (decider_of pass.old (C.given clock.old) (H.sinks hooks.old) (H.enrichers hooks.old))
         (decider_of pass.new (C.given clock.new) (H.sinks hooks.new) (H.enrichers hooks.new))
         (T.held link.old) (T.held link.new) message.now) }
-    ensures faults { MatchResult result (λ _. T.faults link.new ≡ T.faults link.old) (λ f. Counts f (T.faults link.old) (T.faults link.new)) }
+    ensures faults { MatchResult result (λ _. T.faults link.new ≡ T.faults link.old)
+        (λ f. Counts f (T.faults link.old) (T.faults link.new)) }
     ensures unread { (T.left link.new ≡ T.left link.old) × (T.ended link.new ≡ T.ended link.old) }
 {
     let now = clock.now();

@@ -84,8 +84,10 @@ impl Pass {
     /// Keeps what was told where it is later than what the pass has. It takes no memory, and waits for nobody.
     pub fn learn(&mut self, told: Told)
         requires { told.book ≡ self.old.book }
-        ensures same { (self.new.book ≡ self.old.book) × (self.new.entered ≡ self.old.entered) × (self.new.answered ≡ self.old.answered) }
-        ensures list { MatchBool (nat_lt (length self.old.list) (length told.list)) (self.new.list ≡ told.list) (self.new.list ≡ self.old.list) }
+        ensures same { (self.new.book ≡ self.old.book)
+            × (self.new.entered ≡ self.old.entered) × (self.new.answered ≡ self.old.answered) }
+        ensures list { MatchBool (nat_lt (length self.old.list) (length told.list))
+            (self.new.list ≡ told.list) (self.new.list ≡ self.old.list) }
         ensures begins { IsPrefix self.old.list self.new.list × IsPrefix told.list self.new.list }
     {
         let Told { shown } = told;
@@ -144,7 +146,8 @@ impl Pass {
     fn judge<L: Ledger>(&self, request: &AccessRequest, steps: &mut Steps<L>) -> Answer
         ensures answer { Ends self.now.list (λ p. result ≡ answer_of p request.now) }
         ensures serial { result.serial.0 ≡ length self.now.list }
-        ensures steps { Ends self.now.list (λ p. TriesWithin (bound_on p.facts request.now) steps.old steps.new) }
+        ensures steps { Ends self.now.list
+            (λ p. TriesWithin (bound_on p.facts request.now) steps.old steps.new) }
     {
         let engine = &*self.kept.engine;
         Answer {
@@ -163,7 +166,8 @@ impl Pass {
         request: &AccessRequest,
         steps: &mut Steps<L>,
     ) -> Result<Decision, NoMemory>
-        ensures decision { Ends self.now.list (λ p. IfOk result (λ d. d ≡ decision_of p request.now) × TriesWithin (bound_on p.facts request.now) steps.old steps.new) }
+        ensures decision { Ends self.now.list (λ p. IfOk result (λ d. d ≡ decision_of p request.now)
+            × TriesWithin (bound_on p.facts request.now) steps.old steps.new) }
         ensures serial { IfOk result (λ d. d.serial.0 ≡ length self.now.list) }
     {
         let engine = &*self.kept.engine;
@@ -179,8 +183,10 @@ impl Pass {
         ensures answer { Ends self.new.list (λ p. result ≡ answer_of p request.now) }
         ensures serial { result.serial.0 ≡ length self.new.list }
         ensures answered { self.new.answered ≡ risen self.old.answered }
-        ensures entered { ((self.new.entered ≡ self.old.entered) × (self.new.list ≡ self.old.list)) ⊎ (self.new.entered ≡ risen self.old.entered) }
-        ensures steps { Ends self.new.list (λ p. TriesWithin (bound_on p.facts request.now) steps.old steps.new) }
+        ensures entered { ((self.new.entered ≡ self.old.entered) × (self.new.list ≡ self.old.list))
+            ⊎ (self.new.entered ≡ risen self.old.entered) }
+        ensures steps { Ends self.new.list
+            (λ p. TriesWithin (bound_on p.facts request.now) steps.old steps.new) }
     {
         let _entered = self.enter();
         self.answered = self.answered.saturating_add(1);
@@ -197,12 +203,15 @@ impl Pass {
     ) -> Result<Decision, NoMemory>
         ensures same { self.new.book ≡ self.old.book }
         ensures begins { IsPrefix self.old.list self.new.list }
-        ensures decision { Ends self.new.list (λ p. IfOk result (λ d. d ≡ decision_of p request.now)) }
+        ensures decision { Ends self.new.list
+            (λ p. IfOk result (λ d. d ≡ decision_of p request.now)) }
         ensures serial { IfOk result (λ d. d.serial.0 ≡ length self.new.list) }
         ensures answered { OnOk result (self.new.answered ≡ risen self.old.answered) }
         ensures unanswered { OnErr result (self.new.answered ≡ self.old.answered) }
-        ensures entered { ((self.new.entered ≡ self.old.entered) × (self.new.list ≡ self.old.list)) ⊎ (self.new.entered ≡ risen self.old.entered) }
-        ensures steps { Ends self.new.list (λ p. TriesWithin (bound_on p.facts request.now) steps.old steps.new) }
+        ensures entered { ((self.new.entered ≡ self.old.entered) × (self.new.list ≡ self.old.list))
+            ⊎ (self.new.entered ≡ risen self.old.entered) }
+        ensures steps { Ends self.new.list
+            (λ p. TriesWithin (bound_on p.facts request.now) steps.old steps.new) }
     {
         let _entered = self.enter();
         let decision = self.judge_in_full(alloc, request, steps)?;

@@ -32,8 +32,11 @@ fn enlist(
     second: Arc<Engine>,
 ) -> Option<(Shown, Shown)>
     requires head { head.now ≡ length_of known.now.book }
-    requires draft { (length known.now.log ≡ old) × (draft.serial ≡ old + 1) × (draft.serial < 2 ^ 63) × (arc_value second ≡ arc_value draft.engine) }
-    ensures { IfSome result (λ t. (t.0.known.log ≡ known.now.log ++ publication draft.serial draft.seq (arc_value draft.engine) ∷ []) × (t.0.known.book ≡ known.now.book) × (t.1.known ≡ t.0.known)) }
+    requires draft { (length known.now.log ≡ old) × (draft.serial ≡ old + 1)
+        × (draft.serial < 2 ^ 63) × (arc_value second ≡ arc_value draft.engine) }
+    ensures { IfSome result (λ t. (t.0.known.log
+        ≡ known.now.log ++ publication draft.serial draft.seq (arc_value draft.engine) ∷ [])
+        × (t.0.known.book ≡ known.now.book) × (t.1.known ≡ t.0.known)) }
 {
     let mut seen = known.again();
     let mut offer: Offer<Publication, u64, Numbering, Nothing> = seen.plain::<Nothing, Draft, Add>(
@@ -91,8 +94,10 @@ fn append<R: Wait>(rt: &R, writer: Copies, shown: Shown) -> Copies
 
 /// Shows it to readers, and tries again where memory is refused for a copy.
 fn show<R: Wait>(rt: &R, writer: Copies, shown: Shown) -> Copies
-    requires { (drop writer.behind writer.log.items ≡ []) × Begins writer.desk.shown.value.known shown.known }
-    ensures { (drop result.behind result.log.items ≡ []) × (result.desk.shown.value.known ≡ shown.known) × Knows (known_by result.desk.place) shown.known }
+    requires { (drop writer.behind writer.log.items ≡ [])
+        × Begins writer.desk.shown.value.known shown.known }
+    ensures { (drop result.behind result.log.items ≡ []) × (result.desk.shown.value.known
+        ≡ shown.known) × Knows (known_by result.desk.place) shown.known }
 {
     let mut writer = append(rt, writer, shown);
     for _ in rt.forever() {
@@ -139,7 +144,9 @@ impl<R: Wait + Drop> Model for Publisher<R> {
 
     ghost view = { λ p. published p.kept.known };
 
-    ghost invariant = { λ p. (p.head ≡ length_of p.kept.known.book) × IfSome p.writer (λ w. (w.desk.shown.value.known ≡ p.kept.known) × (drop w.behind w.log.items ≡ []) × Knows (known_by w.desk.place) p.kept.known) };
+    ghost invariant = { λ p. (p.head ≡ length_of p.kept.known.book)
+        × IfSome p.writer (λ w. (w.desk.shown.value.known ≡ p.kept.known)
+        × (drop w.behind w.log.items ≡ []) × Knows (known_by w.desk.place) p.kept.known) };
 }
 
 impl<R: Wait + Drop> Publisher<R> {
@@ -186,7 +193,9 @@ impl<R: Wait + Drop> Publisher<R> {
     /// before. At serial 2^62 it waits for ever.
     pub fn publish(&mut self, alloc: Global, engine: Engine, seq: u64) -> Result<Serial, NoMemory>
         ensures same { self.new.book ≡ self.old.book }
-        ensures list { MatchResult result (λ n. (n.0 ≡ length self.old.list + 1) × (self.new.list ≡ self.old.list ++ publication n.0 seq engine ∷ [])) (λ _. self.new.list ≡ self.old.list) }
+        ensures list { MatchResult result (λ n. (n.0 ≡ length self.old.list + 1)
+            × (self.new.list ≡ self.old.list ++ publication n.0 seq engine ∷ []))
+            (λ _. self.new.list ≡ self.old.list) }
     {
         wait_below(&self.rt, self.kept.serial);
         let Some(writer) = self.writer.take() else {
@@ -256,8 +265,10 @@ fn drafted(
     engine: Engine,
     seq: u64,
 ) -> Option<(Shown, Shown)>
-    requires { (head.now ≡ length_of known.now.book) × (length known.now.log ≡ old) × (old < 2 ^ 62) }
-    ensures { IfSome result (λ t. (t.0.known.log ≡ known.now.log ++ publication (old + 1) seq engine ∷ []) × (t.0.known.book ≡ known.now.book) × (t.1.known ≡ t.0.known)) }
+    requires { (head.now ≡ length_of known.now.book)
+        × (length known.now.log ≡ old) × (old < 2 ^ 62) }
+    ensures { IfSome result (λ t. (t.0.known.log ≡ known.now.log ++ publication (old + 1) seq engine
+        ∷ []) × (t.0.known.book ≡ known.now.book) × (t.1.known ≡ t.0.known)) }
 {
     let engine = Arc::new(alloc, engine).ok()?;
     let second = Arc::try_clone(&engine).ok()?;
@@ -280,7 +291,9 @@ fn open() -> (Known, Head)
 /// The writer, once it knows what is shown.
 fn settle<R: Wait>(rt: &R, writer: Copies) -> Copies
     requires { drop writer.behind writer.log.items ≡ [] }
-    ensures { (drop result.behind result.log.items ≡ []) × (result.desk.shown.value.known ≡ writer.desk.shown.value.known) × Knows (known_by result.desk.place) writer.desk.shown.value.known }
+    ensures { (drop result.behind result.log.items ≡ [])
+        × (result.desk.shown.value.known ≡ writer.desk.shown.value.known)
+        × Knows (known_by result.desk.place) writer.desk.shown.value.known }
 {
     let mut writer = writer;
     for _ in rt.forever() {
@@ -296,7 +309,9 @@ fn settle<R: Wait>(rt: &R, writer: Copies) -> Copies
 /// A pass that knows what the writer knows.
 fn pass_of(writer: &mut Copies, kept: &Shown) -> Result<Pass, NoMemory>
     requires { Knows (known_by writer.old.desk.place) kept.now.known }
-    ensures writer { (writer.new.desk.shown ≡ writer.old.desk.shown) × (drop writer.new.behind writer.new.log.items ≡ drop writer.old.behind writer.old.log.items) × (known_by writer.new.desk.place ≡ known_by writer.old.desk.place) }
+    ensures writer { (writer.new.desk.shown ≡ writer.old.desk.shown) × (drop
+        writer.new.behind writer.new.log.items ≡ drop writer.old.behind writer.old.log.items)
+        × (known_by writer.new.desk.place ≡ known_by writer.old.desk.place) }
     ensures pass { IfOk result (λ p. p ≡ new_pass (published kept.now.known)) }
 {
     let Ok(kept) = kept.again() else {
@@ -317,8 +332,11 @@ fn passes_of(
     passes: u32,
 ) -> Result<Vec<Pass>, NoMemory>
     requires { Knows (known_by writer.old.desk.place) kept.now.known }
-    ensures writer { (writer.new.desk.shown ≡ writer.old.desk.shown) × (drop writer.new.behind writer.new.log.items ≡ drop writer.old.behind writer.old.log.items) × (known_by writer.new.desk.place ≡ known_by writer.old.desk.place) }
-    ensures passes { IfOk result (λ v. v.items ≡ replicate passes (new_pass (published kept.now.known))) }
+    ensures writer { (writer.new.desk.shown ≡ writer.old.desk.shown) × (drop
+        writer.new.behind writer.new.log.items ≡ drop writer.old.behind writer.old.log.items)
+        × (known_by writer.new.desk.place ≡ known_by writer.old.desk.place) }
+    ensures passes { IfOk result
+        (λ v. v.items ≡ replicate passes (new_pass (published kept.now.known))) }
 {
     let mut all = Vec::new(alloc);
     for made in 0..passes {
@@ -339,7 +357,8 @@ fn copies<R: Wait>(
     readers: u32,
 ) -> Option<Copies>
     requires { (first.known ≡ second.known) × (0 < readers) }
-    ensures { IfSome result (λ w. (drop w.behind w.log.items ≡ []) × (w.desk.shown.value.known ≡ first.known) × Knows (known_by w.desk.place) first.known) }
+    ensures { IfSome result (λ w. (drop w.behind w.log.items ≡ []) × (w.desk.shown.value.known
+        ≡ first.known) × Knows (known_by w.desk.place) first.known) }
 {
     let Ok(writer) = Writer::new(alloc, first, second, readers as usize) else {
         return None;

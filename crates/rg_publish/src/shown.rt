@@ -43,7 +43,8 @@ impl Absorb<Shown> for Shown {
 impl Shown {
     /// The same once more. The engine is shared.
     pub fn again(&self) -> Result<Shown, AllocError>
-        ensures { IfOk result (λ s. (s.serial ≡ self.now.serial) × (s.seq ≡ self.now.seq) × (s.known ≡ self.now.known) × (arc_value s.engine ≡ arc_value self.now.engine)) }
+        ensures { IfOk result (λ s. (s.serial ≡ self.now.serial) × (s.seq ≡ self.now.seq)
+            × (s.known ≡ self.now.known) × (arc_value s.engine ≡ arc_value self.now.engine)) }
     {
         Ok(Shown {
             engine: Arc::try_clone(&self.engine)?,
@@ -56,7 +57,10 @@ impl Shown {
     /// Whether the other is later. Each of the two lists begins with the shorter one.
     pub fn is_before(&self, other: &Shown) -> bool
         requires { other.now.known.book ≡ self.now.known.book }
-        ensures { MatchBool result ((length self.now.known.log < length other.now.known.log) × IsPrefix self.now.known.log other.now.known.log) ((length other.now.known.log ≤ length self.now.known.log) × IsPrefix other.now.known.log self.now.known.log) }
+        ensures { MatchBool result ((length self.now.known.log < length other.now.known.log)
+            × IsPrefix self.now.known.log other.now.known.log)
+            ((length other.now.known.log ≤ length self.now.known.log)
+            × IsPrefix other.now.known.log self.now.known.log) }
     {
         let mut both = self.known.again();
         both.learn(&other.known);

@@ -177,7 +177,8 @@ fn command_line<'a>(alloc: Global) -> Result<clap::Command<'a>, AllocError>
 
 /// The words as `clap` reads them. Where all are plain and there is one, it refuses them for want of memory alone.
 fn matches_of<'a>(alloc: Global, words: &'a [String]) -> Result<ArgMatches<'a>, NoMemory>
-    ensures { IfOk result (λ matches. rows_of (found_of matches) ≡ matches_of words_app (map string_bytes words.entry.now)) }
+    ensures { IfOk result (λ matches. rows_of (found_of matches)
+        ≡ matches_of words_app (map string_bytes words.entry.now)) }
 {
     let line = command_line(alloc)?;
     match line.try_get_matches_from(words) {

@@ -51,7 +51,8 @@ fn keeper_in_memory(alloc: Global) -> Result<SqlKeeper<MemStore>, NoMemory> {
 
 /// The keeper of `keep`. No other command has one.
 fn keeper_for(alloc: Global, words: &[String]) -> Result<Option<SqlKeeper<MemStore>>, NoMemory>
-    ensures { IfOk result (λ keeper. takes_keeper (command_of (map string_bytes words.now)) ≡ true → IsSome keeper) }
+    ensures { IfOk result (λ keeper. takes_keeper (command_of (map string_bytes words.now)) ≡ true
+        → IsSome keeper) }
 {
     match command_of(alloc, words)? {
         Some(Command::Keep) => Ok(Some(keeper_in_memory(alloc)?)),

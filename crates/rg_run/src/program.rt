@@ -64,7 +64,8 @@ fn work_by<W: Worker + Drop, S: Source, K: Sink, C: Clock>(
     ensures run { IsRun (Stands _ (worked W.step worker 1))
         (ports (S.left source.old) (S.ended source.old) (S.faults source.old) (C.given clock.old) (K.held sink.old) (K.faults sink.old))
         (ports (S.left source.new) (S.ended source.new) (S.faults source.new) (C.given clock.new) (K.held sink.new) (K.faults sink.new)) result }
-    ensures clock_stays { (result ≡ Status.ReadFault) ⊎ (result ≡ Status.TooLong) → clock.new ≡ clock.old }
+    ensures clock_stays { (result ≡ Status.ReadFault)
+        ⊎ (result ≡ Status.TooLong) → clock.new ≡ clock.old }
 {
     let status = work_script(alloc, &mut worker, source, sink, clock);
     drop(worker);
@@ -81,12 +82,15 @@ fn judge_by<W: HookedWorker + Drop, S: Source, K: Sink, C: Clock, H: RequestHook
     hooks: &mut Vec<H>,
 ) -> Status
     requires { 1 ≤ length hooks.old.items }
-    ensures run { IsRun (StandsHooked _ (worked (with_enrichers W.hooked_step) (hooked worker (first_hooks H.sinks H.enrichers hooks.old.items).enrichers) 1)
+    ensures run { IsRun (StandsHooked _ (worked (with_enrichers W.hooked_step)
+        (hooked worker (first_hooks H.sinks H.enrichers hooks.old.items).enrichers) 1)
         (first_hooks H.sinks H.enrichers hooks.old.items) (first_hooks H.sinks H.enrichers hooks.new.items))
         (ports (S.left source.old) (S.ended source.old) (S.faults source.old) (C.given clock.old) (K.held sink.old) (K.faults sink.old))
         (ports (S.left source.new) (S.ended source.new) (S.faults source.new) (C.given clock.new) (K.held sink.new) (K.faults sink.new)) result }
-    ensures clock_stays { (result ≡ Status.ReadFault) ⊎ (result ≡ Status.TooLong) → clock.new ≡ clock.old }
-    ensures unheard { (result ≡ Status.Usage) ⊎ ((result ≡ Status.ReadFault) ⊎ (result ≡ Status.TooLong)) → hooks.new.items ≡ hooks.old.items }
+    ensures clock_stays { (result ≡ Status.ReadFault)
+        ⊎ (result ≡ Status.TooLong) → clock.new ≡ clock.old }
+    ensures unheard { (result ≡ Status.Usage) ⊎ ((result ≡ Status.ReadFault)
+        ⊎ (result ≡ Status.TooLong)) → hooks.new.items ≡ hooks.old.items }
     ensures others { drop 1 hooks.new.items ≡ drop 1 hooks.old.items }
     ensures as_many { length hooks.new.items ≡ length hooks.old.items }
 {
@@ -106,12 +110,15 @@ fn keep<P: Keeper + Drop, S: Source, K: Sink, C: Clock, H: RequestHooks>(
 ) -> Status
     requires keeper { IsSome keeper.old }
     requires workers { 1 ≤ length hooks.old.items }
-    ensures run { IsRun (Keeps (shelf_of P.kept P.faults keeper.old) (shelf_of P.kept P.faults keeper.new)
+    ensures run { IsRun
+        (Keeps (shelf_of P.kept P.faults keeper.old) (shelf_of P.kept P.faults keeper.new)
         (first_hooks H.sinks H.enrichers hooks.old.items) (first_hooks H.sinks H.enrichers hooks.new.items))
         (ports (S.left source.old) (S.ended source.old) (S.faults source.old) (C.given clock.old) (K.held sink.old) (K.faults sink.old))
         (ports (S.left source.new) (S.ended source.new) (S.faults source.new) (C.given clock.new) (K.held sink.new) (K.faults sink.new)) result }
-    ensures clock_stays { (result ≡ Status.ReadFault) ⊎ (result ≡ Status.TooLong) → clock.new ≡ clock.old }
-    ensures unheard { (result ≡ Status.Usage) ⊎ ((result ≡ Status.ReadFault) ⊎ (result ≡ Status.TooLong)) → hooks.new.items ≡ hooks.old.items }
+    ensures clock_stays { (result ≡ Status.ReadFault)
+        ⊎ (result ≡ Status.TooLong) → clock.new ≡ clock.old }
+    ensures unheard { (result ≡ Status.Usage) ⊎ ((result ≡ Status.ReadFault)
+        ⊎ (result ≡ Status.TooLong)) → hooks.new.items ≡ hooks.old.items }
     ensures others { drop 1 hooks.new.items ≡ drop 1 hooks.old.items }
     ensures as_many { length hooks.new.items ≡ length hooks.old.items }
     ensures put_back { IsSome keeper.new }
@@ -160,13 +167,19 @@ fn answer<
         (around (door (N.given net.new) (N.ended net.new) (N.faults net.new)) (shelf_of P.kept P.faults keeper.new) (first_hooks H.sinks H.enrichers hooks.new.items)) task.now.command)
         (ports (S.left source.old) (S.ended source.old) (S.faults source.old) (C.given clock.old) (K.held sink.old) (K.faults sink.old))
         (ports (S.left source.new) (S.ended source.new) (S.faults source.new) (C.given clock.new) (K.held sink.new) (K.faults sink.new)) result }
-    ensures clock_stays { (result ≡ Status.ReadFault) ⊎ (result ≡ Status.TooLong) → clock.new ≡ clock.old }
-    ensures untouched { reads task.now.command ≡ false → (source.new ≡ source.old) × (clock.new ≡ clock.old) }
+    ensures clock_stays { (result ≡ Status.ReadFault)
+        ⊎ (result ≡ Status.TooLong) → clock.new ≡ clock.old }
+    ensures untouched { reads task.now.command ≡ false
+        → (source.new ≡ source.old) × (clock.new ≡ clock.old) }
     ensures unserved { serves task.now.command ≡ false → net.new ≡ net.old }
     ensures taken { serves task.now.command ≡ true → hooks.new.items ≡ [] }
-    ensures others { serves task.now.command ≡ false → (drop 1 hooks.new.items ≡ drop 1 hooks.old.items) × (length hooks.new.items ≡ length hooks.old.items) }
-    ensures unhooked { serves task.now.command ≡ false → judges task.now.command ≡ false → hooks.new.items ≡ hooks.old.items }
-    ensures unheard { serves task.now.command ≡ false → (result ≡ Status.Usage) ⊎ ((result ≡ Status.ReadFault) ⊎ (result ≡ Status.TooLong)) → hooks.new.items ≡ hooks.old.items }
+    ensures others { serves task.now.command ≡ false → (drop 1 hooks.new.items
+        ≡ drop 1 hooks.old.items) × (length hooks.new.items ≡ length hooks.old.items) }
+    ensures unhooked { serves task.now.command ≡ false
+        → judges task.now.command ≡ false → hooks.new.items ≡ hooks.old.items }
+    ensures unheard { serves task.now.command ≡ false
+        → (result ≡ Status.Usage) ⊎ ((result ≡ Status.ReadFault) ⊎ (result ≡ Status.TooLong))
+        → hooks.new.items ≡ hooks.old.items }
     ensures unkept { takes_keeper task.now.command ≡ false → keeper.new ≡ keeper.old }
     ensures put_back { takes_keeper task.now.command ≡ true → IsSome keeper.new }
 {
@@ -232,7 +245,8 @@ pub fn run<
     keeper: &mut Option<P>,
 ) -> u8
     requires workers { (1 ≤ length hooks.old.items) × (length hooks.old.items ≤ 64) }
-    requires keeper { takes_keeper (command_of (map string_bytes words.now)) ≡ true → IsSome keeper.old }
+    requires keeper { takes_keeper (command_of (map string_bytes words.now)) ≡ true
+        → IsSome keeper.old }
     // Each status comes as `Answers` says: with Done and BadLine the sink got exactly the text of the command's definition over the source's
     // lines and the clock's moments, after a failed write a prefix of the one text that belongs to the words, the bytes and these moments,
     // and a count of faults rose exactly where the status says so. After links were served the totals are those of `AreTotals`. After `keep`
@@ -245,25 +259,33 @@ pub fn run<
 
     // Words that ask for no command, and a drill, leave source and clock alone, and limits are decided before the clock is asked. Other
     // commands than `serve` leave the listener alone, and other commands than `keep` the keeper.
-    ensures untouched { reads (command_of (map string_bytes words.now)) ≡ false → (source.new ≡ source.old) × (clock.new ≡ clock.old) }
+    ensures untouched { reads (command_of (map string_bytes words.now)) ≡ false
+        → (source.new ≡ source.old) × (clock.new ≡ clock.old) }
     ensures clock_stays { (result ≡ 1) ⊎ ((result ≡ 3) ⊎ (result ≡ 6)) → clock.new ≡ clock.old }
-    ensures unserved { serves (command_of (map string_bytes words.now)) ≡ false → net.new ≡ net.old }
-    ensures unkept { takes_keeper (command_of (map string_bytes words.now)) ≡ false → keeper.new ≡ keeper.old }
-    ensures put_back { takes_keeper (command_of (map string_bytes words.now)) ≡ true → IsSome keeper.new }
+    ensures unserved { serves (command_of (map string_bytes words.now)) ≡ false
+        → net.new ≡ net.old }
+    ensures unkept { takes_keeper (command_of (map string_bytes words.now)) ≡ false
+        → keeper.new ≡ keeper.old }
+    ensures put_back { takes_keeper (command_of (map string_bytes words.now)) ≡ true
+        → IsSome keeper.new }
 
     // The hooks. `serve` takes them and leaves none. All other commands leave them there, and those of other workers than worker 0 as they
     // were. `replay`, `grants` and `keep` enrich and audit by those of worker 0, as `Answers` says; before a script is worked they are as
     // they were.
-    ensures taken { serves (command_of (map string_bytes words.now)) ≡ true → (hooks.new.items ≡ []) ⊎ ((result ≡ 9) × (hooks.new.items ≡ hooks.old.items)) }
+    ensures taken { serves (command_of (map string_bytes words.now)) ≡ true
+        → (hooks.new.items ≡ []) ⊎ ((result ≡ 9) × (hooks.new.items ≡ hooks.old.items)) }
     ensures others { serves (command_of (map string_bytes words.now)) ≡ false →
         (drop 1 hooks.new.items ≡ drop 1 hooks.old.items) × (length hooks.new.items ≡ length hooks.old.items) }
-    ensures unhooked { serves (command_of (map string_bytes words.now)) ≡ false → judges (command_of (map string_bytes words.now)) ≡ false →
+    ensures unhooked { serves (command_of (map string_bytes words.now)) ≡ false
+        → judges (command_of (map string_bytes words.now)) ≡ false →
         hooks.new.items ≡ hooks.old.items }
-    ensures unheard { serves (command_of (map string_bytes words.now)) ≡ false → (result ≡ 1) ⊎ ((result ≡ 3) ⊎ (result ≡ 6)) → hooks.new.items ≡ hooks.old.items }
+    ensures unheard { serves (command_of (map string_bytes words.now)) ≡ false
+        → (result ≡ 1) ⊎ ((result ≡ 3) ⊎ (result ≡ 6)) → hooks.new.items ≡ hooks.old.items }
 
     // Completeness: a command, bytes within the limits and no fault give the script's status, or want of memory, or with `keep` a bad
     // record.
-    ensures complete { (command : Command) → command_of (map string_bytes words.now) ≡ Some command →
+    ensures complete { (command : Command)
+        → command_of (map string_bytes words.now) ≡ Some command →
         S.faults source.new ≡ S.faults source.old → K.faults sink.new ≡ K.faults sink.old → N.faults net.new ≡ N.faults net.old →
         (shelf_of P.kept P.faults keeper.new).faults ≡ (shelf_of P.kept P.faults keeper.old).faults →
         (bytes : List ℕ) → S.left source.old ≡ Some bytes → is_too_long bytes ≡ false →

@@ -67,8 +67,10 @@ fn decide_one<W: Wait, L: Ledger>(
 ) -> Result<Access, NoMemory>
     ensures same { running.new ≡ running.old }
     ensures drawn { OnOk result (generator.new ≡ (request_of policies generator.old).next) }
-    ensures access { IfOk result (λ access. Ends running.old.published (λ p. access ≡ (eval p.facts (request_of policies generator.old).value).access)) }
-    ensures tries { IfOk result (λ access. Ends running.old.published (λ p. steps.new.tries ≤ steps.old.tries + bound_on p.facts (request_of policies generator.old).value)) }
+    ensures access { IfOk result (λ access. Ends running.old.published
+        (λ p. access ≡ (eval p.facts (request_of policies generator.old).value).access)) }
+    ensures tries { IfOk result (λ access. Ends running.old.published (λ p. steps.new.tries
+        ≤ steps.old.tries + bound_on p.facts (request_of policies generator.old).value)) }
 {
     let request = generator.request(alloc, policies)?;
     let decision = running.decide(alloc, &request, steps)?;
@@ -85,7 +87,8 @@ pub(crate) fn decide_all<W: Wait, L: Ledger>(
     steps: &mut Steps<L>,
 ) -> Result<Answers, NoMemory>
     ensures same { running.new ≡ running.old }
-    ensures answers { IfOk result (λ a. (p : Publication) → newest running.old ≡ Some p → a ≡ answers_to p.facts (requests_of policies requests generator.old).value) }
+    ensures answers { IfOk result (λ a. (p : Publication) → newest running.old ≡ Some p
+        → a ≡ answers_to p.facts (requests_of policies requests generator.old).value) }
     ensures tries { IfOk result (λ a. (p : Publication) → newest running.old ≡ Some p
         → steps.new.tries ≤ steps.old.tries + sum_by (bound_on p.facts) (requests_of policies requests generator.old).value) }
 {

@@ -72,7 +72,8 @@ pub(crate) fn prepare<W: Wait, L: Ledger>(
     policies: u32,
     steps: &mut Steps<L>,
 ) -> Result<(), NoMemory>
-    ensures prepared { OnOk result (prepared (Some running.old) policies policies generator.old ≡ Some running.new) }
+    ensures prepared { OnOk result (prepared (Some running.old) policies policies generator.old
+        ≡ Some running.new) }
     ensures drawn { OnOk result (generator.new ≡ (policies_of policies generator.old).next) }
     ensures tries { steps.new.tries ≡ steps.old.tries }
 {

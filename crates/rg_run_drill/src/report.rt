@@ -48,7 +48,8 @@ fn add_requests_line(text: &mut String, t: &Totals) -> Result<(), NoMemory>
 
 /// Adds the two lines of the numbers.
 pub fn add_report(text: &mut String, totals: &Totals) -> Result<(), NoMemory>
-    ensures { OnOk result (string_bytes text.new ≡ string_bytes text.old ++ report_text totals.now) }
+    ensures { OnOk result (string_bytes text.new
+        ≡ string_bytes text.old ++ report_text totals.now) }
 {
     add_policies_line(text, totals)?;
     add_requests_line(text, totals)

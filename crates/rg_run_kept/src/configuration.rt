@@ -57,7 +57,8 @@ impl Configuration {
     #[tactic(auto, unfolding(crate::specs::Configuring::config_taken))]
     fn take(&mut self, alloc: Global, config: Config) -> Result<(), LineFault>
         ensures worked { OnOk result (IsWorked (config_taken self.old config) self.new [] []) }
-        ensures bad { result ≡ Err LineFault.Bad → (config_taken self.old config ≡ None) × (self.new ≡ self.old) }
+        ensures bad { result ≡ Err LineFault.Bad
+            → (config_taken self.old config ≡ None) × (self.new ≡ self.old) }
     {
         if self.config.is_some() {
             return Err(LineFault::Bad);

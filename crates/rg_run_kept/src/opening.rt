@@ -40,7 +40,8 @@ pub(crate) fn check_records<P: Keeper + Drop>(
 ) -> (P, Result<(), ReopenCause>)
     ensures same { P.kept result.0 ≡ P.kept keeper }
     ensures good { OnOk result.1 (Reopens (P.kept keeper) config.now) }
-    ensures cause { IfErr result.1 (λ cause. IsCause cause (P.kept keeper) config.now (P.faults keeper) (P.faults result.0)) }
+    ensures cause { IfErr result.1
+        (λ cause. IsCause cause (P.kept keeper) config.now (P.faults keeper) (P.faults result.0)) }
 {
     let Ok(copy) = config.try_copy(alloc) else {
         return (keeper, Err(ReopenCause::NoMemory));
@@ -138,7 +139,8 @@ fn ask_again<J: Configured, P: Keeper + Drop, Q: Wait + Drop, R: Wait>(
 
 /// The administration of the configuration.
 fn begin(alloc: Global, config: Config) -> Result<Admin, ReopenCause>
-    ensures started { IfOk result (λ a. (a ≡ started config) × IsStart a × (start_fault config ≡ None)) }
+    ensures started { IfOk result (λ a. (a ≡ started config)
+        × IsStart a × (start_fault config ≡ None)) }
 {
     match Admin::start(alloc, config) {
         Ok(admin) => Ok(admin),

@@ -72,7 +72,8 @@ fn name<K: Sink>(sink: &mut K, text: &str, status: Status) -> Status
 
 /// Names the record at the place.
 fn name_record<K: Sink>(alloc: Global, sink: &mut K, place: u64) -> Status
-    ensures { (result ≡ Status.BadRecord) ⊎ ((result ≡ Status.WriteFault) ⊎ (result ≡ Status.NoMemory)) }
+    ensures { (result ≡ Status.BadRecord)
+        ⊎ ((result ≡ Status.WriteFault) ⊎ (result ≡ Status.NoMemory)) }
 {
     let mut text = String::new(alloc);
     match writeln!(&mut text, "bad record {place}") {
@@ -104,8 +105,10 @@ fn configuration<K: Sink, C: Clock>(
     clock: &mut C,
 ) -> Result<(Config, Epoch), Status>
     requires { length bytes.now < 2 ^ 32 }
-    ensures told { IfOk result (λ t. IsTold bytes.now (C.given clock.old) (C.given clock.new) t.0 × (start_fault t.0 ≡ None)) }
-    ensures stopped { IfErr result (λ status. (status ≡ Status.BadLine) ⊎ ((status ≡ Status.WriteFault) ⊎ (status ≡ Status.NoMemory))) }
+    ensures told { IfOk result (λ t. IsTold bytes.now (C.given clock.old) (C.given clock.new) t.0
+        × (start_fault t.0 ≡ None)) }
+    ensures stopped { IfErr result (λ status. (status ≡ Status.BadLine)
+        ⊎ ((status ≡ Status.WriteFault) ⊎ (status ≡ Status.NoMemory))) }
 {
     let mut told = Configuration::new();
     let Ok(worked) = follow(alloc, &mut told, bytes, clock) else {
@@ -130,7 +133,8 @@ fn configuration<K: Sink, C: Clock>(
 /// The epoch with the first of the keeper's records, where it has one. The records stay as they are.
 fn epoch_over<P: Keeper>(alloc: Global, keeper: &mut P, epoch: Epoch) -> Result<Epoch, Status>
     ensures same { P.kept keeper.new ≡ P.kept keeper.old }
-    ensures fault { IfErr result (λ status. (status ≡ Status.KeepFault) ⊎ (status ≡ Status.NoMemory)) }
+    ensures fault { IfErr result (λ status. (status ≡ Status.KeepFault)
+        ⊎ (status ≡ Status.NoMemory)) }
 {
     match keeper.fetch(alloc, 0) {
         Ok(Some(first)) => Ok(epoch.with_record(first.as_slice())),
@@ -143,7 +147,8 @@ fn epoch_over<P: Keeper>(alloc: Global, keeper: &mut P, epoch: Epoch) -> Result<
 /// The last line of a service that has served its links.
 #[tactic(auto, unfolding(crate::specs::Kept::totals_line))]
 fn add_totals(text: &mut String, totals: &Numbers) -> Result<(), NoMemory>
-    ensures { OnOk result (string_bytes text.new ≡ string_bytes text.old ++ totals_line totals.now) }
+    ensures { OnOk result (string_bytes text.new
+        ≡ string_bytes text.old ++ totals_line totals.now) }
 {
     let Numbers {
         links,
@@ -166,7 +171,8 @@ fn close<J: Configured, P: Keeper + Drop, R: Wait + Drop>(
     alloc: Global,
     served: Served<ListRecorder<J, P, R>>,
 ) -> Result<(ListRecorder<J, P, R>, String), NoMemory>
-    ensures { IfOk result (λ t. is_none t.0.next ≡ true → IsKeptOr t.0.stopped (P.kept t.0.keeper) J.config served.totals.admin) }
+    ensures { IfOk result (λ t. is_none t.0.next ≡ true
+        → IsKeptOr t.0.stopped (P.kept t.0.keeper) J.config served.totals.admin) }
 {
     let Served { links, totals } = served;
     let Totals {
@@ -192,7 +198,8 @@ fn close<J: Configured, P: Keeper + Drop, R: Wait + Drop>(
 
 /// What a service ends with whose links could not all be served.
 fn broken(signals: &Signals, fault: ServeFault) -> Status
-    ensures { (result ≡ Status.NetFault) ⊎ ((result ≡ Status.KeepFault) ⊎ (result ≡ Status.NoMemory)) }
+    ensures { (result ≡ Status.NetFault)
+        ⊎ ((result ≡ Status.KeepFault) ⊎ (result ≡ Status.NoMemory)) }
 {
     match fault {
         ServeFault::Failed => Status::NetFault,
@@ -210,9 +217,12 @@ fn end<J: Configured, P: Keeper + Drop, R: Wait + Drop, K: Sink>(
     served: Served<ListRecorder<J, P, R>>,
     sink: &mut K,
 ) -> Ended<P>
-    ensures done { result.status ≡ Status.Done → IsKeptIn (option_map P.kept result.keeper) J.config served.totals.admin }
-    ensures given_up { IsSome result.keeper → (result.status ≡ Status.Done) ⊎ (result.status ≡ Status.WriteFault) }
-    ensures statuses { (result.status ≡ Status.Done) ⊎ ((result.status ≡ Status.WriteFault) ⊎ (result.status ≡ Status.NoMemory)) }
+    ensures done { result.status ≡ Status.Done
+        → IsKeptIn (option_map P.kept result.keeper) J.config served.totals.admin }
+    ensures given_up { IsSome result.keeper
+        → (result.status ≡ Status.Done) ⊎ (result.status ≡ Status.WriteFault) }
+    ensures statuses { (result.status ≡ Status.Done)
+        ⊎ ((result.status ≡ Status.WriteFault) ⊎ (result.status ≡ Status.NoMemory)) }
 {
     let Ok((recorder, text)) = close(alloc, served) else {
         return give_up(Status::NoMemory);
@@ -250,8 +260,10 @@ fn serve_named<
     requires config { J.config ≡ config }
     requires workers { (1 ≤ length hooks.items) × (length hooks.items ≤ 64) }
     ensures done { result.status ≡ Status.Done → IsServed config (option_map P.kept result.keeper) }
-    ensures given_up { IsSome result.keeper → (result.status ≡ Status.Done) ⊎ (result.status ≡ Status.WriteFault) }
-    ensures statuses { (result.status ≡ Status.Done) ⊎ ((result.status ≡ Status.NetFault) ⊎ IsHindrance result.status) }
+    ensures given_up { IsSome result.keeper
+        → (result.status ≡ Status.Done) ⊎ (result.status ≡ Status.WriteFault) }
+    ensures statuses { (result.status ≡ Status.Done)
+        ⊎ ((result.status ≡ Status.NetFault) ⊎ IsHindrance result.status) }
 {
     let workers = hooks.len() as u32;
     let (opened, signals) = match open_kept::<J, P, &R, R>(
@@ -302,12 +314,15 @@ pub fn serve_kept<
     requires { (1 ≤ length hooks.items) × (length hooks.items ≤ 64) }
     // With Done the keeper's list is opened again, under the configuration that the source told, as the administration after the whole
     // history; or, after a fault of the keeper, as that with one accepted command more, which nobody was told of.
-    ensures done { result.status ≡ Status.Done → HasServed (S.left source.old) (C.given clock.old) (option_map P.kept result.keeper) }
+    ensures done { result.status ≡ Status.Done
+        → HasServed (S.left source.old) (C.given clock.old) (option_map P.kept result.keeper) }
     ensures usage { result.status ≢ Status.Usage }
     // A bad line, and a bad record that was found before any was asked again, leave the list as it was.
-    ensures unchanged { (result.status ≡ Status.BadLine) ⊎ ((result.status ≡ Status.ReadFault) ⊎ (result.status ≡ Status.TooLong)) →
+    ensures unchanged { (result.status ≡ Status.BadLine)
+        ⊎ ((result.status ≡ Status.ReadFault) ⊎ (result.status ≡ Status.TooLong)) →
         option_map P.kept result.keeper ≡ Some (P.kept keeping.keeper) }
-    ensures found { result.status ≡ Status.BadRecord → IsSome result.keeper → option_map P.kept result.keeper ≡ Some (P.kept keeping.keeper) }
+    ensures found { result.status ≡ Status.BadRecord
+        → IsSome result.keeper → option_map P.kept result.keeper ≡ Some (P.kept keeping.keeper) }
 {
     let Keeping {
         mut keeper,

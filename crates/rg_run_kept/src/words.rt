@@ -25,7 +25,14 @@ fn is_metrics(word: &str) -> bool
 
 /// Nothing but a file and an address, and a file of audit lines, which isn't called as the word before another address.
 fn with_audit<'a>(file: &'a str, address: &'a str, audit: &'a str) -> Option<Words<'a>>
-    ensures { option_map (λ w. record { file = w.file.now; address = w.address.now; audit = option_map (λ a. a.now) w.audit; metrics = option_map (λ m. m.now) w.metrics }) result
+    ensures { option_map
+        (λ w. record {
+          file = w.file.now;
+          address = w.address.now;
+          audit = option_map
+              (λ a. a.now) w.audit;
+          metrics = option_map (λ m. m.now) w.metrics;
+        }) result
         ≡ with_audit file.entry.now address.entry.now audit.entry.now }
 {
     if is_metrics(audit) {
@@ -47,7 +54,14 @@ fn with_metrics<'a>(
     word: &str,
     metrics: &'a str,
 ) -> Option<Words<'a>>
-    ensures { option_map (λ w. record { file = w.file.now; address = w.address.now; audit = option_map (λ a. a.now) w.audit; metrics = option_map (λ m. m.now) w.metrics }) result
+    ensures { option_map
+        (λ w. record {
+          file = w.file.now;
+          address = w.address.now;
+          audit = option_map
+              (λ a. a.now) w.audit;
+          metrics = option_map (λ m. m.now) w.metrics;
+        }) result
         ≡ with_metrics file.entry.now address.entry.now (option_map (λ a. a.now) audit.entry) word.now metrics.entry.now }
 {
     if !is_metrics(word) {
@@ -63,7 +77,14 @@ fn with_metrics<'a>(
 
 /// What the words ask for.
 pub(crate) fn wanted_of<'a>(words: &'a [String]) -> Option<Words<'a>>
-    ensures { option_map (λ w. record { file = w.file.now; address = w.address.now; audit = option_map (λ a. a.now) w.audit; metrics = option_map (λ m. m.now) w.metrics }) result
+    ensures { option_map
+        (λ w. record {
+          file = w.file.now;
+          address = w.address.now;
+          audit = option_map
+              (λ a. a.now) w.audit;
+          metrics = option_map (λ m. m.now) w.metrics;
+        }) result
         ≡ wanted_of (map string_bytes words.entry.now) }
 {
     match words {

@@ -199,7 +199,8 @@ fn serve<R: Threads + Wait + Sync + rt::Clock>(
     threads: &R,
     words: &Words,
 ) -> Result<(), Status>
-    ensures { IfErr result (λ status. (status ≡ Status.WriteFault) ⊎ ((status ≡ Status.NetFault) ⊎ (status ≡ Status.NoMemory))) }
+    ensures { IfErr result (λ status. (status ≡ Status.WriteFault)
+        ⊎ ((status ≡ Status.NetFault) ⊎ (status ≡ Status.NoMemory))) }
 {
     let administration = TcpAdministration {
         net: rt,

@@ -64,7 +64,14 @@ fn wanted<'a>(
     seconds: &str,
     audit: Option<&'a str>,
 ) -> Option<Words<'a>>
-    ensures { option_map (λ w. record { administration = w.administration.now; service = w.service.now; cache = w.cache.now; address = w.address.now; seconds = w.seconds; audit = option_map (λ a. a.now) w.audit }) result
+    ensures { option_map (λ w. record {
+      administration = w.administration.now;
+      service = w.service.now;
+      cache = w.cache.now;
+      address = w.address.now;
+      seconds = w.seconds;
+      audit = option_map (λ a. a.now) w.audit;
+    }) result
         ≡ wanted administration.entry.now service.entry.now cache.entry.now address.entry.now seconds.now (option_map (λ a. a.now) audit.entry) }
 {
     if !is_plain(administration) || !is_plain(service) {
@@ -85,7 +92,14 @@ fn wanted<'a>(
 
 /// What the words ask for.
 pub(crate) fn wanted_of<'a>(words: &'a [String]) -> Option<Words<'a>>
-    ensures { option_map (λ w. record { administration = w.administration.now; service = w.service.now; cache = w.cache.now; address = w.address.now; seconds = w.seconds; audit = option_map (λ a. a.now) w.audit }) result
+    ensures { option_map (λ w. record {
+      administration = w.administration.now;
+      service = w.service.now;
+      cache = w.cache.now;
+      address = w.address.now;
+      seconds = w.seconds;
+      audit = option_map (λ a. a.now) w.audit;
+    }) result
         ≡ wanted_of (map string_bytes words.entry.now) }
 {
     match words {

@@ -132,7 +132,8 @@ impl<'a, R: Wait> Model for Replay<'a, R> {
 /// Adds the line of a refresh.
 #[tactic(auto, unfolding(crate::specs::Replay::refresh_line))]
 fn add_refresh(text: &mut String, published: Option<Serial>) -> Result<(), NoMemory>
-    ensures { OnOk result (string_bytes text.new ≡ string_bytes text.old ++ refresh_line published) }
+    ensures { OnOk result (string_bytes text.new
+        ≡ string_bytes text.old ++ refresh_line published) }
 {
     let written = match published {
         Some(Serial(serial)) => writeln!(text, "{{\"published\":{serial}}}"),
@@ -204,7 +205,8 @@ fn ask_and_print<R: Wait>(
     ask: Ask,
     text: &mut String,
 ) -> Result<(), NoMemory>
-    ensures { OnOk result (IsWorked (admin_work (Stage.Config administered.old) ask) (Stage.Config administered.new) (string_bytes text.old) (string_bytes text.new)) }
+    ensures { OnOk result (IsWorked (admin_work (Stage.Config administered.old) ask)
+        (Stage.Config administered.new) (string_bytes text.old) (string_bytes text.new)) }
 {
     let reply = administered.running.ask(rt, alloc, ask)?;
     add_reply(alloc, text, reply)
@@ -217,7 +219,8 @@ fn refresh_and_print<R: Wait>(
     administered: &mut Administered<R>,
     text: &mut String,
 ) -> Result<(), NoMemory>
-    ensures { OnOk result (IsWorked (refresh_work (Stage.Config administered.old)) (Stage.Config administered.new) (string_bytes text.old) (string_bytes text.new)) }
+    ensures { OnOk result (IsWorked (refresh_work (Stage.Config administered.old))
+        (Stage.Config administered.new) (string_bytes text.old) (string_bytes text.new)) }
 {
     let published = administered
         .running
@@ -245,7 +248,8 @@ impl<'a, R: Wait> Replay<'a, R> {
 
     /// A copy of the facts of what is published last; None where nothing is.
     pub fn newest_facts(&self, alloc: Global) -> Result<Option<Facts>, NoMemory>
-        ensures newest { IfOk result (λ facts. facts ≡ option_map (λ p. p.facts) (newest_of self.now)) }
+        ensures newest { IfOk result
+            (λ facts. facts ≡ option_map (λ p. p.facts) (newest_of self.now)) }
         ensures sound { IfOk result (λ facts. AreSound facts) }
     {
         match &self.stage {
@@ -279,7 +283,8 @@ impl<'a, R: Wait> Replay<'a, R> {
     #[tactic(auto, unfolding(crate::specs::Replay::facts_work))]
     fn begin(&mut self, alloc: Global, facts: Facts) -> Result<(), LineFault>
         ensures worked { OnOk result (IsWorked (facts_work self.old facts) self.new [] []) }
-        ensures bad { result ≡ Err LineFault.Bad → (facts_work self.old facts ≡ None) × (self.new ≡ self.old) }
+        ensures bad { result ≡ Err LineFault.Bad
+            → (facts_work self.old facts ≡ None) × (self.new ≡ self.old) }
     {
         match self.stage {
             Stage::Empty => {}
@@ -299,7 +304,8 @@ impl<'a, R: Wait> Replay<'a, R> {
     #[tactic(auto, unfolding(crate::specs::Replay::config_work))]
     fn start(&mut self, alloc: Global, config: Config) -> Result<(), LineFault>
         ensures worked { OnOk result (IsWorked (config_work self.old config) self.new [] []) }
-        ensures bad { result ≡ Err LineFault.Bad → (config_work self.old config ≡ None) × (self.new ≡ self.old) }
+        ensures bad { result ≡ Err LineFault.Bad
+            → (config_work self.old config ≡ None) × (self.new ≡ self.old) }
     {
         match self.stage {
             Stage::Empty => {}
@@ -318,9 +324,12 @@ impl<'a, R: Wait> Replay<'a, R> {
     /// Asks the administration, and prints its reply.
     #[tactic(auto, unfolding(crate::specs::Replay::admin_work))]
     fn ask(&mut self, alloc: Global, ask: Ask, text: &mut String) -> Result<(), LineFault>
-        ensures worked { OnOk result (IsWorked (admin_work self.old ask) self.new (string_bytes text.old) (string_bytes text.new)) }
-        ensures bad { result ≡ Err LineFault.Bad → (admin_work self.old ask ≡ None) × (self.new ≡ self.old) }
-        ensures unwritten { result ≡ Err LineFault.Bad → string_bytes text.new ≡ string_bytes text.old }
+        ensures worked { OnOk result (IsWorked (admin_work self.old ask) self.new
+            (string_bytes text.old) (string_bytes text.new)) }
+        ensures bad { result ≡ Err LineFault.Bad
+            → (admin_work self.old ask ≡ None) × (self.new ≡ self.old) }
+        ensures unwritten { result ≡ Err LineFault.Bad
+            → string_bytes text.new ≡ string_bytes text.old }
     {
         match &mut self.stage {
             Stage::Config(administered) => match ask_and_print(
@@ -340,9 +349,12 @@ impl<'a, R: Wait> Replay<'a, R> {
     /// Refreshes the plugin, and prints what was published.
     #[tactic(auto, unfolding(crate::specs::Replay::refresh_work))]
     fn refresh(&mut self, alloc: Global, text: &mut String) -> Result<(), LineFault>
-        ensures worked { OnOk result (IsWorked (refresh_work self.old) self.new (string_bytes text.old) (string_bytes text.new)) }
-        ensures bad { result ≡ Err LineFault.Bad → (refresh_work self.old ≡ None) × (self.new ≡ self.old) }
-        ensures unwritten { result ≡ Err LineFault.Bad → string_bytes text.new ≡ string_bytes text.old }
+        ensures worked { OnOk result (IsWorked
+            (refresh_work self.old) self.new (string_bytes text.old) (string_bytes text.new)) }
+        ensures bad { result ≡ Err LineFault.Bad
+            → (refresh_work self.old ≡ None) × (self.new ≡ self.old) }
+        ensures unwritten { result ≡ Err LineFault.Bad
+            → string_bytes text.new ≡ string_bytes text.old }
     {
         match &mut self.stage {
             Stage::Config(administered) => match refresh_and_print(
@@ -366,9 +378,11 @@ impl<'a, R: Wait> Replay<'a, R> {
         text: &mut String,
     ) -> Result<Option<AccessRequest>, LineFault>
         ensures request { IfOk result (λ request. request ≡ request_in line) }
-        ensures worked { OnOk result (IsWorked (prepare_work self.old line) self.new (string_bytes text.old) (string_bytes text.new)) }
+        ensures worked { OnOk result (IsWorked (prepare_work self.old line) self.new
+            (string_bytes text.old) (string_bytes text.new)) }
         ensures bad { result ≡ Err LineFault.Bad → prepare_work self.old line ≡ None }
-        ensures unchanged { result ≡ Err LineFault.Bad → (self.new ≡ self.old) × (string_bytes text.new ≡ string_bytes text.old) }
+        ensures unchanged { result ≡ Err LineFault.Bad
+            → (self.new ≡ self.old) × (string_bytes text.new ≡ string_bytes text.old) }
     {
         match line {
             Line::Blank => Ok(None),
@@ -402,10 +416,16 @@ impl<'a, R: Wait> Replay<'a, R> {
         hooks: &mut H,
     ) -> Result<(), LineFault>
         ensures same { self.new ≡ self.old }
-        ensures worked { OnOk result (IsWorked (judge_work self.old (H.enrichers hooks.old) request.old) (hooked self.old (H.enrichers hooks.new)) (string_bytes text.old) (string_bytes text.new)) }
-        ensures audited { OnOk result (IsAudited (judge_work self.old (H.enrichers hooks.old) request.old) (hooks_of (H.sinks hooks.old) (H.enrichers hooks.old)) (hooks_of (H.sinks hooks.new) (H.enrichers hooks.new))) }
-        ensures bad { result ≡ Err LineFault.Bad → judge_work self.old (H.enrichers hooks.old) request.old ≡ None }
-        ensures unchanged { result ≡ Err LineFault.Bad → (string_bytes text.new ≡ string_bytes text.old) × (H.enrichers hooks.new ≡ H.enrichers hooks.old) }
+        ensures worked { OnOk result
+            (IsWorked (judge_work self.old (H.enrichers hooks.old) request.old) (hooked self.old
+            (H.enrichers hooks.new)) (string_bytes text.old) (string_bytes text.new)) }
+        ensures audited { OnOk result (IsAudited (judge_work self.old (H.enrichers hooks.old)
+            request.old) (hooks_of (H.sinks hooks.old) (H.enrichers hooks.old))
+            (hooks_of (H.sinks hooks.new) (H.enrichers hooks.new))) }
+        ensures bad { result ≡ Err LineFault.Bad
+            → judge_work self.old (H.enrichers hooks.old) request.old ≡ None }
+        ensures unchanged { result ≡ Err LineFault.Bad → (string_bytes text.new
+            ≡ string_bytes text.old) × (H.enrichers hooks.new ≡ H.enrichers hooks.old) }
         ensures unheard { OnErr result (H.sinks hooks.new ≡ H.sinks hooks.old) }
         ensures in_part { OnErr result (HaveRunOn (H.enrichers hooks.old) (H.enrichers hooks.new)) }
     {

@@ -51,7 +51,8 @@ impl<R: Wait + Drop> Model for Running<R> {
 
     ghost view = { λ r. held r.turn r.seat r.refresher.service r.refresher.publisher.list };
 
-    ghost invariant = { λ r. IsHeld r.turn r.seat r.refresher.service r.refresher.publisher r.pass };
+    ghost invariant = { λ r.
+        IsHeld r.turn r.seat r.refresher.service r.refresher.publisher r.pass };
 }
 
 /// The serial of what was published.
@@ -120,7 +121,8 @@ impl<R: Wait + Drop> Running<R> {
         alloc: Global,
         steps: &mut Steps<L>,
     ) -> Result<Option<Serial>, NoMemory>
-        ensures refreshed { IfOk result (λ serial. Ends self.old.published (λ p. IsRefreshed self.old p serial self.new)) }
+        ensures refreshed { IfOk result
+            (λ serial. Ends self.old.published (λ p. IsRefreshed self.old p serial self.new)) }
         ensures tries { steps.new.tries ≡ steps.old.tries }
     {
         documents_lead();
@@ -144,8 +146,10 @@ impl<R: Wait + Drop> Running<R> {
         steps: &mut Steps<L>,
     ) -> Result<Decision, NoMemory>
         ensures same { self.new ≡ self.old }
-        ensures decision { IfOk result (λ d. Ends self.old.published (λ p. d ≡ decision_of p request.now)) }
-        ensures steps { IfOk result (λ d. Ends self.old.published (λ p. TriesWithin (bound_on p.facts request.now) steps.old steps.new)) }
+        ensures decision { IfOk result
+            (λ d. Ends self.old.published (λ p. d ≡ decision_of p request.now)) }
+        ensures steps { IfOk result (λ d. Ends self.old.published
+            (λ p. TriesWithin (bound_on p.facts request.now) steps.old steps.new)) }
     {
         let told = self.refresher.publisher.tell()?;
         self.pass.learn(told);
@@ -158,7 +162,8 @@ impl<R: Wait + Drop> Running<R> {
 
     /// A copy of the facts of the newest publication.
     pub fn facts(&self, alloc: Global) -> Result<Facts, NoMemory>
-        ensures newest { IfOk result (λ facts. option_map (λ p. p.facts) (newest self.now) ≡ Some facts) }
+        ensures newest { IfOk result
+            (λ facts. option_map (λ p. p.facts) (newest self.now) ≡ Some facts) }
         ensures sound { IfOk result (λ facts. sound facts ≡ true) }
     {
         self.refresher.publisher.newest().facts(alloc)

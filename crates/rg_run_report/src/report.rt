@@ -86,7 +86,8 @@ impl Reports {
     #[tactic(auto, unfolding(crate::specs::Report::facts_work))]
     fn begin(&mut self, alloc: Global, facts: Facts) -> Result<(), LineFault>
         ensures worked { OnOk result (IsWorked (facts_work self.old facts) self.new [] []) }
-        ensures bad { result ≡ Err LineFault.Bad → (facts_work self.old facts ≡ None) × (self.new ≡ self.old) }
+        ensures bad { result ≡ Err LineFault.Bad
+            → (facts_work self.old facts ≡ None) × (self.new ≡ self.old) }
     {
         if self.published.is_some() {
             return Err(LineFault::Bad);
@@ -103,7 +104,8 @@ impl Reports {
 
     /// The rows over the facts; None before them.
     fn rows(&self, alloc: Global, ask: &ReportAsk) -> Result<Option<Seq<ReportRow>>, NoMemory>
-        ensures { IfOk result (λ rows. option_map (λ all. all.items) rows ≡ option_map (λ facts. report_rows facts ask.now) self.now) }
+        ensures { IfOk result (λ rows. option_map (λ all. all.items) rows
+            ≡ option_map (λ facts. report_rows facts ask.now) self.now) }
     {
         match &self.published {
             Some(published) => {
@@ -117,8 +119,10 @@ impl Reports {
     /// Prints the rows over the facts.
     #[tactic(auto, unfolding(crate::specs::Report::ask_work))]
     fn ask(&self, alloc: Global, ask: &ReportAsk, text: &mut String) -> Result<(), LineFault>
-        ensures worked { OnOk result (IsWorked (ask_work self.now ask.now) self.now (string_bytes text.old) (string_bytes text.new)) }
-        ensures bad { result ≡ Err LineFault.Bad → (ask_work self.now ask.now ≡ None) × (string_bytes text.new ≡ string_bytes text.old) }
+        ensures worked { OnOk result (IsWorked (ask_work self.now ask.now) self.now
+            (string_bytes text.old) (string_bytes text.new)) }
+        ensures bad { result ≡ Err LineFault.Bad
+            → (ask_work self.now ask.now ≡ None) × (string_bytes text.new ≡ string_bytes text.old) }
     {
         let rows = match self.rows(alloc, ask) {
             Ok(Some(rows)) => rows,
@@ -139,8 +143,10 @@ impl Reports {
         now: Moment,
         text: &mut String,
     ) -> Result<(), LineFault>
-        ensures worked { OnOk result (IsWorked (json_work self.now json.now now) self.now (string_bytes text.old) (string_bytes text.new)) }
-        ensures bad { result ≡ Err LineFault.Bad → (json_work self.now json.now now ≡ None) × (string_bytes text.new ≡ string_bytes text.old) }
+        ensures worked { OnOk result (IsWorked (json_work self.now json.now now) self.now
+            (string_bytes text.old) (string_bytes text.new)) }
+        ensures bad { result ≡ Err LineFault.Bad → (json_work self.now json.now now ≡ None)
+            × (string_bytes text.new ≡ string_bytes text.old) }
     {
         match read_report(alloc, json, now) {
             Ok(ask) => self.ask(alloc, &ask, text),
@@ -151,8 +157,10 @@ impl Reports {
 
     /// Works a line that asks for no report.
     fn other(&mut self, alloc: Global, line: &[u8], now: Moment) -> Result<(), LineFault>
-        ensures worked { OnOk result (IsWorked (line_work self.old (line_of line.now now)) self.new [] []) }
-        ensures bad { result ≡ Err LineFault.Bad → (line_work self.old (line_of line.now now) ≡ None) × (self.new ≡ self.old) }
+        ensures worked { OnOk result
+            (IsWorked (line_work self.old (line_of line.now now)) self.new [] []) }
+        ensures bad { result ≡ Err LineFault.Bad
+            → (line_work self.old (line_of line.now now) ≡ None) × (self.new ≡ self.old) }
     {
         match read_line(alloc, line, now) {
             Ok(Line::Blank) => Ok(()),

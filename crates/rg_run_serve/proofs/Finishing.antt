@@ -15,7 +15,7 @@ use Rattle.rg_run_serve.specs.Links.{AreServed, IsStopped, TellsTotals}
 use Rattle.rg_run_script.specs.Ports.{Ports}
 use Rattle.rg_run_serve.specs.Preparing.{IsPrepared, IsReady}
 use Rattle.rg_run_script.specs.Runs.{Follows, IsRun, IsUnread}
-use Rattle.rg_run_serve.specs.Serves.{IsTakenWhole, Serves, ServesLinks}
+use Rattle.rg_run_serve.specs.Serves.{IsTakenWhole, ServesLinks}
 use Rattle.rg_run_serve.specs.Serve.{AreTotals, Asked, Asking, Door, Numbers, printed_by, printed_of, replies_to, taken, totals_line}
 use Rattle.rg_run_script.specs.Streams.{IsAll, Wrote, WrotePrefix}
 use Rattle.rg_run_script.proofs.Runs.{follows}

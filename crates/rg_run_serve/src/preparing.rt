@@ -57,7 +57,8 @@ impl Preparing {
     #[tactic(auto, unfolding(crate::specs::Serve::config_taken))]
     fn start(&mut self, alloc: Global, config: Config) -> Result<(), LineFault>
         ensures worked { OnOk result (IsWorked (config_taken self.old config) self.new [] []) }
-        ensures bad { result ≡ Err LineFault.Bad → (config_taken self.old config ≡ None) × (self.new ≡ self.old) }
+        ensures bad { result ≡ Err LineFault.Bad
+            → (config_taken self.old config ≡ None) × (self.new ≡ self.old) }
     {
         match self.admin {
             None => {}
@@ -77,7 +78,8 @@ impl Preparing {
     #[tactic(auto, unfolding(crate::specs::Serve::ask_taken))]
     fn ask(&mut self, ask: Ask) -> Result<(), LineFault>
         ensures worked { OnOk result (IsWorked (ask_taken self.old ask) self.new [] []) }
-        ensures bad { result ≡ Err LineFault.Bad → (ask_taken self.old ask ≡ None) × (self.new ≡ self.old) }
+        ensures bad { result ≡ Err LineFault.Bad
+            → (ask_taken self.old ask ≡ None) × (self.new ≡ self.old) }
     {
         match self.admin {
             None => return Err(refuse(ask)),
@@ -175,8 +177,10 @@ pub(crate) struct Prepared<Q: Wait + Drop> {
 /// Names the line behind the last where none was bad.
 fn unless_bad(worked: Worked, bytes: &[u8]) -> Result<String, NoMemory>
     requires { length bytes.now < 2 ^ 32 }
-    ensures done { worked.status ≡ Status.Done → IfOk result (λ text. string_bytes text ≡ string_bytes worked.text ++ bad_line_text (length (lines_of bytes.now) + 1)) }
-    ensures bad { worked.status ≡ Status.BadLine → IfOk result (λ text. string_bytes text ≡ string_bytes worked.text) }
+    ensures done { worked.status ≡ Status.Done → IfOk result (λ text. string_bytes text
+        ≡ string_bytes worked.text ++ bad_line_text (length (lines_of bytes.now) + 1)) }
+    ensures bad { worked.status ≡ Status.BadLine
+        → IfOk result (λ text. string_bytes text ≡ string_bytes worked.text) }
 {
     match worked.status {
         Status::Done => Ok(name_bad_line(worked.text, count_lines(bytes) + 1)?.text),
@@ -195,7 +199,8 @@ pub(crate) fn prepare<'a, R: Wait, C: Clock>(
 ) -> Result<Prepared<&'a R>, NoMemory>
     requires bytes { length bytes.now < 2 ^ 32 }
     requires workers { (1 ≤ workers) × (workers ≤ 64) }
-    ensures { IfOk result (λ p. IsPrepared workers bytes.now (C.given clock.old) (C.given clock.new) (string_bytes p.text) p.opened) }
+    ensures { IfOk result (λ p. IsPrepared workers bytes.now
+        (C.given clock.old) (C.given clock.new) (string_bytes p.text) p.opened) }
 {
     let mut preparing = Preparing::new(alloc);
     let worked = follow(alloc, &mut preparing, bytes, clock)?;

@@ -38,7 +38,13 @@ fn add_totals(
     publications: u64,
     decisions: u64,
 ) -> Result<(), NoMemory>
-    ensures { OnOk result (string_bytes text.new ≡ string_bytes text.old ++ totals_line (record { links = links; entries = entries; publications = publications; decisions = decisions })) }
+    ensures { OnOk result (string_bytes text.new
+        ≡ string_bytes text.old ++ totals_line (record {
+          links = links;
+          entries = entries;
+          publications = publications;
+          decisions = decisions;
+        })) }
 {
     match writeln!(
         text,
@@ -51,7 +57,13 @@ fn add_totals(
 
 /// The last line of a service that has served its links.
 fn totals_of(alloc: Global, served: Served) -> Result<String, NoMemory>
-    ensures { IfOk result (λ text. string_bytes text ≡ totals_line (record { links = served.links; entries = length served.totals.past.history; publications = served.totals.publications; decisions = served.totals.decisions })) }
+    ensures { IfOk result (λ text. string_bytes text ≡ totals_line
+        (record {
+          links = served.links;
+          entries = length served.totals.past.history;
+          publications = served.totals.publications;
+          decisions = served.totals.decisions;
+        })) }
 {
     let entries = served.totals.past.entries();
     let mut text = String::new(alloc);
@@ -82,7 +94,9 @@ fn take_links<
     clock: &mut C,
 ) -> Result<String, Status>
     requires { length hooks.items ≡ opened.workers }
-    ensures served { IfOk result (λ text. TellsTotals service.now.links opened (door (N.given net.old) (N.ended net.old) (N.faults net.old)) (door (N.given net.new) (N.ended net.new) (N.faults net.new)) (string_bytes text)) }
+    ensures served { IfOk result (λ text. TellsTotals service.now.links opened
+        (door (N.given net.old) (N.ended net.old) (N.faults net.old))
+        (door (N.given net.new) (N.ended net.new) (N.faults net.new)) (string_bytes text)) }
     ensures stopped { IfErr result (IsStopped (N.faults net.old) (N.faults net.new)) }
 {
     let outside = Outside {
@@ -124,7 +138,8 @@ pub fn serve_script<
         (door (N.given net.new) (N.ended net.new) (N.faults net.new)))
         (ports (S.left source.old) (S.ended source.old) (S.faults source.old) (C.given clock.old) (K.held sink.old) (K.faults sink.old))
         (ports (S.left source.new) (S.ended source.new) (S.faults source.new) (C.given clock.new) (K.held sink.new) (K.faults sink.new)) result }
-    ensures clock_stays { (result ≡ Status.ReadFault) ⊎ (result ≡ Status.TooLong) → clock.new ≡ clock.old }
+    ensures clock_stays { (result ≡ Status.ReadFault)
+        ⊎ (result ≡ Status.TooLong) → clock.new ≡ clock.old }
 {
     let bytes = match read_script(alloc, source, sink) {
         Ok(bytes) => bytes,

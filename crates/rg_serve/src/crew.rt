@@ -64,7 +64,8 @@ fn accept_all<
     requires none { given.old.book.total ≡ 0 }
     ensures counted { IfOk result (λ n. given.new.book.total ≡ n) }
     ensures given { IfOk result (λ n. N.given net.new ≡ N.given net.old + n) }
-    ensures all { IfOk result (λ n. (n ≤ given.old.most) × ((n ≡ given.old.most) ⊎ (N.ended net.new ≡ true))) }
+    ensures all { IfOk result (λ n. (n ≤ given.old.most)
+        × ((n ≡ given.old.most) ⊎ (N.ended net.new ≡ true))) }
     ensures kept { OnOk result (N.faults net.new ≡ N.faults net.old) }
     ensures failed { OnErr result (N.faults net.old < N.faults net.new) }
 {
@@ -100,7 +101,8 @@ fn with_workers<
     requires none { given.book.total ≡ 0 }
     ensures counted { IfOk result.0 (λ n. result.1.book.total ≡ n) }
     ensures given { IfOk result.0 (λ n. N.given net.new ≡ N.given net.old + n) }
-    ensures all { IfOk result.0 (λ n. (n ≤ given.most) × ((n ≡ given.most) ⊎ (N.ended net.new ≡ true))) }
+    ensures all { IfOk result.0 (λ n. (n ≤ given.most)
+        × ((n ≡ given.most) ⊎ (N.ended net.new ≡ true))) }
     ensures kept { OnOk result.0 (N.faults net.new ≡ N.faults net.old) }
     ensures failed { OnErr result.0 (N.faults net.old < N.faults net.new) }
 {
@@ -112,7 +114,8 @@ fn with_workers<
             ensures name { result.0.ghost_name ≡ net.entry.ghost_name }
             ensures counted { IfOk result.1 (λ n. result.2.book.total ≡ n) }
             ensures given { IfOk result.1 (λ n. N.given result.0.now ≡ N.given net.entry.now + n) }
-            ensures all { IfOk result.1 (λ n. (n ≤ given.most) × ((n ≡ given.most) ⊎ (N.ended result.0.now ≡ true))) }
+            ensures all { IfOk result.1 (λ n. (n ≤ given.most)
+                × ((n ≡ given.most) ⊎ (N.ended result.0.now ≡ true))) }
             ensures kept { OnOk result.1 (N.faults result.0.now ≡ N.faults net.entry.now) }
             ensures failed { OnErr result.1 (N.faults net.entry.now < N.faults result.0.now) }
         {
@@ -159,7 +162,8 @@ pub(crate) fn with_watcher<
     requires watcher { V.can_watch watcher.now }
     ensures counted { IfOk result.0 (λ n. result.1.book.total ≡ n) }
     ensures given { IfOk result.0 (λ n. N.given net.new ≡ N.given net.old + n) }
-    ensures all { IfOk result.0 (λ n. (n ≤ given.most) × ((n ≡ given.most) ⊎ (N.ended net.new ≡ true))) }
+    ensures all { IfOk result.0 (λ n. (n ≤ given.most)
+        × ((n ≡ given.most) ⊎ (N.ended net.new ≡ true))) }
     ensures kept { OnOk result.0 (N.faults net.new ≡ N.faults net.old) }
     ensures failed { OnErr result.0 (N.faults net.old < N.faults net.new) }
 {
@@ -171,7 +175,8 @@ pub(crate) fn with_watcher<
             ensures name { result.0.ghost_name ≡ net.entry.ghost_name }
             ensures counted { IfOk result.1 (λ n. result.2.book.total ≡ n) }
             ensures given { IfOk result.1 (λ n. N.given result.0.now ≡ N.given net.entry.now + n) }
-            ensures all { IfOk result.1 (λ n. (n ≤ given.most) × ((n ≡ given.most) ⊎ (N.ended result.0.now ≡ true))) }
+            ensures all { IfOk result.1 (λ n. (n ≤ given.most)
+                × ((n ≡ given.most) ⊎ (N.ended result.0.now ≡ true))) }
             ensures kept { OnOk result.1 (N.faults result.0.now ≡ N.faults net.entry.now) }
             ensures failed { OnErr result.1 (N.faults net.entry.now < N.faults result.0.now) }
         {

@@ -39,7 +39,8 @@ fn gather<J: Naming, P: Recorder>(
 ) -> Result<(Vec<Seat<Admin<P>>>, Vec<Pass>), NoMemory>
     ensures parts { OnOk result (all.new.parts ≡ all.old.parts + length places.items) }
     ensures number { IfOk result (λ t. length t.0.items ≡ length places.items) }
-    ensures worked { IfOk result (λ t. (n : ℕ) × (all.new.amount ≡ all.old.amount + n) × AreWorked J.turn J.opening J.plugin t.0.items t.1.items n) }
+    ensures worked { IfOk result (λ t. (n : ℕ) × (all.new.amount ≡ all.old.amount + n)
+        × AreWorked J.turn J.opening J.plugin t.0.items t.1.items n) }
 {
     let mut places = places;
     let mut seats = Vec::new(alloc);
@@ -61,7 +62,8 @@ fn gather_all<J: Naming, P: Recorder>(
 ) -> Result<(Vec<Seat<Admin<P>>>, Vec<Pass>), NoMemory>
     requires { J.parts ≡ length places.items + 2 }
     ensures number { IfOk result (λ t. length t.0.items ≡ length places.items) }
-    ensures worked { IfOk result (λ t. AreWorked J.turn J.opening J.plugin t.0.items t.1.items counted.book.total) }
+    ensures worked { IfOk result
+        (λ t. AreWorked J.turn J.opening J.plugin t.0.items t.1.items counted.book.total) }
 {
     let Counted { mut book, mut mine } = counted;
     let (seats, passes) = gather(alloc, places, &mut mine)?;
@@ -80,21 +82,24 @@ fn settle<J: Naming, P: Recorder, R: Wait + Drop>(
     passes: Vec<Pass>,
     links: u64,
 ) -> Result<Totals<P>, NoMemory>
-    requires turn { (turn.turn ≡ J.turn) × (seat.turn ≡ J.turn) × (turn.start.state.plugin ≡ J.plugin) }
+    requires turn { (turn.turn ≡ J.turn)
+        × (seat.turn ≡ J.turn) × (turn.start.state.plugin ≡ J.plugin) }
     requires book { publisher.book ≡ J.opening.book }
     requires all { length seats.items + 1 ≡ turn.seats }
     requires worked { AreWorked J.turn J.opening J.plugin seats.items passes.items links }
     requires right { AreRightFor turn.start seat.history publisher.list }
     requires made { AreDownloadedFor turn.start seat.history publisher.list }
     requires downloads { Downloads seat.history J.plugin J.before seat }
-    ensures legal { IfOk result (λ t. (t.past.start ≡ Some turn.start) × IsLegal step turn.start t.past.history) }
+    ensures legal { IfOk result (λ t. (t.past.start ≡ Some turn.start)
+        × IsLegal step turn.start t.past.history) }
     ensures admin { IfOk result (λ t. t.admin ≡ state_after step turn.start t.past.history) }
     ensures begins { IfOk result (λ t. IsPrefix seat.history t.past.history) }
     ensures right { IfOk result (λ t. AreRightFor turn.start t.past.history publisher.list) }
     ensures made { IfOk result (λ t. AreDownloadedFor turn.start t.past.history publisher.list) }
     ensures published { IfOk result (λ t.
         (t.published ≡ publisher) × (t.publications ≡ length publisher.list)) }
-    ensures served { IfOk result (λ t. AreServed J.turn J.opening J.plugin J.before (length seats.items) links t.past.history publisher.list t.decisions) }
+    ensures served { IfOk result (λ t. AreServed J.turn J.opening J.plugin J.before
+        (length seats.items) links t.past.history publisher.list t.decisions) }
 {
     downloaded_lists_stay();
     let mut seats = seats;
@@ -122,15 +127,19 @@ pub(crate) fn end<J: Naming, P: Recorder, R: Wait + Drop, W: Wait>(
     requires all { length places.items + 1 ≡ common.turn.seats }
     requires parts { J.parts ≡ length places.items + 2 }
     requires given { counted.book.total ≡ links }
-    ensures legal { IfOk result (λ t. (t.past.start ≡ Some common.turn.start) × IsLegal step common.turn.start t.past.history) }
+    ensures legal { IfOk result (λ t. (t.past.start ≡ Some common.turn.start)
+        × IsLegal step common.turn.start t.past.history) }
     ensures admin { IfOk result (λ t. t.admin ≡ state_after step common.turn.start t.past.history) }
     ensures entries { IfOk result (λ t. length J.before.history + 1 ≤ length t.past.history) }
     ensures begins { IfOk result (λ t. IsPrefix J.before.history t.past.history) }
     ensures published { IfOk result (λ t.
         IsPrefix J.published t.published.list × (t.publications ≡ length t.published.list)) }
-    ensures right { IfOk result (λ t. AreRightFor common.turn.start t.past.history t.published.list) }
-    ensures made { IfOk result (λ t. AreDownloadedFor common.turn.start t.past.history t.published.list) }
-    ensures current { IfOk result (λ t. IsCurrent common.turn.start t.past.history t.published.list) }
+    ensures right { IfOk result
+        (λ t. AreRightFor common.turn.start t.past.history t.published.list) }
+    ensures made { IfOk result
+        (λ t. AreDownloadedFor common.turn.start t.past.history t.published.list) }
+    ensures current { IfOk result
+        (λ t. IsCurrent common.turn.start t.past.history t.published.list) }
     ensures served { IfOk result (λ t.
         AreServed J.turn J.opening common.turn.start.state.plugin J.before (length places.items) links
         t.past.history t.published.list t.decisions) }

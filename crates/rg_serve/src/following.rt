@@ -35,12 +35,14 @@ impl<J: Naming, P: Recorder, R: Wait + Drop> Model for Following<J, P, R> {
 
     ghost view = { λ f. tt };
 
-    ghost invariant = { λ f. IsFollowing J.turn J.opening.book J.before J.published f.seat f.refresher.service f.refresher.publisher f.is_short };
+    ghost invariant = { λ f. IsFollowing J.turn J.opening.book
+        J.before J.published f.seat f.refresher.service f.refresher.publisher f.is_short };
 }
 
 impl<J: Naming, P: Recorder, R: Wait + Drop> Following<J, P, R> {
     pub fn new(refresher: Refresher<R>, seat: Seat<Admin<P>>) -> Following<J, P, R>
-        requires { IsFollowing J.turn J.opening.book J.before J.published seat refresher.service refresher.publisher false }
+        requires { IsFollowing J.turn J.opening.book
+            J.before J.published seat refresher.service refresher.publisher false }
     {
         Following {
             refresher,
@@ -80,7 +82,8 @@ impl<J: Naming, P: Recorder, R: Wait + Drop> Following<J, P, R> {
         ensures begins { IfOk result (λ t. IsPrefix J.before.history t.1.history) }
         ensures longer { IfOk result (λ t. length J.before.history + 1 ≤ length t.1.history) }
         ensures more { IfOk result (λ t. IsPrefix J.published t.0.list) }
-        ensures downloads { IfOk result (λ t. Downloads t.1.history turn.now.start.state.plugin J.before t.1) }
+        ensures downloads { IfOk result
+            (λ t. Downloads t.1.history turn.now.start.state.plugin J.before t.1) }
         ensures last { IfOk result (λ t. HasLast turn.now.start t.1.history t.0.list t.2) }
     {
         let Following {

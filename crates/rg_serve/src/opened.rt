@@ -47,9 +47,11 @@ impl<R: Wait + Drop, P: Recorder> Model for Opened<R, P> {
 
     ghost Value = { the.Opened };
 
-    ghost view = { λ o. held o.begun.turn o.begun.seat o.begun.refresher.publisher.list o.begun.seats.items };
+    ghost view = { λ o.
+        held o.begun.turn o.begun.seat o.begun.refresher.publisher.list o.begun.seats.items };
 
-    ghost invariant = { λ o. let b = o.begun in IsHeld b.turn b.seat b.refresher.service b.refresher.publisher b.seats.items b.passes.items };
+    ghost invariant = { λ o. let b = o.begun in IsHeld
+        b.turn b.seat b.refresher.service b.refresher.publisher b.seats.items b.passes.items };
 }
 
 impl<R: Wait + Drop> Opened<R> {

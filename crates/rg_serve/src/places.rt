@@ -39,7 +39,8 @@ impl<J: Naming, P: Recorder> Model for Parts<J, P> {
 
     ghost view = { λ p. tt };
 
-    ghost invariant = { λ p. IsAtWork J.turn J.opening J.plugin p.seat p.pass p.share.parts p.share.amount p.is_short };
+    ghost invariant = { λ p.
+        IsAtWork J.turn J.opening J.plugin p.seat p.pass p.share.parts p.share.amount p.is_short };
 }
 
 /// Where they lie.
@@ -112,7 +113,8 @@ impl<J: Naming, P: Recorder> Parts<J, P> {
         hooks: &mut H,
         left: &mut Waiting<J, T>,
     ) -> bool
-        ensures { MatchBool result (left.new.share.amount + 1 ≡ left.old.share.amount) (left.new.share.amount ≡ 0) }
+        ensures { MatchBool result (left.new.share.amount + 1 ≡ left.old.share.amount)
+            (left.new.share.amount ≡ 0) }
     {
         let Some(link) = left.pop(&mut self.share) else {
             return false;

@@ -100,7 +100,8 @@ fn attend<
     requires none { given.book.total ≡ 0 }
     ensures counted { IfOk result.0 (λ n. result.1.book.total ≡ n) }
     ensures given { IfOk result.0 (λ n. N.given net.new ≡ N.given net.old + n) }
-    ensures all { IfOk result.0 (λ n. (n ≤ given.most) × ((n ≡ given.most) ⊎ (N.ended net.new ≡ true))) }
+    ensures all { IfOk result.0 (λ n. (n ≤ given.most)
+        × ((n ≡ given.most) ⊎ (N.ended net.new ≡ true))) }
     ensures kept { OnOk result.0 (N.faults net.new ≡ N.faults net.old) }
     ensures failed { OnErr result.0 (N.faults net.old < N.faults net.new) }
 {
@@ -138,16 +139,23 @@ fn run_named<
     net: &mut N,
     around: Around<C, G>,
 ) -> Result<Served<P>, ServeFault>
-    requires ledger { (blank.name ≡ J.name) × (blank.parts ≡ J.parts) × (J.parts ≡ length service.seats.items + 2) }
-    requires names { (service.turn.turn ≡ J.turn) × (J.opening ≡ begun service.refresher.publisher) × (service.refresher.service ≡ J.plugin) }
+    requires ledger { (blank.name ≡ J.name)
+        × (blank.parts ≡ J.parts) × (J.parts ≡ length service.seats.items + 2) }
+    requires names { (service.turn.turn ≡ J.turn)
+        × (J.opening ≡ begun service.refresher.publisher) × (service.refresher.service ≡ J.plugin) }
     requires before { (service.seat ≡ J.before) × (service.refresher.publisher.list ≡ J.published) }
-    requires held { IsHeld service.turn service.seat service.refresher.service service.refresher.publisher service.seats.items service.passes.items }
+    requires held { IsHeld service.turn service.seat service.refresher.service
+        service.refresher.publisher service.seats.items service.passes.items }
     requires workers { length hooks.items ≡ length service.seats.items }
     ensures given { IfOk result (λ s. N.given net.new ≡ N.given net.old + s.links) }
-    ensures all { IfOk result (λ s. (s.links ≤ around.entry.most) × ((s.links ≡ around.entry.most) ⊎ (N.ended net.new ≡ true))) }
-    ensures legal { IfOk result (λ s. (s.totals.past.start ≡ Some service.turn.start) × IsLegal step service.turn.start s.totals.past.history) }
-    ensures admin { IfOk result (λ s. s.totals.admin ≡ state_after step service.turn.start s.totals.past.history) }
-    ensures entries { IfOk result (λ s. length J.before.history + 1 ≤ length s.totals.past.history) }
+    ensures all { IfOk result (λ s. (s.links ≤ around.entry.most)
+        × ((s.links ≡ around.entry.most) ⊎ (N.ended net.new ≡ true))) }
+    ensures legal { IfOk result (λ s. (s.totals.past.start ≡ Some service.turn.start)
+        × IsLegal step service.turn.start s.totals.past.history) }
+    ensures admin { IfOk result
+        (λ s. s.totals.admin ≡ state_after step service.turn.start s.totals.past.history) }
+    ensures entries { IfOk result
+        (λ s. length J.before.history + 1 ≤ length s.totals.past.history) }
     ensures begins { IfOk result (λ s. IsPrefix J.before.history s.totals.past.history) }
     ensures published { IfOk result (λ s.
         IsPrefix J.published s.totals.published.list
@@ -161,7 +169,8 @@ fn run_named<
     ensures served { IfOk result (λ s.
         AreServed J.turn J.opening service.turn.start.state.plugin J.before (length service.seats.items) s.links
         s.totals.past.history s.totals.published.list s.totals.decisions) }
-    ensures faults { MatchResult result (λ _. N.faults net.new ≡ N.faults net.old) (λ f. Counts f (N.faults net.old) (N.faults net.new)) }
+    ensures faults { MatchResult result (λ _. N.faults net.new ≡ N.faults net.old)
+        (λ f. Counts f (N.faults net.old) (N.faults net.new)) }
 {
     let Begun {
         turn,
@@ -231,10 +240,13 @@ pub fn serve<
     requires { length hooks.items ≡ opened.workers }
     // The links are those that the listener gave, and they are as many as were asked for, or the listener has ended.
     ensures given { IfOk result (λ s. N.given net.new ≡ N.given net.old + s.links) }
-    ensures all { IfOk result (λ s. (s.links ≤ outside.entry.most) × ((s.links ≡ outside.entry.most) ⊎ (N.ended net.new ≡ true))) }
+    ensures all { IfOk result (λ s. (s.links ≤ outside.entry.most)
+        × ((s.links ≡ outside.entry.most) ⊎ (N.ended net.new ≡ true))) }
     // The past is one legal history from the start, which goes on from what was known with one entry at least.
-    ensures legal { IfOk result (λ s. (s.totals.past.start ≡ Some opened.start) × IsLegal step opened.start s.totals.past.history) }
-    ensures admin { IfOk result (λ s. s.totals.admin ≡ state_after step opened.start s.totals.past.history) }
+    ensures legal { IfOk result (λ s. (s.totals.past.start ≡ Some opened.start)
+        × IsLegal step opened.start s.totals.past.history) }
+    ensures admin { IfOk result
+        (λ s. s.totals.admin ≡ state_after step opened.start s.totals.past.history) }
     ensures entries { IfOk result (λ s. length opened.history + 1 ≤ length s.totals.past.history) }
     ensures begins { IfOk result (λ s. IsPrefix opened.history s.totals.past.history) }
     // One list of publications goes on from those before. It is right for the past, each but the first was made of a download from the
@@ -251,7 +263,8 @@ pub fn serve<
     // Each link had one session, each entry is one call, and each decision is by a publication of the list.
     ensures served { IfOk result (λ s.
         HasServed opened s.links s.totals.past.history s.totals.published.list s.totals.decisions) }
-    ensures faults { MatchResult result (λ _. N.faults net.new ≡ N.faults net.old) (λ f. Counts f (N.faults net.old) (N.faults net.new)) }
+    ensures faults { MatchResult result (λ _. N.faults net.new ≡ N.faults net.old)
+        (λ f. Counts f (N.faults net.old) (N.faults net.new)) }
 {
     let Opened {
         begun: service,

@@ -64,16 +64,19 @@ pub fn close<P: Recorder, R: Wait + Drop>(
     requires seats { All (λ s. s.turn ≡ turn.turn) seats.items }
     requires all { length seats.items ≡ turn.seats }
     requires passes { All (IsOwn publisher) passes.items }
-    ensures legal { IfOk result (λ t. (t.past.start ≡ Some turn.start) × IsLegal step turn.start t.past.history) }
+    ensures legal { IfOk result (λ t. (t.past.start ≡ Some turn.start)
+        × IsLegal step turn.start t.past.history) }
     ensures admin { IfOk result (λ t. t.admin ≡ state_after step turn.start t.past.history) }
     ensures begins { IfOk result (λ t. All (λ s. IsPrefix s.history t.past.history) seats.items) }
-    ensures once { IfOk result (λ t. (p : ℕ) → calls_at p seats.items ≡ once_below p (length t.past.history)) }
+    ensures once { IfOk result (λ t. (p : ℕ)
+        → calls_at p seats.items ≡ once_below p (length t.past.history)) }
     ensures published { IfOk result (λ t. t.published ≡ publisher) }
     ensures publications { IfOk result (λ t. t.publications ≡ length publisher.list) }
     ensures decisions { IfOk result (λ t. t.decisions ≡ answers_of passes.items) }
     ensures ahead { IfOk result (λ t. t.ahead ≡ ahead_of (length publisher.list) passes.items) }
     ensures known { IfOk result (λ t. t.ahead ≡ None → All (IsKnown publisher) passes.items) }
-    ensures right { IfOk result (λ t. All (λ s. AreRightFor turn.start s.history publisher.list → AreRightFor turn.start t.past.history publisher.list) seats.items) }
+    ensures right { IfOk result (λ t. All (λ s. AreRightFor turn.start s.history publisher.list
+        → AreRightFor turn.start t.past.history publisher.list) seats.items) }
 {
     right_lists_stay_right();
     let decisions = decisions_of(passes.as_slice());

@@ -67,7 +67,8 @@ fn download<P: Recorder, R: Wait>(
     ensures begins { IsPrefix seat.old.history seat.new.history }
     ensures legal { IfOk result (λ reply. IsLegal step turn.now.start seat.new.history) }
     ensures bounded { IfOk result (λ reply. length seat.new.history ≤ 2 ^ 62) }
-    ensures called { IfOk result (λ reply. IsCalled seat.old (download_ask service.now (versions engine.now)) reply seat.new) }
+    ensures called { IfOk result (λ reply.
+        IsCalled seat.old (download_ask service.now (versions engine.now)) reply seat.new) }
 {
     match download_ask(alloc, engine, service) {
         Ok(ask) => match turn.call(rt, alloc, seat, ask) {
@@ -105,7 +106,8 @@ pub(crate) fn document<P: Recorder, Q: Wait + Drop, R: Wait>(
     ensures same { seat.new.turn ≡ seat.old.turn }
     ensures begins { IsPrefix seat.old.history seat.new.history }
     ensures right { AreRightFor turn.now.start seat.new.history publisher.now.list }
-    ensures came { IfOk result (λ d. Came turn.now.start seat.old service.now publisher.now.list d seat.new) }
+    ensures came { IfOk result
+        (λ d. Came turn.now.start seat.old service.now publisher.now.list d seat.new) }
 {
     right_lists_stay_right();
     documents_come();

@@ -34,7 +34,8 @@ pub fn first_is_right()
 
 /// Publications that are right for a history are right for it as it goes on.
 pub fn right_lists_stay_right()
-    ensures { (start : Administration) (h later : List (Entry Ask AdminReply)) (list : List Publication) → IsPrefix h later
+    ensures { (start : Administration)
+        (h later : List (Entry Ask AdminReply)) (list : List Publication) → IsPrefix h later
         → AreRightFor start h list → AreRightFor start later list }
 {
     publications_stay_right();
@@ -51,7 +52,8 @@ pub fn downloaded_lists_stay()
 
 /// No rule refuses the plugin's download: its reply is a document.
 pub(crate) fn documents_come()
-    ensures { (start : Administration) (h : List (Entry Ask AdminReply)) (from : Versions) (reply : AdminReply)
+    ensures { (start : Administration)
+        (h : List (Entry Ask AdminReply)) (from : Versions) (reply : AdminReply)
         → IsStart start → IsLegal step start (h ++ entry (download_ask start.state.plugin from) reply ∷ [])
         → (d : Download) × (reply ≡ Downloaded d) }
 {
@@ -61,7 +63,8 @@ pub(crate) fn documents_come()
 
 /// The document that ends a history, if it is the plugin's download from the versions of the newest of right publications.
 pub fn documents_lead()
-    ensures { (start : Administration) (h : List (Entry Ask AdminReply)) (list : List Publication) (newest : Publication) (d : Download)
+    ensures { (start : Administration) (h : List (Entry Ask AdminReply))
+        (list : List Publication) (newest : Publication) (d : Download)
         → IsStart start → AreRightFor start h list → slice_get list (length list - 1) ≡ Some newest
         → IsLegal step start (h ++ entry (download_ask start.state.plugin (versions newest.facts)) (Downloaded d) ∷ []) → length h < 2 ^ 62
         → Leads start h list d }
@@ -77,7 +80,8 @@ pub fn documents_lead()
 
 /// One publication more: what the plugin sees after so many entries, more than the newest publication came after.
 pub(crate) fn one_more_is_right()
-    ensures { (start : Administration) (h : List (Entry Ask AdminReply)) (list : List Publication) (newest : Publication) (n : ℕ) (facts : Facts)
+    ensures { (start : Administration) (h : List (Entry Ask AdminReply))
+        (list : List Publication) (newest : Publication) (n : ℕ) (facts : Facts)
         → AreRightFor start h list → slice_get list (length list - 1) ≡ Some newest → newest.seq < n → n < length h
         → view (state_at step start h n) start.state.plugin ≡ Some facts
         → AreRightFor start h (list ++ publication (length list + 1) n facts ∷ []) }

@@ -57,7 +57,8 @@ fn first_refresher<P: Recorder, R: Wait + Drop, L: Ledger>(
     requires start { IsStart admin.now }
     requires count { (1 ≤ passes) × (passes ≤ 65) }
     ensures plugin { IfOk result (λ t. (t.0.service ≡ admin.now.state.plugin) × (t.0.seq ≡ 0)) }
-    ensures list { IfOk result (λ t. (f : Facts) × (view admin.now admin.now.state.plugin ≡ Some f) × (t.0.publisher.list ≡ publication 1 0 f ∷ [])) }
+    ensures list { IfOk result (λ t. (f : Facts) × (view admin.now admin.now.state.plugin ≡ Some f)
+        × (t.0.publisher.list ≡ publication 1 0 f ∷ [])) }
     ensures passes { IfOk result (λ t. t.1.items ≡ replicate passes (new_pass t.0.publisher)) }
 {
     let service = match admin.state().plugin.try_copy(alloc) {
@@ -96,10 +97,14 @@ pub fn open<P: Recorder, R: Wait + Drop, L: Ledger>(
     requires passes { (1 ≤ passes) × (passes ≤ 65) }
     ensures turn { IfOk result (λ s. (s.turn.start ≡ admin) × (s.turn.seats ≡ seats)) }
     ensures seats { IfOk result (λ s. s.seats.items ≡ replicate seats (new_seat s.turn.turn)) }
-    ensures plugin { IfOk result (λ s. (s.refresher.service ≡ admin.state.plugin) × (s.refresher.seq ≡ 0)) }
-    ensures list { IfOk result (λ s. (f : Facts) × (view admin admin.state.plugin ≡ Some f) × (s.refresher.publisher.list ≡ publication 1 0 f ∷ [])) }
-    ensures right { IfOk result (λ s. (h : List (Entry Ask AdminReply)) → AreRightFor admin h s.refresher.publisher.list) }
-    ensures passes { IfOk result (λ s. s.passes.items ≡ replicate passes (new_pass s.refresher.publisher)) }
+    ensures plugin { IfOk result (λ s. (s.refresher.service ≡ admin.state.plugin)
+        × (s.refresher.seq ≡ 0)) }
+    ensures list { IfOk result (λ s. (f : Facts) × (view admin admin.state.plugin ≡ Some f)
+        × (s.refresher.publisher.list ≡ publication 1 0 f ∷ [])) }
+    ensures right { IfOk result (λ s. (h : List (Entry Ask AdminReply))
+        → AreRightFor admin h s.refresher.publisher.list) }
+    ensures passes { IfOk result
+        (λ s. s.passes.items ≡ replicate passes (new_pass s.refresher.publisher)) }
 {
     first_is_right();
     match first_refresher(rt, alloc, &admin, passes, steps) {

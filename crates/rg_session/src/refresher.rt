@@ -40,7 +40,8 @@ fn take<R: Wait + Drop, L: Ledger>(
     ensures taken { IfOk result (λ r. Takes publisher.old.list document r publisher.new.list) }
     ensures refused { OnErr result (publisher.new.list ≡ publisher.old.list) }
     ensures tries { steps.new.tries ≡ steps.old.tries }
-    ensures work { (p : Publication) → slice_get publisher.old.list (length publisher.old.list - 1) ≡ Some p → is_partial document ≡ true → IsWithin p.facts document steps.old steps.new }
+    ensures work { (p : Publication) → slice_get publisher.old.list (length publisher.old.list - 1)
+        ≡ Some p → is_partial document ≡ true → IsWithin p.facts document steps.old steps.new }
 {
     if is_unchanged(&document) {
         drop(document);
@@ -82,14 +83,18 @@ impl<R: Wait + Drop> Refresher<R> {
         requires start { IsStart turn.now.start }
         requires service { self.old.service ≡ turn.now.start.state.plugin }
         requires right { AreRightFor turn.now.start seat.old.history self.old.publisher.list }
-        ensures same { (seat.new.turn ≡ seat.old.turn) × (self.new.publisher.book ≡ self.old.publisher.book) × (self.new.service ≡ self.old.service) }
+        ensures same { (seat.new.turn ≡ seat.old.turn) × (self.new.publisher.book
+            ≡ self.old.publisher.book) × (self.new.service ≡ self.old.service) }
         ensures begins { IsPrefix seat.old.history seat.new.history }
         ensures right { AreRightFor turn.now.start seat.new.history self.new.publisher.list }
-        ensures downloaded { IfOk result (λ r. HasDownloaded seat.old self.old.service self.old.publisher.list seat.new self.new.seq) }
-        ensures refreshed { IfOk result (λ r. HasRefreshed turn.now.start seat.new.history self.new.seq self.old.publisher.list r self.new.publisher.list) }
+        ensures downloaded { IfOk result (λ r. HasDownloaded
+            seat.old self.old.service self.old.publisher.list seat.new self.new.seq) }
+        ensures refreshed { IfOk result (λ r. HasRefreshed turn.now.start
+            seat.new.history self.new.seq self.old.publisher.list r self.new.publisher.list) }
         ensures made { AreDownloadedFor turn.now.start seat.old.history self.old.publisher.list
             → AreDownloadedFor turn.now.start seat.new.history self.new.publisher.list }
-        ensures refused { OnErr result ((self.new.publisher.list ≡ self.old.publisher.list) × (self.new.seq ≡ self.old.seq)) }
+        ensures refused { OnErr result ((self.new.publisher.list ≡ self.old.publisher.list)
+            × (self.new.seq ≡ self.old.seq)) }
         ensures tries { steps.new.tries ≡ steps.old.tries }
         ensures work { KeepsBounds seat.new.history self.old.publisher.list steps.old steps.new }
     {

@@ -62,7 +62,8 @@ pub(crate) fn settle_all<R: Wait + Drop>(
     publisher: &Publisher<R>,
     passes: Vec<Pass>,
 ) -> Result<(), NoMemory>
-    requires { All (λ p. (length p.list ≤ length publisher.now.list) × (p.book ≡ publisher.now.book)) passes.items }
+    requires { All (λ p. (length p.list ≤ length publisher.now.list)
+        × (p.book ≡ publisher.now.book)) passes.items }
     ensures { IfOk result (λ _. All (IsKnown publisher.now) passes.items) }
 {
     let mut passes = passes;

@@ -65,7 +65,8 @@ fn is_access_by(
     access: &str,
     policy: PolicyId,
 ) -> Result<bool, NoMemory>
-    ensures { IfOk result (λ is. is ≡ bytes_eq wanted.now (access.now ++ (codes " " ++ signed_decimal policy.0))) }
+    ensures { IfOk result
+        (λ is. is ≡ bytes_eq wanted.now (access.now ++ (codes " " ++ signed_decimal policy.0))) }
 {
     let id = policy.0;
     let said = format!(in alloc; "{access} {id}")?;
@@ -75,14 +76,16 @@ fn is_access_by(
 /// The row filter as the decision line spells it.
 #[tactic(auto, using(crate::proofs::Said::filters))]
 fn filter_text(alloc: Global, filter: &Option<Text>) -> Result<Text, NoMemory>
-    ensures { IfOk result (λ t. encode_utf8_all t ≡ compact_text (option_data text_data filter.now)) }
+    ensures { IfOk result
+        (λ t. encode_utf8_all t ≡ compact_text (option_data text_data filter.now)) }
 {
     let value = <Option<Text> as ToJson<Key>>::json(filter, alloc)?;
     text_of(alloc, &value)
 }
 
 fn is_filter(alloc: Global, wanted: &str, filter: &Option<Text>) -> Result<bool, NoMemory>
-    ensures { IfOk result (λ is. is ≡ bytes_eq wanted.now (codes "filter " ++ compact_text (option_data text_data filter.now))) }
+    ensures { IfOk result (λ is. is ≡ bytes_eq wanted.now
+        (codes "filter " ++ compact_text (option_data text_data filter.now))) }
 {
     let filter = filter_text(alloc, filter)?;
     let filter = filter.as_str();

@@ -10,6 +10,7 @@ ghost use Rattle.rg_test_script.specs.declared.form.Form.{Form};
 
 /// Where the tests of lines are done, so is the replay of the same lines, and in the same state.
 pub fn tested_as_replayed()
-    ensures { (form : Form) (lines : List (List ℕ)) (moments : List Moment) (tests : Output Progress) →
+    ensures { (form : Form) (lines : List (List ℕ))
+        (moments : List Moment) (tests : Output Progress) →
         tested form lines moments ≡ Some tests → tests.status ≡ Done → EndsAlike (replayed lines moments) tests }
 {}

@@ -97,7 +97,8 @@ fn failed_case(
     line: &str,
     reason: &str,
 ) -> Result<String, NoMemory>
-    ensures { IfOk result (λ s. string_bytes s ≡ failed_text Form.Junit number wanted.now line.now reason.now) }
+    ensures { IfOk result
+        (λ s. string_bytes s ≡ failed_text Form.Junit number wanted.now line.now reason.now) }
 {
     let open = case_open(alloc, number, wanted)?;
     let failure = failure_element(alloc, line, reason)?;
@@ -116,7 +117,8 @@ pub(crate) fn failed_text(
     line: &str,
     reason: &str,
 ) -> Result<String, NoMemory>
-    ensures { IfOk result (λ s. string_bytes s ≡ failed_text form number wanted.now line.now reason.now) }
+    ensures { IfOk result
+        (λ s. string_bytes s ≡ failed_text form number wanted.now line.now reason.now) }
 {
     match form {
         Form::Words => {

@@ -22,7 +22,8 @@ use std::sync::Wait;
 
 /// What the lines printed, between the top and the summary, and the status of their tests.
 fn finish<R: Wait>(alloc: Global, testing: &Testing<R>, worked: Worked) -> Result<Worked, NoMemory>
-    ensures text { IfOk result (λ w. string_bytes w.text ≡ framed testing.now worked.status (string_bytes worked.text)) }
+    ensures text { IfOk result
+        (λ w. string_bytes w.text ≡ framed testing.now worked.status (string_bytes worked.text)) }
     ensures status { IfOk result (λ w. w.status ≡ ended_by testing.now worked.status) }
 {
     let text = testing.framed(alloc, worked.status, worked.text.as_str())?;
@@ -38,11 +39,13 @@ fn work_lines<C: Clock, R: Wait>(
     clock: &mut C,
 ) -> Result<Worked, NoMemory>
     requires { length bytes.now < 2 ^ 32 }
-    ensures done { (form : the.Form) → testing.old ≡ begins form → IfOk result (λ w. (state : Progress) × (decided : List Decided)
+    ensures done { (form : the.Form) → testing.old ≡ begins form
+        → IfOk result (λ w. (state : Progress) × (decided : List Decided)
         × Comes _ (tested form) bytes.now (C.given clock.old) (C.given clock.new) []
         (record { text = string_bytes w.text; status = w.status; state = state; decided = decided })) }
     ensures ends { IfOk result (λ w. (w.status ≡ Status.Done) ⊎ (w.status ≡ Status.BadLine)) }
-    ensures cut_off { (form : the.Form) → testing.old ≡ begins form → OnErr result ((later : List Moment) × (output : Output Progress)
+    ensures cut_off { (form : the.Form) → testing.old ≡ begins form
+        → OnErr result ((later : List Moment) × (output : Output Progress)
         × Comes _ (tested form) bytes.now (C.given clock.old) (C.given clock.new) later output) }
 {
     let worked = match follow(alloc, testing, bytes, clock) {
@@ -64,7 +67,8 @@ fn test_lines<C: Clock, R: Wait>(
     clock: &mut C,
 ) -> Result<Worked, NoMemory>
     requires { length bytes.now < 2 ^ 32 }
-    ensures done { IfOk result (λ w. (state : Progress) × (decided : List Decided) × Comes _ (tested form) bytes.now (C.given clock.old) (C.given clock.new) []
+    ensures done { IfOk result (λ w. (state : Progress) × (decided : List Decided)
+        × Comes _ (tested form) bytes.now (C.given clock.old) (C.given clock.new) []
         (record { text = string_bytes w.text; status = w.status; state = state; decided = decided })) }
     ensures ends { IfOk result (λ w. (w.status ≡ Status.Done) ⊎ (w.status ≡ Status.BadLine)) }
     ensures cut_off { OnErr result ((later : List Moment) × (output : Output Progress)
@@ -114,11 +118,13 @@ pub fn test<S: Source, K: Sink, C: Clock, R: Wait>(
 ) -> u8
     // Each status comes as `Stands` says: with Done and BadLine the sink got exactly what the tests of the source's lines come to,
     // after a failed write a prefix of it, and a count of faults rose exactly where the status says so.
-    ensures answers { (form : the.Form) → form_of (map string_bytes words.now) ≡ Some form → OfStatus result (IsRun (Stands _ (tested form))
+    ensures answers { (form : the.Form) → form_of (map string_bytes words.now) ≡ Some form
+        → OfStatus result (IsRun (Stands _ (tested form))
         (ports (S.left source.old) (S.ended source.old) (S.faults source.old) (C.given clock.old) (K.held sink.old) (K.faults sink.old))
         (ports (S.left source.new) (S.ended source.new) (S.faults source.new) (C.given clock.new) (K.held sink.new) (K.faults sink.new))) }
     ensures usage { form_of (map string_bytes words.now) ≡ None → result ≡ 1 }
-    ensures untouched { form_of (map string_bytes words.now) ≡ None → (source.new ≡ source.old) × (sink.new ≡ sink.old) × (clock.new ≡ clock.old) }
+    ensures untouched { form_of (map string_bytes words.now) ≡ None
+        → (source.new ≡ source.old) × (sink.new ≡ sink.old) × (clock.new ≡ clock.old) }
 {
     match form_of(alloc, words) {
         Ok(Some(form)) => test_script(rt, alloc, form, source, sink, clock).number(),

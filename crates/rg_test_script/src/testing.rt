@@ -59,7 +59,8 @@ fn decide<R: Wait>(
     request: AccessRequest,
 ) -> Result<Outcome, LineFault>
     ensures same { replay.new ≡ replay.old }
-    ensures came { IfOk result (λ outcome. CameTo (decide_work replay.old request) replay.old outcome) }
+    ensures came { IfOk result
+        (λ outcome. CameTo (decide_work replay.old request) replay.old outcome) }
     ensures bad { result ≡ Err LineFault.Bad → decide_work replay.old request ≡ None }
 {
     match replay.newest_decision(alloc, &request) {
@@ -83,7 +84,8 @@ fn replay_line<R: Wait>(
     line: &[u8],
     now: Moment,
 ) -> Result<Outcome, LineFault>
-    ensures came { IfOk result (λ outcome. CameTo (replay_step replay.old line.now now) replay.new outcome) }
+    ensures came { IfOk result
+        (λ outcome. CameTo (replay_step replay.old line.now now) replay.new outcome) }
     ensures bad { result ≡ Err LineFault.Bad → replay_step replay.old line.now now ≡ None }
     ensures unchanged { result ≡ Err LineFault.Bad → replay.new ≡ replay.old }
 {
@@ -122,7 +124,8 @@ fn line_of(alloc: Global, outcome: &Outcome) -> Result<String, NoMemory>
 /// Why the request is decided so over these facts, which are sound.
 fn explained(alloc: Global, facts: Facts, request: &AccessRequest) -> Result<Text, NoMemory>
     requires { sound facts ≡ true }
-    ensures { IfOk result (λ t. encode_utf8_all t ≡ explanation_words false request.now (explanation facts request.now (record { 0 = 0 }))) }
+    ensures { IfOk result (λ t. encode_utf8_all t ≡ explanation_words false request.now
+        (explanation facts request.now (record { 0 = 0 }))) }
 {
     let explainer = Explainer::build(alloc, facts)?;
     // (its serial isn't printed)
@@ -160,7 +163,14 @@ impl<'a, R: Wait> Model for Testing<'a, R> {
 
     ghost Value = { Progress };
 
-    ghost view = { λ t. record { form = t.form; script = t.replay; last = t.last; number = t.number; passed = t.passed; failed = t.failed } };
+    ghost view = { λ t. record {
+      form = t.form;
+      script = t.replay;
+      last = t.last;
+      number = t.number;
+      passed = t.passed;
+      failed = t.failed;
+    } };
 }
 
 impl<'a, R: Wait> Testing<'a, R> {
@@ -181,7 +191,8 @@ impl<'a, R: Wait> Testing<'a, R> {
     /// Why the last line came to what it did, where it is a decision.
     #[tactic(auto, using(crate::proofs::Working::reasons))]
     fn reason(&self, alloc: Global) -> Result<Text, NoMemory>
-        ensures { IfOk result (λ t. encode_utf8_all t ≡ reason_of (newest_of self.now.script) self.now.last) }
+        ensures { IfOk result
+            (λ t. encode_utf8_all t ≡ reason_of (newest_of self.now.script) self.now.last) }
     {
         let request = match &self.last {
             Outcome::Decided(request, _) => request,
@@ -225,7 +236,8 @@ impl<'a, R: Wait> Testing<'a, R> {
     /// The expectation, where it is of a form and stands behind a line that came to something.
     #[tactic(auto, using(crate::proofs::Working::sounding))]
     fn sound<'w>(&self, wanted: &'w [u8]) -> Option<&'w str>
-        ensures { option_map (λ text. text.now) result ≡ (if is_sound self.now wanted.now then Some wanted.now else None) }
+        ensures { option_map (λ text. text.now) result
+            ≡ (if is_sound self.now wanted.now then Some wanted.now else None) }
     {
         if !is_form(wanted) {
             return None;
@@ -253,9 +265,11 @@ impl<'a, R: Wait> Testing<'a, R> {
     /// Judges the expectation of a comment.
     #[tactic(auto, using(crate::proofs::Working::judging))]
     fn judge(&mut self, alloc: Global, wanted: &[u8], text: &mut String) -> Result<(), LineFault>
-        ensures worked { OnOk result (IsWorked (judge_work self.old wanted.now) self.new (string_bytes text.old) (string_bytes text.new)) }
+        ensures worked { OnOk result (IsWorked (judge_work self.old wanted.now) self.new
+            (string_bytes text.old) (string_bytes text.new)) }
         ensures bad { result ≡ Err LineFault.Bad → judge_work self.old wanted.now ≡ None }
-        ensures unchanged { result ≡ Err LineFault.Bad → (self.new ≡ self.old) × (string_bytes text.new ≡ string_bytes text.old) }
+        ensures unchanged { result ≡ Err LineFault.Bad
+            → (self.new ≡ self.old) × (string_bytes text.new ≡ string_bytes text.old) }
     {
         let Some(wanted) = self.sound(wanted) else {
             return Err(LineFault::Bad);
@@ -289,7 +303,8 @@ impl<'a, R: Wait> Testing<'a, R> {
     /// Works any other line, of which nothing is printed.
     #[tactic(auto, using(crate::proofs::Working::moving))]
     fn other(&mut self, alloc: Global, line: &[u8], now: Moment) -> Result<(), LineFault>
-        ensures worked { OnOk result ((text : List ℕ) → IsWorked (other_work self.old line.now now) self.new text text) }
+        ensures worked { OnOk result ((text : List ℕ)
+            → IsWorked (other_work self.old line.now now) self.new text text) }
         ensures bad { result ≡ Err LineFault.Bad → other_work self.old line.now now ≡ None }
         ensures unchanged { result ≡ Err LineFault.Bad → self.new ≡ self.old }
     {

@@ -34,7 +34,8 @@ fn remote_of(
 
 // Asks the administration, and prints what it gave.
 fn show(rt: &HostRuntime, words: &Words) -> Status
-    ensures { (result ≡ Status.Done) ⊎ ((result ≡ Status.WriteFault) ⊎ ((result ≡ Status.NetFault) ⊎ (result ≡ Status.NoMemory))) }
+    ensures { (result ≡ Status.Done) ⊎ ((result ≡ Status.WriteFault)
+        ⊎ ((result ≡ Status.NetFault) ⊎ (result ≡ Status.NoMemory))) }
 {
     let Ok(link) = connect(rt, words.address, PATIENCE) else {
         return Status::NetFault;

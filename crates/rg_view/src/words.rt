@@ -15,7 +15,9 @@ pub(crate) struct Words<'a> {
 }
 
 fn wanted<'a>(address: &'a str, service: &'a str, user: &'a str) -> Option<Words<'a>>
-    ensures { option_map (λ w. record { address = w.address.now; service = w.service.now; user = w.user.now }) result ≡ wanted address.entry.now service.entry.now user.entry.now }
+    ensures { option_map
+        (λ w. record { address = w.address.now; service = w.service.now; user = w.user.now }) result
+        ≡ wanted address.entry.now service.entry.now user.entry.now }
 {
     if is_plain(address) && is_plain(service) && is_plain(user) {
         return Some(Words {
@@ -30,7 +32,11 @@ fn wanted<'a>(address: &'a str, service: &'a str, user: &'a str) -> Option<Words
 /// What the words ask for.
 #[tactic(auto, unfolding(crate::specs::Words::own_name))]
 pub(crate) fn wanted_of<'a>(words: &'a [String]) -> Option<Words<'a>>
-    ensures { option_map (λ w. record { address = w.address.now; service = w.service.now; user = w.user.now }) result ≡ wanted_of (map string_bytes words.entry.now) }
+    ensures { option_map (λ w. record {
+      address = w.address.now;
+      service = w.service.now;
+      user = w.user.now;
+    }) result ≡ wanted_of (map string_bytes words.entry.now) }
 {
     match words {
         [address, service] => wanted(address.as_str(), service.as_str(), "rangerd-view"),

@@ -131,7 +131,8 @@ fn work<J: Configured, K: Keeper + Drop, Q: Wait + Drop, R: Wait>(
 
 /// The administration of the configuration.
 fn begin(alloc: Global, config: Config) -> Result<Admin, StartFault>
-    ensures started { IfOk result (λ a. (a ≡ started config) × IsStart a × (start_fault config ≡ None)) }
+    ensures started { IfOk result (λ a. (a ≡ started config)
+        × IsStart a × (start_fault config ≡ None)) }
 {
     match Admin::start(alloc, config) {
         Ok(admin) => Ok(admin),
