@@ -73,7 +73,8 @@ impl<P: Recorder> Model for Admin<P> {
 
     ghost view = { λ a. administration_in a.held };
 
-    ghost invariant = { λ a. IsReached (administration_in a.held) × IsCounted a.counts a.held.state.policies.items × P.holds a.recorder (administration_in a.held) };
+    ghost invariant = { λ a. IsReached (administration_in a.held) × IsCounted
+        a.counts a.held.state.policies.items × P.holds a.recorder (administration_in a.held) };
 }
 
 /// The first rule that the ask breaks.
@@ -126,7 +127,8 @@ fn accept<P: Recorder>(
     requires packed { IsPacked held.old.state }
     requires passes { fault held.old.state ask ≡ None }
     requires holds { P.holds recorder.old (administration_in held.old) }
-    ensures ok { OnOk result (IsMade (administration_in held.old) ask.command (administration_in held.new)) }
+    ensures ok { OnOk result
+        (IsMade (administration_in held.old) ask.command (administration_in held.new)) }
     ensures err { OnErr result (administration_in held.new ≡ administration_in held.old) }
     ensures holds { P.holds recorder.new (administration_in held.new) }
 {
@@ -172,7 +174,8 @@ fn answer<P: Recorder>(
     requires packed { IsPacked held.old.state }
     requires passes { fault held.old.state ask ≡ None }
     requires holds { P.holds recorder.old (administration_in held.old) }
-    ensures ok { IfOk result (IsAccepted (administration_in held.old) ask (administration_in held.new)) }
+    ensures ok { IfOk result
+        (IsAccepted (administration_in held.old) ask (administration_in held.new)) }
     ensures err { OnErr result (administration_in held.new ≡ administration_in held.old) }
     ensures holds { P.holds recorder.new (administration_in held.new) }
 {
@@ -205,7 +208,8 @@ fn answer_counted<P: Recorder>(
     requires passes { fault held.old.state ask ≡ None }
     requires holds { P.holds recorder.old (administration_in held.old) }
     requires counted { IsCounted counts.old held.old.state.policies.items }
-    ensures ok { IfOk result (IsAccepted (administration_in held.old) ask (administration_in held.new)) }
+    ensures ok { IfOk result
+        (IsAccepted (administration_in held.old) ask (administration_in held.new)) }
     ensures err { OnErr result (administration_in held.new ≡ administration_in held.old) }
     ensures counted { IsCounted counts.new held.new.state.policies.items }
     ensures holds { P.holds recorder.new (administration_in held.new) }
@@ -241,7 +245,8 @@ fn step_held<P: Recorder>(
     requires packed { IsPacked held.old.state }
     requires counted { IsCounted counts.old held.old.state.policies.items }
     requires holds { P.holds recorder.old (administration_in held.old) }
-    ensures ok { IfOk result (IsStep (administration_in held.old) ask (administration_in held.new)) }
+    ensures ok { IfOk result
+        (IsStep (administration_in held.old) ask (administration_in held.new)) }
     ensures err { OnErr result (administration_in held.new ≡ administration_in held.old) }
     ensures counted { IsCounted counts.new held.new.state.policies.items }
     ensures holds { P.holds recorder.new (administration_in held.new) }

@@ -24,7 +24,8 @@ fn copy_entries(
     alloc: Global,
     entries: Iter<LogEntry>,
 ) -> Result<(Seq<PolicyChange>, bool), NoMemory>
-    ensures changes { IfOk result (λ r. r.0 ≡ listed (filter_map policy_change (deque_iter_rest entries.entry))) }
+    ensures changes { IfOk result
+        (λ r. r.0 ≡ listed (filter_map policy_change (deque_iter_rest entries.entry))) }
     ensures zones { IfOk result (λ r. r.1 ≡ list_any is_of_zones (deque_iter_rest entries.entry)) }
 {
     let mut changes = Seq::new(alloc);
@@ -54,7 +55,8 @@ fn policy_delta(
     from: Version,
     entries: Iter<LogEntry>,
 ) -> Result<PolicyDelta, NoMemory>
-    ensures { IfOk result (λ delta. delta ≡ policy_delta served.now.facts from (deque_iter_rest entries.entry)) }
+    ensures { IfOk result
+        (λ delta. delta ≡ policy_delta served.now.facts from (deque_iter_rest entries.entry)) }
 {
     let (changes, of_zones) = copy_entries(alloc, entries)?;
     let zones = if of_zones {
@@ -75,7 +77,8 @@ fn policy_part(
     served: &Served,
     from: Option<Version>,
 ) -> Result<PolicyPart, NoMemory>
-    ensures { IfOk result (λ part. part ≡ policy_part served.now.facts (policy_book served.now.log) from) }
+    ensures { IfOk result
+        (λ part. part ≡ policy_part served.now.facts (policy_book served.now.log) from) }
 {
     let Some(from) = from else {
         return Ok(PolicyPart::Whole(served.policy_whole(alloc)?));
@@ -95,7 +98,8 @@ fn tag_delta(
     from: Version,
     changes: Iter<TagChange>,
 ) -> Result<TagDelta, NoMemory>
-    ensures { IfOk result (λ delta. delta ≡ tag_delta served.now.facts from (deque_iter_rest changes.entry)) }
+    ensures { IfOk result
+        (λ delta. delta ≡ tag_delta served.now.facts from (deque_iter_rest changes.entry)) }
 {
     let changes = copy_changes(alloc, changes)?;
     Ok(TagDelta {
@@ -106,7 +110,8 @@ fn tag_delta(
 }
 
 fn tag_part(alloc: Global, served: &Served, from: Option<Version>) -> Result<TagPart, NoMemory>
-    ensures { IfOk result (λ part. part ≡ tag_part served.now.facts (tag_book served.now.log) from) }
+    ensures { IfOk result
+        (λ part. part ≡ tag_part served.now.facts (tag_book served.now.log) from) }
 {
     let Some(from) = from else {
         return Ok(TagPart::Whole(served.tag_whole(alloc)?));
@@ -137,7 +142,9 @@ pub(crate) fn download_of(
     tags_from: Option<Version>,
     roles_from: Option<Version>,
 ) -> Result<Option<Download>, NoMemory>
-    ensures { IfOk result (λ d. d ≡ download (administration_of state.now logs.now) (chars service.now) (record { policies = policies_from; tags = tags_from; roles = roles_from })) }
+    ensures { IfOk result
+        (λ d. d ≡ download (administration_of state.now logs.now) (chars service.now)
+        (record { policies = policies_from; tags = tags_from; roles = roles_from })) }
 {
     let Some(served) = Served::find(state, logs, service) else {
         return Ok(None);

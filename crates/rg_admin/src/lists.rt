@@ -81,7 +81,8 @@ pub(crate) fn take_away<T: Drop>(alloc: Global, list: &mut Seq<T>, place: Option
 
 /// The place of the item that has the name of this one.
 fn place_of<T: Named>(list: &Seq<T>, item: &T) -> Option<usize>
-    ensures first { result ≡ position (λ x. bytes_eq (T.named x) (T.named item.now)) list.now.items }
+    ensures first { result
+        ≡ position (λ x. bytes_eq (T.named x) (T.named item.now)) list.now.items }
     ensures within { IfSome result (λ p. p < length list.now.items) }
 {
     place_named(list.as_slice(), item.name())
@@ -94,7 +95,8 @@ pub(crate) fn put_named<T: Named + Drop>(
     item: T,
 ) -> Result<(), NoMemory>
     requires { IsTightList (λ a b. bytes_eq (T.named b) (T.named a)) list.old }
-    ensures ok { OnOk result (list.new ≡ listed (put (λ x. bytes_eq (T.named x) (T.named item)) item list.old.items)) }
+    ensures ok { OnOk result (list.new
+        ≡ listed (put (λ x. bytes_eq (T.named x) (T.named item)) item list.old.items)) }
     ensures err { OnErr result (list.new ≡ list.old) }
 {
     let place = place_of(list, &item);
@@ -104,7 +106,8 @@ pub(crate) fn put_named<T: Named + Drop>(
 /// Takes the item of this name away.
 pub(crate) fn remove_named<T: Named + Drop>(alloc: Global, list: &mut Seq<T>, name: &str)
     requires { IsTightList (λ a b. bytes_eq (T.named b) (T.named a)) list.old }
-    ensures { list.new ≡ listed (without (λ x. bytes_eq (T.named x) (chars name.now)) list.old.items) }
+    ensures { list.new
+        ≡ listed (without (λ x. bytes_eq (T.named x) (chars name.now)) list.old.items) }
 {
     let place = place_named(list.as_slice(), name);
     take_away(alloc, list, place);

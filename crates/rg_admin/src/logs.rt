@@ -39,9 +39,14 @@ impl Model for ServiceLog {
 
     ghost Value = { Planned };
 
-    ghost view = { λ l. record { log = log_of l.service l.policies.book l.tags.book; policies = l.policies_due; tags = l.tags_due } };
+    ghost view = { λ l. record {
+      log = log_of l.service l.policies.book l.tags.book;
+      policies = l.policies_due;
+      tags = l.tags_due;
+    } };
 
-    ghost invariant = { λ l. IsReady l.policies_due l.policies.spare × IsReady l.tags_due l.tags.spare };
+    ghost invariant = { λ l. IsReady l.policies_due l.policies.spare
+        × IsReady l.tags_due l.tags.spare };
 }
 
 impl ServiceLog {

@@ -62,14 +62,16 @@ fn has_tag_def(row: Option<&ServiceRow>, def: &Text) -> bool
 
 /// Whether there is a service that has this definition, or whose tag service has it.
 pub(crate) fn uses_def(row: Option<&ServiceRow>, def: &Text) -> bool
-    ensures { result ≡ (has_def def.now (option_map (λ r. r.now) row.entry) || tag_def_named def.now (option_map (λ r. r.now) row.entry)) }
+    ensures { result ≡ (has_def def.now (option_map (λ r. r.now) row.entry)
+        || tag_def_named def.now (option_map (λ r. r.now) row.entry)) }
 {
     has_def(row, def) || has_tag_def(row, def)
 }
 
 /// Whether there is a service, which has this tag service.
 pub(crate) fn has_tag_service(row: Option<&ServiceRow>, name: &Text) -> bool
-    ensures { result ≡ has_tag_service name.now (option_and_then tag_service_in (option_map (λ r. r.now) row.entry)) }
+    ensures { result ≡ has_tag_service name.now
+        (option_and_then tag_service_in (option_map (λ r. r.now) row.entry)) }
 {
     let Some(row) = row else {
         return false;

@@ -18,14 +18,16 @@ pub(crate) type Places = BTreeMap<String, usize>;
 
 /// The place of the name.
 pub(crate) fn place_at(places: &Places, name: &str) -> Option<usize>
-    ensures { (names : List (List ℕ)) → IsIndex places.now names → result ≡ place_in names (chars name.now) }
+    ensures { (names : List (List ℕ)) → IsIndex places.now names
+        → result ≡ place_in names (chars name.now) }
 {
     places.get(name).copied()
 }
 
 /// Whether the name has a place.
 pub(crate) fn has_place(places: &Places, name: &Text) -> bool
-    ensures { (names : List (List ℕ)) → IsIndex places.now names → result ≡ is_among name.now names }
+    ensures { (names : List (List ℕ)) → IsIndex places.now names
+        → result ≡ is_among name.now names }
 {
     place_at(places, name.as_str()).is_some()
 }
@@ -42,7 +44,8 @@ fn place_of<T: Named>(list: &[T], places: &Places, name: &str) -> Option<usize>
 /// The thing of this name.
 pub(crate) fn find_placed<'a, T: Named>(list: &'a [T], places: &Places, name: &str) -> Option<&'a T>
     requires { IsIndex places.now (map T.named list.now) }
-    ensures { option_map (λ t. t.now) result ≡ find (λ x. bytes_eq (T.named x) (chars name.now)) list.now }
+    ensures { option_map (λ t. t.now) result
+        ≡ find (λ x. bytes_eq (T.named x) (chars name.now)) list.now }
 {
     match place_of(list, places, name) {
         Some(place) => Some(&list[place]),
@@ -52,7 +55,8 @@ pub(crate) fn find_placed<'a, T: Named>(list: &'a [T], places: &Places, name: &s
 
 /// Gives a name that has none this place.
 fn insert(alloc: Global, places: &mut Places, name: &str, place: usize) -> Result<(), NoMemory>
-    ensures { OnOk result ((names : List (List ℕ)) → IsIndex places.old names → place_in names (chars name.now) ≡ None → place ≡ length names
+    ensures { OnOk result ((names : List (List ℕ)) → IsIndex places.old names
+        → place_in names (chars name.now) ≡ None → place ≡ length names
         → IsIndex places.new (names ++ chars name.now ∷ [])) }
 {
     let Ok(key) = String::from_str(alloc, name) else {
@@ -90,7 +94,8 @@ pub(crate) fn put_placed<T: Named + Drop>(
 ) -> Result<(), NoMemory>
     requires tight { IsTightList (λ a b. bytes_eq (T.named b) (T.named a)) list.old }
     requires placed { IsIndex places.old (map T.named list.old.items) }
-    ensures ok { OnOk result (list.new ≡ listed (put (λ x. bytes_eq (T.named x) (T.named item)) item list.old.items)) }
+    ensures ok { OnOk result (list.new
+        ≡ listed (put (λ x. bytes_eq (T.named x) (T.named item)) item list.old.items)) }
     ensures placed { OnOk result (IsIndex places.new (map T.named list.new.items)) }
 {
     match place_at(places, item.name()) {

@@ -59,7 +59,8 @@ fn plan_each(
 ) -> Result<(), NoMemory>
     requires { IsValid state.now }
     ensures logs { logs_of logs.new.items ≡ logs_of logs.old.items }
-    ensures ok { OnOk result (logs.new.items ≡ map (plan_for state.now command.now) logs.old.items) }
+    ensures ok { OnOk result (logs.new.items
+        ≡ map (plan_for state.now command.now) logs.old.items) }
 {
     let policy = noted_policy(alloc, state, command)?;
     let noted = policy.as_ref();
@@ -96,7 +97,8 @@ pub(crate) fn plan(
 ) -> Result<Due, NoMemory>
     requires { IsValid state.now }
     ensures logs { logs_of logs.new.items ≡ logs_of logs.old.items }
-    ensures due { IfOk result (λ due. logs_of (done due logs.new.items) ≡ logs_after state.now command.now (logs_of logs.old.items)) }
+    ensures due { IfOk result (λ due. logs_of (done due logs.new.items)
+        ≡ logs_after state.now command.now (logs_of logs.old.items)) }
     ensures room { IfOk result (λ due. HasRoom due (vec_len logs.new) (vec_capacity logs.new)) }
 {
     match command {
@@ -131,7 +133,8 @@ fn add_log(logs: &mut Vec<ServiceLog>, log: ServiceLog)
 }
 
 fn drop_log(logs: &mut Vec<ServiceLog>, service: &Text)
-    ensures { logs.new.items ≡ filter (λ (p : Planned). not (is_log_of service.now p.log)) logs.old.items }
+    ensures { logs.new.items
+        ≡ filter (λ (p : Planned). not (is_log_of service.now p.log)) logs.old.items }
 {
     logs.retain(|log| !same_text(log.service().as_str(), service.as_str()));
 }

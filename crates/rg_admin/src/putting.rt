@@ -82,10 +82,13 @@ pub(crate) trait Configured {
     /// ask about.
     fn put(self, alloc: Global, putting: &mut Putting) -> Result<(), StartFault>
         requires { IsPutting putting.old }
-        ensures passed { OnOk result (first_failing (start_rules putting.old.state (put_by self)) ≡ None) }
-        ensures made { OnOk result (putting.new.state ≡ after_command putting.old.state (put_by self)) }
+        ensures passed { OnOk result (first_failing (start_rules putting.old.state (put_by self))
+            ≡ None) }
+        ensures made { OnOk result (putting.new.state
+            ≡ after_command putting.old.state (put_by self)) }
         ensures putting { OnOk result (IsPutting putting.new) }
-        ensures err { IfErr result (λ fault. IsCause fault (first_failing (start_rules putting.old.state (put_by self)))) };
+        ensures err { IfErr result (λ fault.
+            IsCause fault (first_failing (start_rules putting.old.state (put_by self)))) };
 }
 
 impl Configured for ServiceDef {
@@ -120,10 +123,12 @@ impl Configured for UserRow {
 
 fn put_def(alloc: Global, putting: &mut Putting, def: ServiceDef) -> Result<(), StartFault>
     requires { IsPutting putting.old }
-    ensures passed { OnOk result (first_failing (start_rules putting.old.state (PutDef def)) ≡ None) }
+    ensures passed { OnOk result (first_failing (start_rules putting.old.state (PutDef def))
+        ≡ None) }
     ensures made { OnOk result (putting.new.state ≡ after_command putting.old.state (PutDef def)) }
     ensures putting { OnOk result (IsPutting putting.new) }
-    ensures err { IfErr result (λ fault. IsCause fault (first_failing (start_rules putting.old.state (PutDef def)))) }
+    ensures err { IfErr result
+        (λ fault. IsCause fault (first_failing (start_rules putting.old.state (PutDef def)))) }
 {
     zones_apart_by_pairs();
     match definition_fault(alloc, &def) {
@@ -215,10 +220,13 @@ fn service_fault(putting: &Putting, row: &ServiceRow) -> Option<Rule>
 
 fn put_service(alloc: Global, putting: &mut Putting, row: ServiceRow) -> Result<(), StartFault>
     requires { IsPutting putting.old }
-    ensures passed { OnOk result (first_failing (start_rules putting.old.state (CreateService row)) ≡ None) }
-    ensures made { OnOk result (putting.new.state ≡ after_command putting.old.state (CreateService row)) }
+    ensures passed { OnOk result (first_failing (start_rules putting.old.state (CreateService row))
+        ≡ None) }
+    ensures made { OnOk result (putting.new.state
+        ≡ after_command putting.old.state (CreateService row)) }
     ensures putting { OnOk result (IsPutting putting.new) }
-    ensures err { IfErr result (λ fault. IsCause fault (first_failing (start_rules putting.old.state (CreateService row)))) }
+    ensures err { IfErr result (λ fault.
+        IsCause fault (first_failing (start_rules putting.old.state (CreateService row)))) }
 {
     zones_apart_by_pairs();
     match service_fault(putting, &row) {
@@ -240,10 +248,13 @@ fn put_service(alloc: Global, putting: &mut Putting, row: ServiceRow) -> Result<
 
 fn put_user(alloc: Global, putting: &mut Putting, user: UserRow) -> Result<(), StartFault>
     requires { IsPutting putting.old }
-    ensures passed { OnOk result (first_failing (start_rules putting.old.state (PutUser user)) ≡ None) }
-    ensures made { OnOk result (putting.new.state ≡ after_command putting.old.state (PutUser user)) }
+    ensures passed { OnOk result (first_failing (start_rules putting.old.state (PutUser user))
+        ≡ None) }
+    ensures made { OnOk result (putting.new.state
+        ≡ after_command putting.old.state (PutUser user)) }
     ensures putting { OnOk result (IsPutting putting.new) }
-    ensures err { IfErr result (λ fault. IsCause fault (first_failing (start_rules putting.old.state (PutUser user)))) }
+    ensures err { IfErr result
+        (λ fault. IsCause fault (first_failing (start_rules putting.old.state (PutUser user)))) }
 {
     zones_apart_by_pairs();
     if !user_fits(&user) {

@@ -18,16 +18,20 @@ pub trait Recorder: Drop {
 
     /// Keeps an ask that passes every rule and isn't done yet. Where memory is refused, or it can keep no more, the ask isn't done.
     fn record(&mut self, alloc: Global, ask: &Ask) -> Result<(), NoMemory>
-        ensures kept { OnOk result ((a : Administration) → holds self.old a → fault a.state ask.now ≡ None → holds self.new (accepted a ask.now.command)) }
-        ensures undone { OnOk result ((a : Administration) → holds self.old a → fault a.state ask.now ≡ None → undoes self.new a) }
-        ensures unkept { OnErr result ((a : Administration) → holds self.old a → fault a.state ask.now ≡ None → holds self.new a) };
+        ensures kept { OnOk result ((a : Administration) → holds self.old a
+            → fault a.state ask.now ≡ None → holds self.new (accepted a ask.now.command)) }
+        ensures undone { OnOk result ((a : Administration)
+            → holds self.old a → fault a.state ask.now ≡ None → undoes self.new a) }
+        ensures unkept { OnErr result ((a : Administration)
+            → holds self.old a → fault a.state ask.now ≡ None → holds self.new a) };
 
     /// Ends the keeping, where an ask was kept and can't be done.
     fn stop(&mut self)
         ensures { (a : Administration) → undoes self.old a → holds self.new a };
 
     /// A refused ask counts for nothing.
-    ghost refusals_count_for_nothing: { (recorder : Self) (a : Administration) → holds recorder a → holds recorder (refused a) };
+    ghost refusals_count_for_nothing: { (recorder : Self) (a : Administration)
+        → holds recorder a → holds recorder (refused a) };
 }
 
 /// Keeps nothing.

@@ -38,7 +38,10 @@ impl<'a> Model for Served<'a> {
 
     ghost Value = { Seen };
 
-    ghost view = { λ s. record { log = s.log.now.log; facts = facts_of (chars s.name.now) s.state.now s.log.now.log s.row.now s.def.now } };
+    ghost view = { λ s. record {
+      log = s.log.now.log;
+      facts = facts_of (chars s.name.now) s.state.now s.log.now.log s.row.now s.def.now;
+    } };
 }
 
 impl Named for ServiceLog {
@@ -84,7 +87,8 @@ fn policies_of(
     policies: &[Shared<Policy>],
     service: &str,
 ) -> Result<Seq<Shared<Policy>>, NoMemory>
-    ensures { IfOk result (λ list. list ≡ listed (filter (is_of (chars service.now)) policies.now)) }
+    ensures { IfOk result
+        (λ list. list ≡ listed (filter (is_of (chars service.now)) policies.now)) }
 {
     let mut list = Seq::new(alloc);
     for policy in policies {
@@ -111,7 +115,8 @@ fn tag_policies_of(
 
 /// Copies of the tag rows of the service.
 fn tag_rows_of(alloc: Global, rows: &[TagRow], service: &str) -> Result<Seq<TagRow>, NoMemory>
-    ensures { IfOk result (λ list. list ≡ listed (filter (is_row_of (chars service.now)) rows.now)) }
+    ensures { IfOk result
+        (λ list. list ≡ listed (filter (is_row_of (chars service.now)) rows.now)) }
 {
     let mut list = Seq::new(alloc);
     for row in rows {
@@ -129,7 +134,8 @@ impl<'a> Served<'a> {
         logs: &'a [ServiceLog],
         name: &'a str,
     ) -> Option<Served<'a>>
-        ensures facts { option_map (λ s. s.facts) result ≡ view (administration_of state.now logs.now) (chars name.now) }
+        ensures facts { option_map (λ s. s.facts) result
+            ≡ view (administration_of state.now logs.now) (chars name.now) }
         ensures log { IfSome result (λ s. log_at (logs_of logs.now) (chars name.now) ≡ Some s.log) }
     {
         let log = log_at(logs, name)?;
@@ -145,7 +151,8 @@ impl<'a> Served<'a> {
     }
 
     fn copy_defs(&self, alloc: Global) -> Result<(ServiceDef, Option<ServiceDef>), NoMemory>
-        ensures { IfOk result (λ defs. (defs.0 ≡ self.now.facts.def) × (defs.1 ≡ self.now.facts.tag_def)) }
+        ensures { IfOk result (λ defs. (defs.0 ≡ self.now.facts.def)
+            × (defs.1 ≡ self.now.facts.tag_def)) }
     {
         let def = self.def.try_copy(alloc)?;
         let tag_def = match tag_def_of(self.state, self.name) {
@@ -159,7 +166,8 @@ impl<'a> Served<'a> {
         &self,
         alloc: Global,
     ) -> Result<(Seq<Shared<Policy>>, Seq<Shared<Policy>>), NoMemory>
-        ensures { IfOk result (λ lists. (lists.0 ≡ self.now.facts.policies) × (lists.1 ≡ self.now.facts.tag_policies)) }
+        ensures { IfOk result (λ lists. (lists.0 ≡ self.now.facts.policies)
+            × (lists.1 ≡ self.now.facts.tag_policies)) }
     {
         let policies = policies_of(alloc, self.state.policies.as_slice(), self.name)?;
         let tag_policies = tag_policies_of(alloc, self.state, self.name)?;

@@ -49,7 +49,8 @@ fn put_all<T: Configured + Drop>(
     requires { IsPutting putting.old }
     ensures ok { OnOk result (IsPut putting.old.state (map T.put_by rows.items) putting.new.state) }
     ensures putting { OnOk result (IsPutting putting.new) }
-    ensures err { IfErr result (λ fault. IsCause fault (put_fault putting.old.state (map T.put_by rows.items))) }
+    ensures err { IfErr result
+        (λ fault. IsCause fault (put_fault putting.old.state (map T.put_by rows.items))) }
 {
     for row in rows {
         if let Err(fault) = row.put(alloc, putting) {
@@ -64,8 +65,10 @@ fn parted(
     alloc: Global,
     services: Seq<ServiceRow>,
 ) -> Result<(Vec<ServiceRow>, Vec<ServiceRow>), NoMemory>
-    ensures tags { IfOk result (λ lists. lists.0.items ≡ filter (λ (row : Row). bytes_eq row.def tag_name) services.items) }
-    ensures others { IfOk result (λ lists. lists.1.items ≡ filter (λ (row : Row). not (bytes_eq row.def tag_name)) services.items) }
+    ensures tags { IfOk result (λ lists. lists.0.items
+        ≡ filter (λ (row : Row). bytes_eq row.def tag_name) services.items) }
+    ensures others { IfOk result (λ lists. lists.1.items
+        ≡ filter (λ (row : Row). not (bytes_eq row.def tag_name)) services.items) }
 {
     let mut tags = Vec::new(alloc);
     let mut others = Vec::new(alloc);
@@ -117,9 +120,11 @@ fn put_rows(
     users: Vec<UserRow>,
 ) -> Result<(), StartFault>
     requires { IsPutting putting.old }
-    ensures ok { OnOk result (IsPut putting.old.state (rows_put defs.items tags.items others.items users.items) putting.new.state) }
+    ensures ok { OnOk result (IsPut putting.old.state
+        (rows_put defs.items tags.items others.items users.items) putting.new.state) }
     ensures putting { OnOk result (IsPutting putting.new) }
-    ensures err { IfErr result (λ fault. IsCause fault (put_fault putting.old.state (rows_put defs.items tags.items others.items users.items))) }
+    ensures err { IfErr result (λ fault. IsCause fault (put_fault putting.old.state
+        (rows_put defs.items tags.items others.items users.items))) }
 {
     if let Err(fault) = put_all(alloc, putting, defs) {
         return Err(fault);
@@ -144,7 +149,8 @@ fn state_of(putting: Putting) -> State
 
 /// The state once all rows of the configuration are put.
 fn put_config(alloc: Global, config: Config) -> Result<State, StartFault>
-    ensures { MatchResult result (λ state. IsPutWhole config state) (λ fault. IsCause fault (put_fault (bare_state config) (puts config))) }
+    ensures { MatchResult result (λ state. IsPutWhole config state)
+        (λ fault. IsCause fault (put_fault (bare_state config) (puts config))) }
 {
     let Config {
         admins,
@@ -188,7 +194,10 @@ pub(crate) fn start_parts(
     alloc: Global,
     config: Config,
 ) -> Result<(State, Vec<ServiceLog>), StartFault>
-    ensures { MatchResult result (λ parts. (start_fault config ≡ None) × (administration_of parts.0 parts.1.items ≡ started config) × IsStart (administration_of parts.0 parts.1.items) × IsPacked parts.0) (λ fault. IsCause fault (start_fault config)) }
+    ensures { MatchResult result (λ parts. (start_fault config ≡ None)
+        × (administration_of parts.0 parts.1.items ≡ started config)
+        × IsStart (administration_of parts.0 parts.1.items) × IsPacked parts.0)
+        (λ fault. IsCause fault (start_fault config)) }
 {
     let state = match put_config(alloc, config) {
         Ok(state) => state,

@@ -79,7 +79,8 @@ fn note_of(
     tag: bool,
     policy: &Shared<Policy>,
 ) -> Result<Touch<LogEntry>, NoMemory>
-    ensures { IfOk result (λ t. t ≡ Notes (OfPolicy (record { change_type = change_type; tag = tag; policy = policy.now }))) }
+    ensures { IfOk result (λ t. t ≡ Notes
+        (OfPolicy (record { change_type = change_type; tag = tag; policy = policy.now }))) }
 {
     let policy = policy.try_copy(alloc)?;
     Ok(Touch::Notes(LogEntry::Policy(PolicyChange {
@@ -97,7 +98,8 @@ fn touch_of(
     row: Option<&ServiceRow>,
     service: &Text,
 ) -> Result<Touch<LogEntry>, NoMemory>
-    ensures { IfOk result (λ t. t ≡ touch_of_noted change_type (option_map (λ p. p.now) noted.entry) service.now (option_and_then tag_service_in (option_map (λ r. r.now) row.entry))) }
+    ensures { IfOk result (λ t. t ≡ touch_of_noted change_type (option_map (λ p. p.now) noted.entry)
+        service.now (option_and_then tag_service_in (option_map (λ r. r.now) row.entry))) }
 {
     let Some(policy) = noted else {
         return Ok(Touch::Leaves);
@@ -175,7 +177,8 @@ fn row_touch_of_old(
     prior: Option<&TagRow>,
     service: &Text,
 ) -> Result<Touch<TagChange>, NoMemory>
-    ensures { IfOk result (λ t. t ≡ row_touch_of_old (option_map (λ r. r.now) prior.entry) service.now) }
+    ensures { IfOk result
+        (λ t. t ≡ row_touch_of_old (option_map (λ r. r.now) prior.entry) service.now) }
 {
     match prior {
         Some(old) => row_touch_of(alloc, DELETED, old, old.id, service),
@@ -202,7 +205,8 @@ fn put_touch(
     id: i64,
     service: &Text,
 ) -> Result<Touch<TagChange>, NoMemory>
-    ensures { IfOk result (λ t. t ≡ row_touch_of (put_type state.now id) (stored_row id row.now) service.now) }
+    ensures { IfOk result
+        (λ t. t ≡ row_touch_of (put_type state.now id) (stored_row id row.now) service.now) }
 {
     if !same_text(row.service.as_str(), service.as_str()) {
         return Ok(Touch::Leaves);

@@ -18,7 +18,8 @@ pub(crate) fn view_of(
     logs: &[ServiceLog],
     service: &str,
 ) -> Result<Option<Facts>, NoMemory>
-    ensures { IfOk result (λ facts. facts ≡ view (administration_of state.now logs.now) (chars service.now)) }
+    ensures { IfOk result
+        (λ facts. facts ≡ view (administration_of state.now logs.now) (chars service.now)) }
 {
     match Served::find(state, logs, service) {
         None => Ok(None),

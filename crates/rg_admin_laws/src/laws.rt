@@ -38,7 +38,8 @@ use rg_validate::zones_apart_by_pairs;
 /// The law of downloads: for two states of one legal history, and a service that no entry between them deletes, the download
 /// in the later state from the versions of the earlier view leads from that view to the later one.
 pub fn downloads_lead()
-    ensures { (start : Administration) (h : List (Entry Ask AdminReply)) → IsStart start → IsLegal step start h
+    ensures { (start : Administration) (h : List (Entry Ask AdminReply))
+        → IsStart start → IsLegal step start h
         → (j k : ℕ) → j ≤ k → k ≤ length h → (service : List ℕ) → IsNotDeleted h j k service
         → (before after : Facts) (d : Download) → view (state_at step start h j) service ≡ Some before → view (state_at step start h k) service ≡ Some after
         → download (state_at step start h k) service (from_of before) ≡ Some d → led before d ≡ after }
@@ -46,7 +47,8 @@ pub fn downloads_lead()
 
 /// No version of a service falls while no entry deletes the service.
 pub fn versions_never_fall()
-    ensures { (start : Administration) (h : List (Entry Ask AdminReply)) → IsStart start → IsLegal step start h
+    ensures { (start : Administration) (h : List (Entry Ask AdminReply))
+        → IsStart start → IsLegal step start h
         → (j k : ℕ) → j ≤ k → k ≤ length h → (service : List ℕ) → IsNotDeleted h j k service
         → (before after : Facts) → view (state_at step start h j) service ≡ Some before → view (state_at step start h k) service ≡ Some after
         → AreNoLess before after }
@@ -55,7 +57,8 @@ pub fn versions_never_fall()
 /// In a state of a history an ask is refused exactly where it breaks a rule. The reply names the first, and the refused ask
 /// changes nothing but the count of entries.
 pub fn refusals_are_exact()
-    ensures exact { (start : Administration) (h : List (Entry Ask AdminReply)) → IsStart start → (k : ℕ) (ask : Ask)
+    ensures exact { (start : Administration) (h : List (Entry Ask AdminReply))
+        → IsStart start → (k : ℕ) (ask : Ask)
         → is_refused (step (state_at step start h k) ask).1 ≡ is_some (fault (state_at step start h k).state ask) }
     ensures changes { (a : Administration) (ask : Ask) (rule : Rule) → fault a.state ask ≡ Some rule
         → step a ask ≡ (record a { state = counted a.state }, Refused rule) }
@@ -63,14 +66,16 @@ pub fn refusals_are_exact()
 
 /// The id of a policy is given once, also where the policy is deleted.
 pub fn ids_are_given_once()
-    ensures { (start : Administration) (h : List (Entry Ask AdminReply)) → IsStart start → IsLegal step start h
+    ensures { (start : Administration) (h : List (Entry Ask AdminReply))
+        → IsStart start → IsLegal step start h
         → (j k : ℕ) (e f : Entry Ask AdminReply) → j < k → slice_get h j ≡ Some e → slice_get h k ≡ Some f
         → (id other : PolicyId) → gave_id e.ask.command e.reply ≡ Some id → gave_id f.ask.command f.reply ≡ Some other → int_eq id.0 other.0 ≡ false }
 {}
 
 /// The ids of the policies rise in the order of their creation.
 pub fn ids_rise()
-    ensures { (start : Administration) (h : List (Entry Ask AdminReply)) → IsStart start → IsLegal step start h
+    ensures { (start : Administration) (h : List (Entry Ask AdminReply))
+        → IsStart start → IsLegal step start h
         → (j k : ℕ) (e f : Entry Ask AdminReply) → j < k → slice_get h j ≡ Some e → slice_get h k ≡ Some f
         → (id other : PolicyId) → gave_id e.ask.command e.reply ≡ Some id → gave_id f.ask.command f.reply ≡ Some other → int_lt id.0 other.0 ≡ true }
 {}
@@ -83,9 +88,11 @@ pub fn logs_follow_services()
 
 /// A version is at most one more than the number of the entries before.
 pub fn versions_are_few()
-    ensures logs { (start : Administration) (h : List (Entry Ask AdminReply)) → IsStart start → (k : ℕ) → k ≤ length h
+    ensures logs { (start : Administration) (h : List (Entry Ask AdminReply))
+        → IsStart start → (k : ℕ) → k ≤ length h
         → (log : Log) → Contains (state_at step start h k).logs log → (log.policy_version.0 ≤ k + 1) × (log.tag_version.0 ≤ k + 1) }
-    ensures roles { (start : Administration) (h : List (Entry Ask AdminReply)) → IsStart start → (k : ℕ) → k ≤ length h
+    ensures roles { (start : Administration) (h : List (Entry Ask AdminReply))
+        → IsStart start → (k : ℕ) → k ≤ length h
         → (state_at step start h k).state.role_version.0 ≤ k + 1 }
 {}
 
@@ -93,19 +100,24 @@ pub fn versions_are_few()
 /// policies and the roles are as these rules want them, and so is the command's policy.
 pub fn accepted_commands_are_ready()
     ensures ready { (s : State) → IsValid s → IsReady s }
-    ensures fits { (s : State) → IsValid s → (ask : Ask) → first_fault s ask ≡ None → FormFits s ask.command }
+    ensures fits { (s : State) → IsValid s
+        → (ask : Ask) → first_fault s ask ≡ None → FormFits s ask.command }
 {}
 
 /// The download of a service from some versions is unchanged in each part exactly where that part's version is the present
 /// one, and so in all parts exactly where all three are.
 pub fn unchanged_from_present_versions()
-    ensures policies { (a : Administration) (service : List ℕ) (before after : Facts) (d : Download) → view a service ≡ Some after
+    ensures policies { (a : Administration) (service : List ℕ) (before after : Facts) (d : Download)
+        → view a service ≡ Some after
         → download a service (from_of before) ≡ Some d → same_policies d.policies ≡ (before.policy_version.0 == after.policy_version.0) }
-    ensures tags { (a : Administration) (service : List ℕ) (before after : Facts) (d : Download) → view a service ≡ Some after
+    ensures tags { (a : Administration) (service : List ℕ) (before after : Facts) (d : Download)
+        → view a service ≡ Some after
         → download a service (from_of before) ≡ Some d → same_tags d.tags ≡ (before.tag_version.0 == after.tag_version.0) }
-    ensures roles { (a : Administration) (service : List ℕ) (before after : Facts) (d : Download) → view a service ≡ Some after
+    ensures roles { (a : Administration) (service : List ℕ) (before after : Facts) (d : Download)
+        → view a service ≡ Some after
         → download a service (from_of before) ≡ Some d → same_roles d.roles ≡ (before.role_version.0 == after.role_version.0) }
-    ensures together { (a : Administration) (service : List ℕ) (before after : Facts) (d : Download) → view a service ≡ Some after
+    ensures together { (a : Administration) (service : List ℕ) (before after : Facts) (d : Download)
+        → view a service ≡ Some after
         → download a service (from_of before) ≡ Some d → is_unchanged d ≡ same_versions (versions before) (versions after) }
 {}
 
@@ -117,16 +129,19 @@ pub fn created_policy_may_go()
 
 /// A view rests on no policy of another service that isn't its tag service, and on no tag row of another service.
 pub fn views_rest_on_their_own()
-    ensures policies { (a : Administration) (service : List ℕ) (before after : List Policy) (p : Policy)
+    ensures policies { (a : Administration)
+        (service : List ℕ) (before after : List Policy) (p : Policy)
         → is_of service p ≡ false → is_of_tag (tag_service_of a.state service) p ≡ false
         → view (with_policies a (before ++ p ∷ after)) service ≡ view (with_policies a (before ++ after)) service }
-    ensures tag_rows { (a : Administration) (service : List ℕ) (before after : List TagRow) (row : TagRow) → is_row_of service row ≡ false
+    ensures tag_rows { (a : Administration) (service : List ℕ)
+        (before after : List TagRow) (row : TagRow) → is_row_of service row ≡ false
         → view (with_tag_rows a (before ++ row ∷ after)) service ≡ view (with_tag_rows a (before ++ after)) service }
 {}
 
 /// The plugin's service is never deleted, and every state of a history has its view.
 pub fn plugin_is_always_viewed()
-    ensures stays { (start : Administration) (h : List (Entry Ask AdminReply)) → IsStart start → IsLegal step start h
+    ensures stays { (start : Administration) (h : List (Entry Ask AdminReply))
+        → IsStart start → IsLegal step start h
         → IsNotDeleted h 0 (length h) start.state.plugin }
     ensures viewed { (start : Administration) (h : List (Entry Ask AdminReply)) → IsStart start
         → (k : ℕ) → (f : Facts) × (view (state_at step start h k) start.state.plugin ≡ Some f) }
@@ -134,7 +149,8 @@ pub fn plugin_is_always_viewed()
 
 /// Every state of a history is valid, and passes what else an administration keeps.
 pub fn states_are_kept()
-    ensures { (start : Administration) (h : List (Entry Ask AdminReply)) → IsStart start → (k : ℕ) → IsKept (state_at step start h k).state }
+    ensures { (start : Administration) (h : List (Entry Ask AdminReply))
+        → IsStart start → (k : ℕ) → IsKept (state_at step start h k).state }
 {
     leads_is_decided();
     sound_in_lists();
@@ -146,7 +162,8 @@ pub fn states_are_kept()
 /// The law of sound views: every view in a state of a history before which there are fewer than `2^62` entries is sound, the
 /// start's too.
 pub fn views_are_sound()
-    ensures { (start : Administration) (h : List (Entry Ask AdminReply)) → IsStart start → (k : ℕ) → k ≤ length h → k < 2 ^ 62
+    ensures { (start : Administration) (h : List (Entry Ask AdminReply))
+        → IsStart start → (k : ℕ) → k ≤ length h → k < 2 ^ 62
         → (service : List ℕ) (facts : Facts) → view (state_at step start h k) service ≡ Some facts → sound facts ≡ true }
 {
     leads_is_decided();
@@ -158,7 +175,8 @@ pub fn views_are_sound()
 
 /// Publications that are right for a history are right for it as it goes on.
 pub fn publications_stay_right()
-    ensures { (plugin : List ℕ) (start : Administration) (h more : List (Entry Ask AdminReply)) (ps : List (Publication (administration plugin)))
+    ensures { (plugin : List ℕ) (start : Administration)
+        (h more : List (Entry Ask AdminReply)) (ps : List (Publication (administration plugin)))
         → AreRight (administration plugin) start h ps → AreRight (administration plugin) start (h ++ more) ps }
 {}
 
@@ -166,19 +184,25 @@ pub fn publications_stay_right()
 /// for it, each answer is the evaluation over the last publication that its pass had seen, and how many publications a pass
 /// has seen never falls and is at least each number that it learnt.
 pub fn world()
-    ensures start { (start : Administration) (facts : Facts) (events : Events start) → IsOpened start facts
+    ensures start { (start : Administration) (facts : Facts) (events : Events start)
+        → IsOpened start facts
         → (after_events start facts events).start ≡ start }
-    ensures legal { (start : Administration) (facts : Facts) (events : Events start) → IsOpened start facts
+    ensures legal { (start : Administration) (facts : Facts) (events : Events start)
+        → IsOpened start facts
         → IsLegal step (after_events start facts events).start (after_events start facts events).history }
-    ensures right { (start : Administration) (facts : Facts) (events : Events start) → IsOpened start facts
+    ensures right { (start : Administration) (facts : Facts) (events : Events start)
+        → IsOpened start facts
         → AreRight (administration start.state.plugin) (after_events start facts events).start (after_events start facts events).history
         (publications (administration start.state.plugin) (after_events start facts events)) }
-    ensures answered { (start : Administration) (facts : Facts) (events : Events start) → IsOpened start facts
+    ensures answered { (start : Administration) (facts : Facts) (events : Events start)
+        → IsOpened start facts
         → (a : Answer (administration start.state.plugin)) → Contains (after_events start facts events).answers a
         → IsAnswered (administration start.state.plugin) (after_events start facts events) a }
-    ensures never_falls { (start : Administration) (facts : Facts) (events more : Events start) → IsOpened start facts
+    ensures never_falls { (start : Administration) (facts : Facts) (events more : Events start)
+        → IsOpened start facts
         → (pass : ℕ) → (after_events start facts events).seen pass ≤ (after_events start facts (events ++ more)).seen pass }
-    ensures learnt { (start : Administration) (facts : Facts) (events more : Events start) → IsOpened start facts
+    ensures learnt { (start : Administration) (facts : Facts) (events more : Events start)
+        → IsOpened start facts
         → (pass which n : ℕ) → slice_get (after_events start facts events).tokens which ≡ Some n
         → n ≤ (after_events start facts (events ++ Event.Learn pass which ∷ more)).seen pass }
 {}

@@ -82,7 +82,8 @@ pub fn json_is_orderly(alloc: Global, text: &[u8]) -> Result<(), NoMemory>
 /// Each command that reads from this text is in key order. Nothing is answered: it looks at the text, so that a caller who read
 /// a command from it knows this.
 pub fn commands_are_in_order(alloc: Global, text: &[u8]) -> Result<(), NoMemory>
-    ensures { OnOk result ((command : AdminCommand) → command_reading text.now ≡ Ok command → OwnsPolicy command → IsCommandInOrder command) }
+    ensures { OnOk result ((command : AdminCommand) → command_reading text.now ≡ Ok command
+        → OwnsPolicy command → IsCommandInOrder command) }
 {
     json_is_orderly(alloc, text)
 }

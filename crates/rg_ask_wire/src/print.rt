@@ -94,7 +94,8 @@ fn put_versions(
     tags_from: &Option<Version>,
     roles_from: &Option<Version>,
 ) -> Result<(), NoMemory>
-    ensures { IfOk result (λ u. members_view members.new.entries ≡ with_members name_of (members_view members.old.entries)
+    ensures { IfOk result (λ u. members_view members.new.entries
+        ≡ with_members name_of (members_view members.old.entries)
         ((key.PoliciesFrom, option_data version_data policies_from.now) ∷ (key.TagsFrom, option_data version_data tags_from.now) ∷ (key.RolesFrom, option_data version_data roles_from.now) ∷ [])) }
 {
     let policies = version_json(alloc, policies_from)?;
@@ -112,7 +113,8 @@ fn put_fields(
     members: &mut Map<String, Value>,
     command: &AdminCommand,
 ) -> Result<(), NoMemory>
-    ensures { IfOk result (λ u. members_view members.new.entries ≡ with_members name_of (members_view members.old.entries) (field_members command.now)) }
+    ensures { IfOk result (λ u. members_view members.new.entries
+        ≡ with_members name_of (members_view members.old.entries) (field_members command.now)) }
 {
     match command {
         AdminCommand::PutDef { def } => {
@@ -192,7 +194,8 @@ fn ask_json(alloc: Global, ask: &Ask) -> Result<Value, NoMemory>
 pub fn print_ask(alloc: Global, ask: &Ask) -> Result<Text, NoMemory>
     ensures text { IfOk result (λ t. t ≡ chars (ask_text ask.now)) }
     ensures bytes { IfOk result (λ t. encode_utf8_all t ≡ ask_text ask.now) }
-    ensures again { IfOk result (λ t. IsInKeyOrder ask.now → is_keeping ask.now.command ≡ true → ask_reading (ask_text ask.now) ≡ Ok ask.now) }
+    ensures again { IfOk result (λ t. IsInKeyOrder ask.now
+        → is_keeping ask.now.command ≡ true → ask_reading (ask_text ask.now) ≡ Ok ask.now) }
 {
     let value = ask_json(alloc, ask)?;
     text_of(alloc, &value)

@@ -88,7 +88,8 @@ fn judge_ask(alloc: Global, value: &Value) -> Result<(), WireFault>
 /// The command of an ask.
 fn command_at(alloc: Global, value: &Value) -> Result<AdminCommand, WireFault>
     requires { depth (view value.now) ≤ max_depth }
-    ensures reads { Answers result (reading_in (Some (within (ask_name own.Command) (view value.now)))) }
+    ensures reads { Answers result
+        (reading_in (Some (within (ask_name own.Command) (view value.now)))) }
     ensures owned { IfOk result OwnsPolicy }
 {
     let null = Value::Null;
@@ -100,7 +101,8 @@ fn command_at(alloc: Global, value: &Value) -> Result<AdminCommand, WireFault>
 fn with_actor(alloc: Global, value: &Value, command: AdminCommand) -> Result<Ask, WireFault>
     requires orderly { IsOrderly (view value.now) }
     requires right { fault_of ask_shape (view value.now) ≡ None }
-    requires command { reading_in (Some (within (ask_name own.Command) (view value.now))) ≡ Ok command }
+    requires command { reading_in (Some (within (ask_name own.Command) (view value.now)))
+        ≡ Ok command }
     requires owned { OwnsPolicy command }
     ensures reads { Answers result (ask_in (Some (view value.now))) }
     ensures in_order { IfOk result IsInKeyOrder }

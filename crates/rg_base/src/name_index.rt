@@ -15,7 +15,8 @@ use std::marker::Model;
 
 /// The place in the map.
 fn place_at(places: &BTreeMap<String, u32>, name: &str) -> Option<u32>
-    ensures { (names : List (List ℕ)) → IsIndex places.now names → result ≡ place_in names (chars name.now) }
+    ensures { (names : List (List ℕ)) → IsIndex places.now names
+        → result ≡ place_in names (chars name.now) }
 {
     places.get(name).copied()
 }
@@ -27,7 +28,8 @@ fn insert(
     name: &str,
     place: u32,
 ) -> Result<(), NoMemory>
-    ensures { OnOk result ((names : List (List ℕ)) → IsIndex places.old names → place_in names (chars name.now) ≡ None → place ≡ length names
+    ensures { OnOk result ((names : List (List ℕ)) → IsIndex places.old names
+        → place_in names (chars name.now) ≡ None → place ≡ length names
         → IsIndex places.new (names ++ chars name.now ∷ [])) }
 {
     let Ok(key) = String::from_str(alloc, name) else {

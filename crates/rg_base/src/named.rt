@@ -39,7 +39,8 @@ pub fn is_named<T: Named>(things: &[T], name: &str) -> bool
 
 /// The first thing of this name, None where there is none.
 pub fn find_named<'a, T: Named>(things: &'a [T], name: &str) -> Option<&'a T>
-    ensures { option_map (λ t. t.now) result ≡ find (λ x. bytes_eq (T.named x) (chars name.now)) things.now }
+    ensures { option_map (λ t. t.now) result
+        ≡ find (λ x. bytes_eq (T.named x) (chars name.now)) things.now }
 {
     for thing in things {
         if same_text(thing.name(), name) {
@@ -75,7 +76,8 @@ pub fn names_distinct<T: Named>(things: &[T]) -> bool
 
 /// As `names_distinct`, by an index of the names: for long lists.
 pub fn all_names_distinct<T: Named>(alloc: Global, things: &[T]) -> Result<bool, NoMemory>
-    ensures { IfOk result (λ distinct. distinct ≡ all_distinct (λ x y. bytes_eq (T.named y) (T.named x)) things.now) }
+    ensures { IfOk result
+        (λ distinct. distinct ≡ all_distinct (λ x y. bytes_eq (T.named y) (T.named x)) things.now) }
 {
     let index = NameIndex::build(alloc, things)?;
     Ok(index.are_distinct())

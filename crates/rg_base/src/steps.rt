@@ -78,9 +78,17 @@ impl<L: Ledger> Model for Steps<L> {
 
     ghost Value = { Counts };
 
-    ghost view = { λ s. record { compiles = s.compiles.count; edits = s.edits.count; tries = s.tries.count } };
+    ghost view = { λ s. record {
+      compiles = s.compiles.count;
+      edits = s.edits.count;
+      tries = s.tries.count;
+    } };
 
-    ghost invariant = { λ s. L.tells (record { compiles = s.compiles.count; edits = s.edits.count; tries = s.tries.count }) s.book };
+    ghost invariant = { λ s. L.tells (record {
+      compiles = s.compiles.count;
+      edits = s.edits.count;
+      tries = s.tries.count;
+    }) s.book };
 }
 
 impl Steps<Silent> {

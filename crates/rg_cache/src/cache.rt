@@ -13,11 +13,13 @@ pub trait Cache {
 
     /// The bytes that it holds; None where nothing was stored yet.
     fn load(&mut self, alloc: Global) -> Result<Option<Seq<u8>>, LoadFault>
-        ensures loaded { IfOk result (λ bytes. IsHeld (held self.old) (option_map (λ b. b.items) bytes)) }
+        ensures loaded { IfOk result
+            (λ bytes. IsHeld (held self.old) (option_map (λ b. b.items) bytes)) }
         ensures same { held self.new ≡ held self.old };
 
     /// Holds these bytes in place of those that it held. After `Failed` it holds the old ones or these, and no mixture.
     fn store(&mut self, bytes: &[u8]) -> Result<(), Failed>
         ensures stored { OnOk result (Holds (held self.old) (held self.new) bytes.now) }
-        ensures failed { OnErr result ((held self.new ≡ held self.old) ⊎ Holds (held self.old) (held self.new) bytes.now) };
+        ensures failed { OnErr result ((held self.new ≡ held self.old)
+            ⊎ Holds (held self.old) (held self.new) bytes.now) };
 }

@@ -17,8 +17,10 @@ use std::alloc::Global;
 /// fault the old ones are kept, or these.
 pub fn keep<K: Cache>(alloc: Global, cache: &mut K, facts: &Facts) -> Result<(), CacheFault>
     ensures kept { OnOk result (Holds (K.held cache.old) (K.held cache.new) (kept_text facts.now)) }
-    ensures again { OnOk result (AreFacts facts.now → sound facts.now ≡ true → kept_in (kept_text facts.now) ≡ Ok facts.now) }
-    ensures fault { OnErr result ((K.held cache.new ≡ K.held cache.old) ⊎ Holds (K.held cache.old) (K.held cache.new) (kept_text facts.now)) }
+    ensures again { OnOk result (AreFacts facts.now
+        → sound facts.now ≡ true → kept_in (kept_text facts.now) ≡ Ok facts.now) }
+    ensures fault { OnErr result ((K.held cache.new ≡ K.held cache.old)
+        ⊎ Holds (K.held cache.old) (K.held cache.new) (kept_text facts.now)) }
 {
     let Ok(text) = print_kept(alloc, facts) else {
         return Err(CacheFault::NoMemory);

@@ -18,7 +18,8 @@ use std::alloc::Global;
 /// Prints what is kept of these facts: one line of compact JSON, with its LF.
 pub fn print_kept(alloc: Global, facts: &Facts) -> Result<String, NoMemory>
     ensures text { IfOk result (λ s. string_bytes s ≡ kept_text facts.now) }
-    ensures again { IfOk result (λ _. AreFacts facts.now → sound facts.now ≡ true → kept_in (kept_text facts.now) ≡ Ok facts.now) }
+    ensures again { IfOk result (λ _. AreFacts facts.now
+        → sound facts.now ≡ true → kept_in (kept_text facts.now) ≡ Ok facts.now) }
 {
     let facts = print_facts(alloc, facts)?;
     let facts = facts.as_str();

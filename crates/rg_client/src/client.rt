@@ -69,17 +69,22 @@ impl Client {
         question: &Question,
     ) -> Result<Response, ClientFault>
         requires { self.old.live ≡ true }
-        ensures asked { OnOk result (Wrote (T.held link.old) (T.held link.new) (question_text (chars question.now.target.now) (chars question.now.host.now) (chars question.now.user.now))) }
-        ensures begun { OnErr result ((part : List ℕ) × Wrote (T.held link.old) (T.held link.new) part
+        ensures asked { OnOk result (Wrote
+            (T.held link.old) (T.held link.new) (question_text (chars question.now.target.now)
+            (chars question.now.host.now) (chars question.now.user.now))) }
+        ensures begun { OnErr result ((part : List ℕ)
+            × Wrote (T.held link.old) (T.held link.new) part
             × IsPrefix part (question_text (chars question.now.target.now) (chars question.now.host.now) (chars question.now.user.now))) }
         ensures answer { (read : List ℕ) × IsRead (T.left link.old) read (T.left link.new)
             × MatchResult result (λ r. HasReply (self.old.bytes ++ read) r self.new.bytes) (λ f. Leaves (self.old.bytes ++ read) f self.new.bytes) }
-        ensures ended { IfErr result (λ f. f ≡ fault.Ended → (T.ended link.new ≡ true) × IsUsedUp (T.left link.new)) }
+        ensures ended { IfErr result (λ f. f ≡ fault.Ended
+            → (T.ended link.new ≡ true) × IsUsedUp (T.left link.new)) }
         ensures status { IfOk result (λ r. (200 ≤ r.status) × (r.status ≤ 999)) }
         ensures bounded { length self.new.bytes ≤ kept_limit }
         ensures live { OnOk result (self.new.live ≡ true) }
         ensures dead { OnErr result (self.new.live ≡ false) }
-        ensures faults { MatchResult result (λ _. T.faults link.new ≡ T.faults link.old) (λ f. Counts f (T.faults link.old) (T.faults link.new)) }
+        ensures faults { MatchResult result (λ _. T.faults link.new ≡ T.faults link.old)
+            (λ f. Counts f (T.faults link.old) (T.faults link.new)) }
     {
         self.live = false;
         send(alloc, link, question)?;

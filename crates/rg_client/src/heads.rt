@@ -40,8 +40,10 @@ pub(crate) enum Judged {
 // What a whole head tells; none where its reply isn't read.
 fn told_by(window: &[u8], room: &[HeaderSpan], head: ResponseSpans) -> Option<Begun>
     requires { IsResponseWithin window.now room.now head }
-    ensures some { IfSome result (λ b. (h : ResponseHead) → IsResponseAt window.now room.now head h → IsBegun h b) }
-    ensures none { IfNone result ((h : ResponseHead) → IsResponseAt window.now room.now head h → length_of h ≡ None) }
+    ensures some { IfSome result (λ b. (h : ResponseHead)
+        → IsResponseAt window.now room.now head h → IsBegun h b) }
+    ensures none { IfNone result ((h : ResponseHead)
+        → IsResponseAt window.now room.now head h → length_of h ≡ None) }
 {
     let fields = &room[..head.headers];
     let body = body_length(head.code, window, fields)?;

@@ -24,7 +24,8 @@ pub struct Question<'a> {
 // The bytes of a question.
 #[tactic(auto, unfolding(crate::specs::Questions::question_text))]
 fn question_text(alloc: Global, target: &str, host: &str, user: &str) -> Result<String, AllocError>
-    ensures { IfOk result (λ s. string_bytes s ≡ question_text (chars target.now) (chars host.now) (chars user.now)) }
+    ensures { IfOk result
+        (λ s. string_bytes s ≡ question_text (chars target.now) (chars host.now) (chars user.now)) }
 {
     format!(in alloc; "GET {target} HTTP/1.1\r\nHost: {host}\r\nx-user: {user}\r\n\r\n")
 }
@@ -35,10 +36,13 @@ pub(crate) fn send<T: Link>(
     link: &mut T,
     question: &Question,
 ) -> Result<(), FrameFault>
-    ensures ok { OnOk result (Wrote (T.held link.old) (T.held link.new) (question_text (chars question.now.target.now) (chars question.now.host.now) (chars question.now.user.now))) }
+    ensures ok { OnOk result
+        (Wrote (T.held link.old) (T.held link.new) (question_text (chars question.now.target.now)
+        (chars question.now.host.now) (chars question.now.user.now))) }
     ensures err { OnErr result ((part : List ℕ) × Wrote (T.held link.old) (T.held link.new) part
         × IsPrefix part (question_text (chars question.now.target.now) (chars question.now.host.now) (chars question.now.user.now))) }
-    ensures faults { MatchResult result (λ _. T.faults link.new ≡ T.faults link.old) (λ fault. Counts fault (T.faults link.old) (T.faults link.new)) }
+    ensures faults { MatchResult result (λ _. T.faults link.new ≡ T.faults link.old)
+        (λ fault. Counts fault (T.faults link.old) (T.faults link.new)) }
     ensures unread { (T.left link.new ≡ T.left link.old) × (T.ended link.new ≡ T.ended link.old) }
 {
     let text = question_text(alloc, question.target, question.host, question.user)?;

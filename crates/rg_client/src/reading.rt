@@ -23,8 +23,10 @@ fn find_head<T: Link>(
     ensures grows { Grows (T.left link.old) (T.left link.new) inbox.old inbox.new }
     ensures bounded { length inbox.new ≤ max (length inbox.old) (head_limit + piece_limit) }
     ensures place { MatchResult result (Begins inbox.new) (Lacks inbox.new) }
-    ensures ended { IfErr result (λ f. f ≡ fault.Ended → (T.ended link.new ≡ true) × IsUsedUp (T.left link.new)) }
-    ensures faults { MatchResult result (λ _. T.faults link.new ≡ T.faults link.old) (λ f. Counts f (T.faults link.old) (T.faults link.new)) }
+    ensures ended { IfErr result (λ f. f ≡ fault.Ended
+        → (T.ended link.new ≡ true) × IsUsedUp (T.left link.new)) }
+    ensures faults { MatchResult result (λ _. T.faults link.new ≡ T.faults link.old)
+        (λ f. Counts f (T.faults link.old) (T.faults link.new)) }
     ensures unwritten { T.held link.new ≡ T.held link.old }
 {
     loop {
@@ -52,9 +54,11 @@ fn finish_reply<T: Link>(
     requires { Begins inbox.old begun }
     ensures answer { Told (T.left link.old) (T.left link.new) inbox.old result inbox.new }
     ensures bounded { length inbox.new ≤ max (length inbox.old) kept_limit }
-    ensures ended { IfErr result (λ f. f ≡ fault.Ended → (T.ended link.new ≡ true) × IsUsedUp (T.left link.new)) }
+    ensures ended { IfErr result (λ f. f ≡ fault.Ended
+        → (T.ended link.new ≡ true) × IsUsedUp (T.left link.new)) }
     ensures status { IfOk result (λ r. (200 ≤ r.status) × (r.status ≤ 999)) }
-    ensures faults { MatchResult result (λ _. T.faults link.new ≡ T.faults link.old) (λ f. Counts f (T.faults link.old) (T.faults link.new)) }
+    ensures faults { MatchResult result (λ _. T.faults link.new ≡ T.faults link.old)
+        (λ f. Counts f (T.faults link.old) (T.faults link.new)) }
     ensures unwritten { T.held link.new ≡ T.held link.old }
 {
     let need = begun.len + begun.body;
@@ -79,9 +83,11 @@ pub(crate) fn read_reply<T: Link>(
 ) -> Result<Response, ClientFault>
     ensures answer { Told (T.left link.old) (T.left link.new) inbox.old result inbox.new }
     ensures bounded { length inbox.new ≤ max (length inbox.old) kept_limit }
-    ensures ended { IfErr result (λ f. f ≡ fault.Ended → (T.ended link.new ≡ true) × IsUsedUp (T.left link.new)) }
+    ensures ended { IfErr result (λ f. f ≡ fault.Ended
+        → (T.ended link.new ≡ true) × IsUsedUp (T.left link.new)) }
     ensures status { IfOk result (λ r. (200 ≤ r.status) × (r.status ≤ 999)) }
-    ensures faults { MatchResult result (λ _. T.faults link.new ≡ T.faults link.old) (λ f. Counts f (T.faults link.old) (T.faults link.new)) }
+    ensures faults { MatchResult result (λ _. T.faults link.new ≡ T.faults link.old)
+        (λ f. Counts f (T.faults link.old) (T.faults link.new)) }
     ensures unwritten { T.held link.new ≡ T.held link.old }
 {
     match find_head(inbox, room, link) {

@@ -163,7 +163,8 @@ fn copy_policies(
     alloc: Global,
     whole: &PolicyWhole,
 ) -> Result<(Seq<Shared<Policy>>, Seq<Shared<Policy>>), NoMemory>
-    ensures { IfOk result (λ lists. (lists.0 ≡ whole.now.policies) × (lists.1 ≡ whole.now.tag_policies)) }
+    ensures { IfOk result (λ lists. (lists.0 ≡ whole.now.policies)
+        × (lists.1 ≡ whole.now.tag_policies)) }
 {
     let policies = whole.policies.try_copy(alloc)?;
     let tag_policies = whole.tag_policies.try_copy(alloc)?;

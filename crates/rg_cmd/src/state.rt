@@ -123,7 +123,8 @@ fn copy_services(
     alloc: Global,
     state: &State,
 ) -> Result<(Seq<ServiceDef>, Seq<ServiceRow>, Seq<TimeZoneRow>), NoMemory>
-    ensures { IfOk result (λ lists. (lists.0 ≡ state.now.defs) × (lists.1 ≡ state.now.services) × (lists.2 ≡ state.now.time_zones)) }
+    ensures { IfOk result (λ lists. (lists.0 ≡ state.now.defs)
+        × (lists.1 ≡ state.now.services) × (lists.2 ≡ state.now.time_zones)) }
 {
     let defs = state.defs.try_copy(alloc)?;
     let services = state.services.try_copy(alloc)?;
@@ -135,7 +136,8 @@ fn copy_policies(
     alloc: Global,
     state: &State,
 ) -> Result<(Seq<Shared<Policy>>, Seq<TagRow>), NoMemory>
-    ensures { IfOk result (λ lists. (lists.0 ≡ state.now.policies) × (lists.1 ≡ state.now.tag_rows)) }
+    ensures { IfOk result (λ lists. (lists.0 ≡ state.now.policies)
+        × (lists.1 ≡ state.now.tag_rows)) }
 {
     let policies = state.policies.try_copy(alloc)?;
     let tag_rows = state.tag_rows.try_copy(alloc)?;
@@ -146,7 +148,8 @@ fn copy_subjects(
     alloc: Global,
     state: &State,
 ) -> Result<(Seq<Text>, Seq<UserRow>, Seq<ZoneRow>, Seq<RoleRow>), NoMemory>
-    ensures { IfOk result (λ lists. (lists.0 ≡ state.now.admins) × (lists.1 ≡ state.now.users) × (lists.2 ≡ state.now.zones) × (lists.3 ≡ state.now.roles)) }
+    ensures { IfOk result (λ lists. (lists.0 ≡ state.now.admins) × (lists.1 ≡ state.now.users)
+        × (lists.2 ≡ state.now.zones) × (lists.3 ≡ state.now.roles)) }
 {
     let admins = state.admins.try_copy(alloc)?;
     let users = state.users.try_copy(alloc)?;

@@ -30,7 +30,8 @@ fn named_members<X: Named + ToJson<ReplyKey>>(
     alloc: Global,
     items: &[X],
 ) -> Result<Map<String, Value>, NoMemory>
-    ensures { IfOk result (λ m. members_view m.entries ≡ named_members X.named X.printing items.now) }
+    ensures { IfOk result
+        (λ m. members_view m.entries ≡ named_members X.named X.printing items.now) }
 {
     let mut members = Map::new(alloc);
     let mut left = items.len();

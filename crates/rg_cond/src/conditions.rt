@@ -115,7 +115,8 @@ pub fn compile_condition(
     ensures compiled { IfOk result (λ c. c ≡ rule_of def.now condition.now) }
     ensures sound { IfOk result (λ _. condition_fault def.now condition.now ≡ None) }
     ensures refused { IfSome (condition_fault def.now condition.now) (λ fault. result ≡ Err fault) }
-    ensures accepted { IfNone (condition_fault def.now condition.now) (IfErr result (λ fault. fault ≡ CondFault.NoMemory)) }
+    ensures accepted { IfNone (condition_fault def.now condition.now)
+        (IfErr result (λ fault. fault ≡ CondFault.NoMemory)) }
 {
     let (row, kind) = find_kind(def, condition)?;
     let rule = rule_of_kind(alloc, kind, row, &condition.values)?;

@@ -43,7 +43,8 @@ fn moment_form() -> &'static [u8; 19]
 fn read_date(text: &[u8]) -> Option<Date>
     requires { 10 ≤ length text.now }
     ensures some { is_some result ≡ begins_with_date text.now }
-    ensures date { IfSome result (IsYmd (pos (four_at text.now 0)) (pos (two_at text.now 5)) (pos (two_at text.now 8))) }
+    ensures date { IfSome result
+        (IsYmd (pos (four_at text.now 0)) (pos (two_at text.now 5)) (pos (two_at text.now 8))) }
 {
     let year = four_at(text, 0) as i16;
     let month = two_at(text, 5) as i8;
@@ -55,7 +56,8 @@ fn read_date(text: &[u8]) -> Option<Date>
 fn read_time(text: &[u8]) -> Option<Time>
     requires { 19 ≤ length text.now }
     ensures some { is_some result ≡ ends_with_time text.now }
-    ensures time { IfSome result (IsHms (pos (two_at text.now 11)) (pos (two_at text.now 14)) (pos (two_at text.now 17)) (pos 0)) }
+    ensures time { IfSome result (IsHms (pos (two_at text.now 11))
+        (pos (two_at text.now 14)) (pos (two_at text.now 17)) (pos 0)) }
 {
     let hour = two_at(text, 11) as i8;
     let minute = two_at(text, 14) as i8;

@@ -11,7 +11,8 @@ ghost use Rattle.rg_cond.specs.Dates.{shown_of};
 /// Where a rule's clock shows a time, the instant is the one that `jiff` takes: by the offset before a gap, and
 /// the earlier in a fold.
 pub fn clock_agrees_with_jiff()
-    ensures { (rule : List ℕ) (zone : TimeZone) (dt : DateTime) → IsPosixZone rule zone → dt.time.subsec_nanosecond ≡ 0
+    ensures { (rule : List ℕ) (zone : TimeZone) (dt : DateTime)
+        → IsPosixZone rule zone → dt.time.subsec_nanosecond ≡ 0
         → (said : TzText) × (read_whole rule ≡ Some said)
         × (instant_on (Some said) (shown_of dt) ≡ held (civil_seconds dt -ℤ (compatible_offset (ambiguous_at zone dt)).seconds)) }
 {}

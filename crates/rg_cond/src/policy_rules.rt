@@ -28,13 +28,15 @@ fn items_compile(def: &ServiceDef, items: &[Item]) -> bool
 }
 
 fn all_lists_compile(def: &ServiceDef, lists: &[&[Item]]) -> bool
-    ensures { result ≡ list_all (λ list. list_all (λ (i : Item). all_compile def.now i.conditions.items) list.now) lists.now }
+    ensures { result ≡ list_all (λ list. list_all
+        (λ (i : Item). all_compile def.now i.conditions.items) list.now) lists.now }
 {
     lists.iter().all(|items| items_compile(def, items))
 }
 
 fn every_item_compiles(def: &ServiceDef, policy: &Policy) -> bool
-    ensures { result ≡ every_item (λ (i : Item). all_compile def.now i.conditions.items) policy.now }
+    ensures { result
+        ≡ every_item (λ (i : Item). all_compile def.now i.conditions.items) policy.now }
 {
     let lists = item_lists(policy);
     all_lists_compile(def, &lists)

@@ -64,7 +64,8 @@ fn place(
 ) -> Result<Span, ScheduleFault>
     ensures read { IfOk result (λ span. span ≡ span_on clock.now start.now end.now) }
     ensures sound { IfOk result (λ _. placing_fault clock.now start.now end.now ≡ None) }
-    ensures refused { IfErr result (λ fault. placing_fault clock.now start.now end.now ≡ Some fault) }
+    ensures refused { IfErr result
+        (λ fault. placing_fault clock.now start.now end.now ≡ Some fault) }
 {
     let Some(start) = end_on(clock, start) else {
         return Err(ScheduleFault::OutOfRange);

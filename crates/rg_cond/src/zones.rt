@@ -70,8 +70,10 @@ impl TimeZones {
     pub fn build(alloc: Global, rows: &[TimeZoneRow]) -> Result<TimeZones, TimeZoneFault>
         ensures built { IfOk result (λ zones. zones ≡ rows.now) }
         ensures sound { IfOk result (λ _. bad_rule rows.now ≡ None) }
-        ensures refused { IfSome (bad_rule rows.now) (λ place. result ≡ Err (TimeZoneFault.BadRule (place_number place))) }
-        ensures accepted { IfNone (bad_rule rows.now) (IfErr result (λ fault. fault ≡ TimeZoneFault.NoMemory)) }
+        ensures refused { IfSome (bad_rule rows.now)
+            (λ place. result ≡ Err (TimeZoneFault.BadRule (place_number place))) }
+        ensures accepted { IfNone (bad_rule rows.now)
+            (IfErr result (λ fault. fault ≡ TimeZoneFault.NoMemory)) }
     {
         if let Some(place) = first_bad_rule(rows) {
             return Err(TimeZoneFault::BadRule(place_number(place)));
@@ -82,7 +84,8 @@ impl TimeZones {
 
     /// The first row of this name.
     pub(crate) fn row_named(&self, name: &str) -> Option<&TimeZoneRow>
-        ensures { option_map (λ r. r.now) result ≡ find (λ row. bytes_eq row.name (chars name.now)) self.now }
+        ensures { option_map (λ r. r.now) result
+            ≡ find (λ row. bytes_eq row.name (chars name.now)) self.now }
     {
         for row in self.rows.as_slice() {
             if same_text(row.name.as_str(), name) {

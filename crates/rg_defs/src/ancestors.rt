@@ -12,7 +12,8 @@ use rg_base::{Named, is_named, place_named};
 
 /// The place of the level above that of this name.
 fn place_above(levels: &[Level], name: &str) -> Option<usize>
-    ensures { result ≡ option_and_then (parent_of levels.now) (place_of levels.now (chars name.now)) }
+    ensures { result
+        ≡ option_and_then (parent_of levels.now) (place_of levels.now (chars name.now)) }
 {
     match place_named(levels, name) {
         Some(place) => parent_of(levels, place),
@@ -22,7 +23,8 @@ fn place_above(levels: &[Level], name: &str) -> Option<usize>
 
 /// Whether one of the levels from this place up has this name.
 fn is_named_above(levels: &[Level], place: Option<usize>, name: &str) -> bool
-    ensures { result ≡ list_any (has_name levels.now (chars name.now)) (climb levels.now (length levels.now) place) }
+    ensures { result ≡ list_any (has_name levels.now (chars name.now))
+        (climb levels.now (length levels.now) place) }
 {
     let mut at = place;
     'climb: for _ in (0..levels.len()).rev() {
@@ -45,7 +47,8 @@ pub fn is_above(levels: &[Level], upper: &str, lower: &str) -> bool
 }
 
 fn stands_above<T: Named>(levels: &[Level], upper: &str, things: &[T]) -> bool
-    ensures { result ≡ list_any (λ x. is_above levels.now (chars upper.now) (T.named x)) things.now }
+    ensures { result
+        ≡ list_any (λ x. is_above levels.now (chars upper.now) (T.named x)) things.now }
 {
     things
         .iter()
@@ -53,7 +56,8 @@ fn stands_above<T: Named>(levels: &[Level], upper: &str, things: &[T]) -> bool
 }
 
 fn is_some_or_above_none<T: Named>(levels: &[Level], things: &[T], name: &str) -> bool
-    ensures { result ≡ (list_any (λ x. bytes_eq (T.named x) (chars name.now)) things.now || not (list_any (λ x. is_above levels.now (chars name.now) (T.named x)) things.now)) }
+    ensures { result ≡ (list_any (λ x. bytes_eq (T.named x) (chars name.now)) things.now
+        || not (list_any (λ x. is_above levels.now (chars name.now) (T.named x)) things.now)) }
 {
     is_named(things, name) || !stands_above(levels, name, things)
 }

@@ -87,7 +87,8 @@ fn are_known(known: &NameIndex, names: &[Text]) -> bool
 }
 
 fn are_implied_known(known: &NameIndex, types: &[AccessType]) -> bool
-    ensures { result ≡ list_all (λ (t : AccessType). list_all (λ n. is_among n known.now) t.implied.items) types.now }
+    ensures { result ≡ list_all
+        (λ (t : AccessType). list_all (λ n. is_among n known.now) t.implied.items) types.now }
 {
     types
         .iter()
@@ -134,7 +135,8 @@ fn are_levels(levels: &[Level], names: &[Text]) -> bool
 }
 
 fn parts_are_known(known: &NameIndex, def: &ServiceDef) -> bool
-    ensures { result ≡ (list_all (λ n. is_among n known.now) def.now.mask_access.items && list_all (has_level def.now.levels.items) def.now.mask_levels.items
+    ensures { result ≡ (list_all (λ n. is_among n known.now) def.now.mask_access.items
+        && list_all (has_level def.now.levels.items) def.now.mask_levels.items
         && list_all (λ n. is_among n known.now) def.now.filter_access.items && list_all (has_level def.now.levels.items) def.now.filter_levels.items) }
 {
     let levels = def.levels.as_slice();

@@ -8,16 +8,19 @@ ghost use Rattle.rg_defs.specs.Rules.{def_fault};
 
 /// The computed paths of a lawful definition are exactly the chains of its levels from a root to a leaf.
 pub fn paths_are_all()
-    ensures { (def : ServiceDef) → def_fault def ≡ None → (path : List ℕ) → Contains (paths_of def.levels.items) path ↔ IsPath def.levels.items path }
+    ensures { (def : ServiceDef) → def_fault def ≡ None → (path : List ℕ)
+        → Contains (paths_of def.levels.items) path ↔ IsPath def.levels.items path }
 {}
 
 /// Every level of a lawful definition lies on a path.
 pub fn levels_lie_on_paths()
-    ensures { (def : ServiceDef) → def_fault def ≡ None → (place : ℕ) → place < length def.levels.items
+    ensures { (def : ServiceDef) → def_fault def ≡ None
+        → (place : ℕ) → place < length def.levels.items
         → (path : List ℕ) × Contains (paths_of def.levels.items) path × Contains path place }
 {}
 
 /// The test of two names decides, for a lawful definition, whether the level of the one is an ancestor of that of the other.
 pub fn above_is_decided()
-    ensures { (def : ServiceDef) → def_fault def ≡ None → (upper lower : List ℕ) → IsTrue (is_above def.levels.items upper lower) ↔ IsAncestor def.levels.items upper lower }
+    ensures { (def : ServiceDef) → def_fault def ≡ None → (upper lower : List ℕ)
+        → IsTrue (is_above def.levels.items upper lower) ↔ IsAncestor def.levels.items upper lower }
 {}

@@ -79,7 +79,8 @@ fn is_leaf(levels: &[Level], place: usize) -> bool
 }
 
 fn has_child(levels: &[Level], place: usize) -> bool
-    ensures { result ≡ list_any (λ (l : Level). is_some_place place (place_of levels.now l.parent)) levels.now }
+    ensures { result
+        ≡ list_any (λ (l : Level). is_some_place place (place_of levels.now l.parent)) levels.now }
 {
     levels.iter().any(|level| is_place(place, place_named(levels, level.parent.as_str())))
 }

@@ -33,7 +33,8 @@ fn both_lie_on<T: Named, U: Named>(
     things: &[T],
     others: &[U],
 ) -> bool
-    ensures { result ≡ list_all (lies_on levels.now path.now) (map T.named things.now ++ map U.named others.now) }
+    ensures { result ≡ list_all (lies_on levels.now path.now)
+        (map T.named things.now ++ map U.named others.now) }
 {
     all_lie_on(levels, path, things) && all_lie_on(levels, path, others)
 }
@@ -44,7 +45,8 @@ fn on_some_path<T: Named, U: Named>(
     things: &[T],
     others: &[U],
 ) -> bool
-    ensures { result ≡ list_any (λ (p : Listed ℕ). list_all (lies_on levels.now p.items) (map T.named things.now ++ map U.named others.now)) paths.now }
+    ensures { result ≡ list_any (λ (p : Listed ℕ). list_all (lies_on levels.now p.items)
+        (map T.named things.now ++ map U.named others.now)) paths.now }
 {
     paths.iter().any(|path| both_lie_on(levels, path.as_slice(), things, others))
 }
@@ -54,7 +56,8 @@ fn first_path<'a, T: Named>(
     paths: &'a [Seq<u32>],
     things: &[T],
 ) -> Option<&'a Seq<u32>>
-    ensures { option_map (λ p. p.now) result ≡ find (λ (p : Listed ℕ). list_all (lies_on levels.now p.items) (map T.named things.now)) paths.now }
+    ensures { option_map (λ p. p.now) result ≡ find (λ (p : Listed ℕ).
+        list_all (lies_on levels.now p.items) (map T.named things.now)) paths.now }
 {
     paths
         .iter()

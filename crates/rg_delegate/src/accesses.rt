@@ -31,7 +31,8 @@ fn items_name_none(items: &[Item]) -> bool
 }
 
 fn lists_name_none(lists: &[&[Item]]) -> bool
-    ensures { result ≡ list_all (λ list. list_all (λ (i : Item). is_none_named (item_accesses i)) list.now) lists.now }
+    ensures { result ≡ list_all
+        (λ list. list_all (λ (i : Item). is_none_named (item_accesses i)) list.now) lists.now }
 {
     lists.iter().all(|items| items_name_none(items))
 }
@@ -54,7 +55,8 @@ fn is_for_all(policy: &Policy) -> bool
 // ---- whether one is granted by these entries
 
 fn entry_granted(def: &ServiceDef, given: &[AccessEntry], entries: &[AccessEntry]) -> bool
-    ensures { result ≡ list_any (λ (e : AccessEntry). any_grants def.now e.access given.now) entries.now }
+    ensures { result
+        ≡ list_any (λ (e : AccessEntry). any_grants def.now e.access given.now) entries.now }
 {
     entries
         .iter()
@@ -62,7 +64,8 @@ fn entry_granted(def: &ServiceDef, given: &[AccessEntry], entries: &[AccessEntry
 }
 
 fn item_granted(def: &ServiceDef, given: &[AccessEntry], items: &[Item]) -> bool
-    ensures { result ≡ list_any (λ (i : Item). list_any (λ (e : AccessEntry). any_grants def.now e.access given.now) i.accesses.items) items.now }
+    ensures { result ≡ list_any (λ (i : Item). list_any (λ (e : AccessEntry).
+        any_grants def.now e.access given.now) i.accesses.items) items.now }
 {
     items
         .iter()
@@ -70,21 +73,24 @@ fn item_granted(def: &ServiceDef, given: &[AccessEntry], items: &[Item]) -> bool
 }
 
 fn list_granted(def: &ServiceDef, given: &[AccessEntry], lists: &[&[Item]]) -> bool
-    ensures { result ≡ list_any (λ list. list_any (λ (i : Item). list_any (λ (e : AccessEntry). any_grants def.now e.access given.now) i.accesses.items) list.now) lists.now }
+    ensures { result ≡ list_any (λ list. list_any (λ (i : Item). list_any (λ (e : AccessEntry).
+        any_grants def.now e.access given.now) i.accesses.items) list.now) lists.now }
 {
     lists.iter().any(|items| item_granted(def, given, items))
 }
 
 /// Whether they grant an access that the policy's items name.
 fn named_granted(def: &ServiceDef, given: &[AccessEntry], policy: &Policy) -> bool
-    ensures { result ≡ list_any (λ access. any_grants def.now access given.now) (named_accesses policy.now) }
+    ensures { result
+        ≡ list_any (λ access. any_grants def.now access given.now) (named_accesses policy.now) }
 {
     let lists = item_lists(policy);
     list_granted(def, given, &lists)
 }
 
 fn type_granted(def: &ServiceDef, given: &[AccessEntry], types: &[AccessType]) -> bool
-    ensures { result ≡ list_any (λ (t : AccessType). any_grants def.now t.name given.now) types.now }
+    ensures { result
+        ≡ list_any (λ (t : AccessType). any_grants def.now t.name given.now) types.now }
 {
     types
         .iter()
@@ -93,7 +99,8 @@ fn type_granted(def: &ServiceDef, given: &[AccessEntry], types: &[AccessType]) -
 
 /// Whether they grant an access of the definition.
 fn defined_granted(def: &ServiceDef, given: &[AccessEntry]) -> bool
-    ensures { result ≡ list_any (λ access. any_grants def.now access given.now) (all_accesses def.now) }
+    ensures { result
+        ≡ list_any (λ access. any_grants def.now access given.now) (all_accesses def.now) }
 {
     type_granted(def, given, def.access_types.as_slice())
 }
@@ -112,14 +119,16 @@ pub(crate) fn is_wanted(def: &ServiceDef, policy: &Policy, given: &[AccessEntry]
 // ---- whether all are granted by entries of these items
 
 fn some_grants(def: &ServiceDef, by: &[&Item], access: &str) -> bool
-    ensures { result ≡ list_any (λ item. any_grants def.now (chars access.now) item.now.accesses.items) by.now }
+    ensures { result
+        ≡ list_any (λ item. any_grants def.now (chars access.now) item.now.accesses.items) by.now }
 {
     by.iter()
         .any(|item| any_grants(def, access, item.accesses.as_slice()))
 }
 
 fn entries_granted(def: &ServiceDef, by: &[&Item], entries: &[AccessEntry]) -> bool
-    ensures { result ≡ list_all (λ (e : AccessEntry). list_any (λ item. any_grants def.now e.access item.now.accesses.items) by.now) entries.now }
+    ensures { result ≡ list_all (λ (e : AccessEntry). list_any
+        (λ item. any_grants def.now e.access item.now.accesses.items) by.now) entries.now }
 {
     entries
         .iter()
@@ -127,7 +136,9 @@ fn entries_granted(def: &ServiceDef, by: &[&Item], entries: &[AccessEntry]) -> b
 }
 
 fn items_granted(def: &ServiceDef, by: &[&Item], items: &[Item]) -> bool
-    ensures { result ≡ list_all (λ (i : Item). list_all (λ (e : AccessEntry). list_any (λ item. any_grants def.now e.access item.now.accesses.items) by.now) i.accesses.items) items.now }
+    ensures { result ≡ list_all (λ (i : Item). list_all (λ (e : AccessEntry). list_any
+        (λ item. any_grants def.now e.access item.now.accesses.items) by.now)
+        i.accesses.items) items.now }
 {
     items
         .iter()
@@ -135,20 +146,24 @@ fn items_granted(def: &ServiceDef, by: &[&Item], items: &[Item]) -> bool
 }
 
 fn lists_granted(def: &ServiceDef, by: &[&Item], lists: &[&[Item]]) -> bool
-    ensures { result ≡ list_all (λ list. list_all (λ (i : Item). list_all (λ (e : AccessEntry). list_any (λ item. any_grants def.now e.access item.now.accesses.items) by.now) i.accesses.items) list.now) lists.now }
+    ensures { result ≡ list_all (λ list. list_all
+        (λ (i : Item). list_all (λ (e : AccessEntry). list_any (λ item. any_grants def.now
+        e.access item.now.accesses.items) by.now) i.accesses.items) list.now) lists.now }
 {
     lists.iter().all(|items| items_granted(def, by, items))
 }
 
 fn all_named_granted(def: &ServiceDef, by: &[&Item], policy: &Policy) -> bool
-    ensures { result ≡ list_all (λ access. list_any (λ item. any_grants def.now access item.now.accesses.items) by.now) (named_accesses policy.now) }
+    ensures { result ≡ list_all (λ access. list_any (λ item. any_grants
+        def.now access item.now.accesses.items) by.now) (named_accesses policy.now) }
 {
     let lists = item_lists(policy);
     lists_granted(def, by, &lists)
 }
 
 fn types_granted(def: &ServiceDef, by: &[&Item], types: &[AccessType]) -> bool
-    ensures { result ≡ list_all (λ (t : AccessType). list_any (λ item. any_grants def.now t.name item.now.accesses.items) by.now) types.now }
+    ensures { result ≡ list_all (λ (t : AccessType). list_any
+        (λ item. any_grants def.now t.name item.now.accesses.items) by.now) types.now }
 {
     types
         .iter()
@@ -156,14 +171,16 @@ fn types_granted(def: &ServiceDef, by: &[&Item], types: &[AccessType]) -> bool
 }
 
 fn all_defined_granted(def: &ServiceDef, by: &[&Item]) -> bool
-    ensures { result ≡ list_all (λ access. list_any (λ item. any_grants def.now access item.now.accesses.items) by.now) (all_accesses def.now) }
+    ensures { result ≡ list_all (λ access. list_any (λ item.
+        any_grants def.now access item.now.accesses.items) by.now) (all_accesses def.now) }
 {
     types_granted(def, by, def.access_types.as_slice())
 }
 
 /// Whether each access of the policy is granted by one of the items.
 pub(crate) fn all_granted(def: &ServiceDef, policy: &Policy, by: &[&Item]) -> bool
-    ensures { result ≡ list_all (λ access. list_any (λ item. any_grants def.now access item.now.accesses.items) by.now) (accesses def.now policy.now) }
+    ensures { result ≡ list_all (λ access. list_any (λ item. any_grants
+        def.now access item.now.accesses.items) by.now) (accesses def.now policy.now) }
 {
     if is_for_all(policy) {
         all_defined_granted(def, by)

@@ -123,7 +123,8 @@ impl<'a> Actor<'a> {
     /// Whether one of these roles holds the actor.
     fn has_role(&mut self, alloc: Global, roles: &[Text]) -> Result<bool, NoMemory>
         ensures same { self.new ≡ self.old }
-        ensures answer { IfOk result (λ b. b ≡ names_role self.old.rows self.old.name self.old.groups roles.now) }
+        ensures answer { IfOk result
+            (λ b. b ≡ names_role self.old.rows self.old.name self.old.groups roles.now) }
     {
         if self.roles.is_none() {
             let built = roles_of(alloc, self.rows)?;

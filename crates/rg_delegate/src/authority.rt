@@ -46,7 +46,8 @@ pub(crate) fn administers_zone(
 ) -> Result<bool, NoMemory>
     requires actor { actor.old ≡ known state.now actor.old.name }
     ensures same { actor.new ≡ actor.old }
-    ensures answer { IfOk result (λ b. b ≡ named_in_zone admins_of state.now actor.old.name policy.now) }
+    ensures answer { IfOk result
+        (λ b. b ≡ named_in_zone admins_of state.now actor.old.name policy.now) }
 {
     let zone = policy.zone.as_str();
     if is_empty(zone) {
@@ -66,7 +67,8 @@ pub(crate) fn audits_zone(
 ) -> Result<bool, NoMemory>
     requires actor { actor.old ≡ known state.now actor.old.name }
     ensures same { actor.new ≡ actor.old }
-    ensures answer { IfOk result (λ b. b ≡ named_in_zone auditors_of state.now actor.old.name policy.now) }
+    ensures answer { IfOk result
+        (λ b. b ≡ named_in_zone auditors_of state.now actor.old.name policy.now) }
 {
     let zone = policy.zone.as_str();
     if is_empty(zone) {
@@ -89,11 +91,13 @@ fn all_delegated(
 ) -> Result<bool, NoMemory>
     requires ready { IsReady state.now }
     requires def { def_of state.now policy.now.service ≡ Some delegated.now.def }
-    requires delegations { delegated.now ≡ delegations_of policy.now.service actor.old state.now.policies.items delegated.now.def }
+    requires delegations { delegated.now
+        ≡ delegations_of policy.now.service actor.old state.now.policies.items delegated.now.def }
     requires fits { Fits state.now policy.now }
     requires actor { actor.old ≡ known state.now actor.old.name }
     ensures same { actor.new ≡ actor.old }
-    ensures answer { IfOk result (λ b. b ≡ list_all (is_delegated state.now delegated.now.def actor.old policy.now) (accesses delegated.now.def policy.now)) }
+    ensures answer { IfOk result (λ b. b ≡ list_all (is_delegated state.now
+        delegated.now.def actor.old policy.now) (accesses delegated.now.def policy.now)) }
 {
     let def = delegated.def;
     let asked = ReadPolicy::of(alloc, def, policy)?;
@@ -110,7 +114,8 @@ pub(crate) fn may_by_delegation(
     policy: &Policy,
 ) -> Result<bool, NoMemory>
     requires ready { IsReady state.now }
-    requires delegations { option_map (λ d. d.now) delegated ≡ delegations state.now policy.now.service actor.old }
+    requires delegations { option_map (λ d. d.now) delegated
+        ≡ delegations state.now policy.now.service actor.old }
     requires fits { Fits state.now policy.now }
     requires actor { actor.old ≡ known state.now actor.old.name }
     ensures same { actor.new ≡ actor.old }
@@ -133,7 +138,8 @@ fn may_in_part(
     requires fits { Fits state.now policy.now }
     requires actor { actor.old ≡ known state.now actor.old.name }
     ensures same { actor.new ≡ actor.old }
-    ensures answer { IfOk result (λ b. b ≡ (named_in_zone admins_of state.now actor.old.name policy.now || may_by_delegation state.now actor.old.name policy.now)) }
+    ensures answer { IfOk result (λ b. b ≡ (named_in_zone admins_of state.now actor.old.name
+        policy.now || may_by_delegation state.now actor.old.name policy.now)) }
 {
     if administers_zone(alloc, state, actor, policy)? {
         return Ok(true);

@@ -71,7 +71,8 @@ fn candidates<'a>(
 ) -> Result<Vec<ReadPolicy<'a>>, NoMemory>
     requires fit { FitUnder def.now (chars service.now) policies.now }
     ensures same { actor.new ≡ actor.old }
-    ensures answer { IfOk result (λ v. v.items ≡ map (under def.now) (candidates (chars service.now) actor.old policies.now)) }
+    ensures answer { IfOk result (λ v. v.items
+        ≡ map (under def.now) (candidates (chars service.now) actor.old policies.now)) }
 {
     let mut found = Vec::new(alloc);
     for policy in policies {

@@ -54,7 +54,8 @@ impl<'a> ReadPolicy<'a> {
     /// Whether it covers the other policy, which stands under the same definition.
     fn covers(&self, alloc: Global, other: &ReadPolicy) -> Result<bool, NoMemory>
         requires { other.now.def ≡ self.now.def }
-        ensures { IfOk result (λ b. b ≡ policy_covers other.now.def self.now.policy other.now.policy) }
+        ensures { IfOk result
+            (λ b. b ≡ policy_covers other.now.def self.now.policy other.now.policy) }
     {
         let covered = maps_cover(alloc, &self.maps, &other.maps)?;
         Ok(covered)
@@ -111,7 +112,8 @@ fn with_items<'a>(
     items: &'a [Item],
 ) -> Result<Vec<&'a Item>, NoMemory>
     ensures same { actor.new ≡ actor.old }
-    ensures answer { IfOk result (λ v. map (λ item. item.now) v.items ≡ map (λ item. item.now) found.entry.items ++ filter (delegates_some asked.now actor.old) items.now) }
+    ensures answer { IfOk result (λ v. map (λ item. item.now) v.items ≡ map (λ item. item.now)
+        found.entry.items ++ filter (delegates_some asked.now actor.old) items.now) }
 {
     for item in items {
         if delegates_some(alloc, actor, asked, item)? {
@@ -141,7 +143,8 @@ fn with_policy<'a>(
 ) -> Result<Vec<&'a Item>, NoMemory>
     requires { asked.now.def ≡ other.now.def }
     ensures same { actor.new ≡ actor.old }
-    ensures answer { IfOk result (λ v. map (λ item. item.now) v.items ≡ map (λ item. item.now) found.entry.items ++ items_of asked.now actor.old other.now.policy) }
+    ensures answer { IfOk result (λ v. map (λ item. item.now) v.items ≡ map
+        (λ item. item.now) found.entry.items ++ items_of asked.now actor.old other.now.policy) }
 {
     if !may_delegate(asked.policy, other.policy) {
         return Ok(found);
@@ -161,7 +164,8 @@ pub(crate) fn delegating_items<'a>(
 ) -> Result<Vec<&'a Item>, NoMemory>
     requires { (q : DefinedPolicy) → Contains policies.now q → asked.now.def ≡ q.def }
     ensures same { actor.new ≡ actor.old }
-    ensures answer { IfOk result (λ v. map (λ item. item.now) v.items ≡ items_in asked.now actor.old (map (λ q. q.policy) policies.now)) }
+    ensures answer { IfOk result (λ v. map (λ item. item.now) v.items
+        ≡ items_in asked.now actor.old (map (λ q. q.policy) policies.now)) }
 {
     let mut found = Vec::new(alloc);
     for policy in policies {

@@ -60,7 +60,8 @@ fn some_found_covers(
     other: &Pattern,
     fold: bool,
 ) -> bool
-    ensures { result ≡ list_any (covers_at fold patterns.now other.now) (entries_under prefix.now filed.now) }
+    ensures { result
+        ≡ list_any (covers_at fold patterns.now other.now) (entries_under prefix.now filed.now) }
 {
     let mut walk = filed.walk(prefix.as_str(), false);
     while let Some(found) = walk.next() {

@@ -25,14 +25,18 @@ use rg_resmatch::hit_is_decided;
 
 /// An administrator may administer and see every policy, and breaks no rule of authority.
 pub fn administrators_may_everything()
-    ensures administer { (s : Held) (actor : List ℕ) (p : Written) → is_admin s actor ≡ true → may s actor p ≡ true }
-    ensures see { (s : Held) (actor : List ℕ) (p : Written) → is_admin s actor ≡ true → may_see s actor p ≡ true }
-    ensures ask { (s : Held) (ask : Asks) → is_admin s ask.actor ≡ true → authority_fault s ask ≡ None }
+    ensures administer { (s : Held) (actor : List ℕ) (p : Written)
+        → is_admin s actor ≡ true → may s actor p ≡ true }
+    ensures see { (s : Held) (actor : List ℕ) (p : Written)
+        → is_admin s actor ≡ true → may_see s actor p ≡ true }
+    ensures ask { (s : Held) (ask : Asks)
+        → is_admin s ask.actor ≡ true → authority_fault s ask ≡ None }
 {}
 
 /// One more allow item of a policy takes from nobody the authority over any form of a policy.
 pub fn more_delegation_keeps_authority()
-    ensures { (s : Held) (before after : List Written) (q : Written) (item : Entry) (actor : List ℕ) (p : Written) → s.policies.items ≡ before ++ q ∷ after
+    ensures { (s : Held) (before after : List Written) (q : Written)
+        (item : Entry) (actor : List ℕ) (p : Written) → s.policies.items ≡ before ++ q ∷ after
         → may s actor p ≡ true → may (record s { policies = listed (before ++ with_item q item ∷ after) }) actor p ≡ true }
 {}
 
@@ -40,7 +44,8 @@ pub fn more_delegation_keeps_authority()
 /// covers and that has no other accesses. It takes that the delegating policies write `*`, and not `**`, for all values:
 /// an excluding level, and one that a policy lacks, is covered by the written `*` alone.
 pub fn covered_policy_may_be_administered()
-    ensures { (s : Held) (actor : List ℕ) (p other : Written) (def : Definition) → IsReady s → def_of s p.service ≡ Some def
+    ensures { (s : Held) (actor : List ℕ) (p other : Written) (def : Definition)
+        → IsReady s → def_of s p.service ≡ Some def
         → ((q : Written) → Contains s.policies.items q → may_delegate p q ≡ true → every_resource (writes_star def) q ≡ true)
         → other.service ≡ p.service → other.zone ≡ p.zone → policy_covers def p other ≡ true
         → ((access : List ℕ) → Contains (accesses def other) access → Contains (accesses def p) access)
@@ -53,7 +58,8 @@ pub fn covered_policy_may_be_administered()
 /// takes that the policy passes rule V5 and writes `*`, and not `**`, for all values; and that the levels that the other
 /// policy excludes have wildcards, since on others `*` is no more than this text, and yet covers what is left open.
 pub fn covering_policy_lies_on_all()
-    ensures { (def : Definition) (q p : Written) (elements : List Asked) (user : List ℕ) → policy_levels_fit def q ≡ true
+    ensures { (def : Definition) (q p : Written) (elements : List Asked) (user : List ℕ)
+        → policy_levels_fit def q ≡ true
         → every_resource (writes_star def) q ≡ true → every_resource (excludes_by_wildcards def) p ≡ true → policy_covers def q p ≡ true
         → some_lies def (maps_of p) Exact elements user ≡ true → some_lies def (maps_of q) Exact elements user ≡ true }
 {
@@ -64,6 +70,8 @@ pub fn covering_policy_lies_on_all()
 
 /// Where the ids of a state's policies rise, the policies that an actor sees stand in the order of their ids as they are.
 pub fn rising_ids_are_in_order()
-    ensures any { (keep : Written → Bool) (policies : List Written) → ids_rise policies ≡ true → by_id (filter keep policies) ≡ filter keep policies }
-    ensures seen { (s : Held) (actor service : List ℕ) → ids_rise s.policies.items ≡ true → policies_for s actor service ≡ seen_by s actor service }
+    ensures any { (keep : Written → Bool) (policies : List Written)
+        → ids_rise policies ≡ true → by_id (filter keep policies) ≡ filter keep policies }
+    ensures seen { (s : Held) (actor service : List ℕ) → ids_rise s.policies.items ≡ true
+        → policies_for s actor service ≡ seen_by s actor service }
 {}

@@ -23,7 +23,8 @@ fn of_service<'a>(
     policies: &'a [Shared<Policy>],
     service: &str,
 ) -> Result<Vec<&'a Shared<Policy>>, NoMemory>
-    ensures { IfOk result (λ v. map (λ q. q.now) v.items ≡ filter (is_of (chars service.now)) policies.now) }
+    ensures { IfOk result
+        (λ v. map (λ q. q.now) v.items ≡ filter (is_of (chars service.now)) policies.now) }
 {
     let mut found = Vec::new(alloc);
     for policy in policies {
@@ -45,11 +46,13 @@ fn is_seen(
 ) -> Result<bool, NoMemory>
     requires ready { IsReady state.now }
     requires fits { Fits state.now policy.now }
-    requires delegations { option_map (λ d. d.now) delegated ≡ delegations state.now service.now actor.old }
+    requires delegations { option_map (λ d. d.now) delegated
+        ≡ delegations state.now service.now actor.old }
     requires actor { actor.old ≡ known state.now actor.old.name }
     requires no_admin { is_admin state.now actor.old.name ≡ false }
     ensures same { actor.new ≡ actor.old }
-    ensures answer { IfOk result (λ b. b ≡ (is_of service.now policy.now && may_see state.now actor.old.name policy.now)) }
+    ensures answer { IfOk result
+        (λ b. b ≡ (is_of service.now policy.now && may_see state.now actor.old.name policy.now)) }
 {
     if !same_text(policy.service.as_str(), service.as_str()) {
         return Ok(false);
@@ -72,7 +75,8 @@ fn seen_in_part<'a>(
     requires ready { IsReady state.now }
     requires actor { actor.old ≡ known state.now actor.old.name }
     requires no_admin { is_admin state.now actor.old.name ≡ false }
-    ensures { IfOk result (λ v. map (λ q. q.now) v.items ≡ seen_by state.now actor.old.name service.now) }
+    ensures { IfOk result
+        (λ v. map (λ q. q.now) v.items ≡ seen_by state.now actor.old.name service.now) }
 {
     let found = delegations(alloc, state, actor, service)?;
     let delegated = found.as_ref();
@@ -96,7 +100,8 @@ pub fn policies_seen<'a>(
     service: &Text,
 ) -> Result<Vec<&'a Shared<Policy>>, NoMemory>
     requires { IsReady state.now }
-    ensures { IfOk result (λ v. map (λ q. q.now) v.items ≡ seen_by state.now (chars actor.now) service.now) }
+    ensures { IfOk result
+        (λ v. map (λ q. q.now) v.items ≡ seen_by state.now (chars actor.now) service.now) }
 {
     if is_admin(state, actor) {
         return of_service(alloc, state.policies.as_slice(), service.as_str());

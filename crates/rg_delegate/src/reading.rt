@@ -33,7 +33,11 @@ impl<'a> Model for ReadLevel<'a> {
 
     ghost Value = { LevelForm };
 
-    ghost view = { λ l. record { written = l.written.now; patterns = l.patterns.items; fold = l.fold } };
+    ghost view = { λ l. record {
+      written = l.written.now;
+      patterns = l.patterns.items;
+      fold = l.fold;
+    } };
 }
 
 impl<'a> Named for ReadLevel<'a> {

@@ -47,7 +47,11 @@ fn update_fault(
 ) -> Result<Option<Rule>, NoMemory>
     requires ready { IsReady state.now }
     requires fits { Fits state.now policy.now }
-    ensures { IfOk result (λ r. r ≡ first_failing ((Rule.A3, may_by_id state.now (chars actor.now) policy.now.id.0) ∷ (Rule.A4, may state.now (chars actor.now) policy.now) ∷ [])) }
+    ensures { IfOk result (λ r. r ≡ first_failing ((
+      Rule.A3,
+      may_by_id state.now (chars actor.now)
+          policy.now.id.0,
+    ) ∷ (Rule.A4, may state.now (chars actor.now) policy.now) ∷ [])) }
 {
     if !may_by_id(alloc, state, actor, policy.id)? {
         return Ok(Some(Rule::A3));

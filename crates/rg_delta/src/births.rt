@@ -33,8 +33,10 @@ fn is_there(ids: &BTreeMap<i64, bool>, id: Id) -> bool
 
 /// Whether the edit adds an item at the end of a list with these ids, which become those of the list after it.
 fn follow<X: Identified>(ids: &mut BTreeMap<i64, bool>, edit: &Edit<X>) -> Result<bool, NoMemory>
-    ensures ids { OnOk result ((items : List X) → AreIds X.id_of ids.old items → AreIds X.id_of ids.new (edited X.id_of items edit.now)) }
-    ensures birth { IfOk result (λ birth. (items : List X) → AreIds X.id_of ids.old items → birth ≡ is_birth X.id_of items edit.now) }
+    ensures ids { OnOk result ((items : List X) → AreIds X.id_of ids.old items
+        → AreIds X.id_of ids.new (edited X.id_of items edit.now)) }
+    ensures birth { IfOk result (λ birth. (items : List X)
+        → AreIds X.id_of ids.old items → birth ≡ is_birth X.id_of items edit.now) }
 {
     let id = edit.item.id();
     match edit.change_type {

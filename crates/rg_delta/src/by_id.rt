@@ -23,7 +23,8 @@ pub(crate) fn set_at<V: Copy>(
     id: Id,
     value: V,
 ) -> Result<(), NoMemory>
-    ensures { OnOk result ((other : ℤ) → get int_cmp values.new other ≡ (if int_eq id.0 other then Some value else get int_cmp values.old other)) }
+    ensures { OnOk result ((other : ℤ) → get int_cmp values.new other
+        ≡ (if int_eq id.0 other then Some value else get int_cmp values.old other)) }
 {
     match values.insert(id.0, value) {
         Ok(_) => Ok(()),

@@ -28,7 +28,8 @@ pub(crate) enum Fate<X> {
 /// Puts the edit at this place before those that the fates are of.
 fn precede<X: Identified>(fates: &mut Fates, edits: &[Edit<X>], at: usize) -> Result<(), NoMemory>
     requires { at < length edits.now }
-    ensures { OnOk result (AreFates X.id_of edits.now fates.old (drop (at + 1) edits.now) → AreFates X.id_of edits.now fates.new (drop at edits.now)) }
+    ensures { OnOk result (AreFates X.id_of edits.now fates.old (drop (at + 1) edits.now)
+        → AreFates X.id_of edits.now fates.new (drop at edits.now)) }
 {
     let edit = &edits[at];
     let id = edit.item.id();
@@ -49,7 +50,8 @@ fn fate_of<X: Identified + TryCopy>(
     edits: &[Edit<X>],
     id: Id,
 ) -> Result<Fate<X>, NoMemory>
-    ensures { IfOk result (λ f. (item : X) → fated f item ≡ fate X.id_of edits.now (get int_cmp fates.now id.0) item) }
+    ensures { IfOk result (λ f. (item : X)
+        → fated f item ≡ fate X.id_of edits.now (get int_cmp fates.now id.0) item) }
 {
     match value_at(fates, id) {
         None => Ok(Fate::Stays),
@@ -70,7 +72,9 @@ fn add_born<X: Identified + TryCopy + Drop>(
     mark: bool,
     last_first: &mut Vec<X>,
 ) -> Result<(), NoMemory>
-    ensures { OnOk result (reverse last_first.new.items ≡ cons_option (if mark then fate X.id_of edits.now (get int_cmp fates.now (X.id_of item.now)) item.now else None) (reverse last_first.old.items)) }
+    ensures { OnOk result (reverse last_first.new.items ≡ cons_option
+        (if mark then fate X.id_of edits.now (get int_cmp fates.now (X.id_of item.now)) item.now
+        else None) (reverse last_first.old.items)) }
 {
     if !mark {
         return Ok(());

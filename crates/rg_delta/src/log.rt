@@ -31,9 +31,13 @@ impl<C> Model for DeltaLog<C> {
 
     ghost Value = { Logged C };
 
-    ghost view = { λ l. record { book = record { version = l.version; changes = l.kept.items }; spare = (if l.ready then 1 else 0) } };
+    ghost view = { λ l. record {
+      book = record { version = l.version; changes = l.kept.items };
+      spare = (if l.ready then 1 else 0);
+    } };
 
-    ghost invariant = { λ l. (l.ready ≡ true → deque_len l.kept < deque_capacity l.kept) × (deque_len l.kept ≤ most_kept) };
+    ghost invariant = { λ l. (l.ready ≡ true → deque_len l.kept < deque_capacity l.kept)
+        × (deque_len l.kept ≤ most_kept) };
 }
 
 /// Drops the oldest change of more than 1,024. No other change is moved.
@@ -61,7 +65,8 @@ pub enum Since<'a, C> {
 impl<C: Drop> DeltaLog<C> {
     /// A log at this version, without changes. It takes no memory.
     pub fn new(alloc: Global, version: Version) -> Result<DeltaLog<C>, NoMemory>
-        ensures { result ≡ Ok (record { book = record { version = version.0; changes = [] }; spare = 0 }) }
+        ensures { result
+            ≡ Ok (record { book = record { version = version.0; changes = [] }; spare = 0 }) }
     {
         Ok(DeltaLog {
             version: version.0,
@@ -79,7 +84,8 @@ impl<C: Drop> DeltaLog<C> {
 
     /// Sees to it that the next note succeeds.
     pub fn reserve(&mut self) -> Result<(), NoMemory>
-        ensures ok { OnOk result (self.new ≡ record { book = self.old.book; spare = max self.old.spare 1 }) }
+        ensures ok { OnOk result (self.new
+            ≡ record { book = self.old.book; spare = max self.old.spare 1 }) }
         ensures err { OnErr result (self.new ≡ self.old) }
     {
         match self.kept.try_reserve(1) {
@@ -94,7 +100,8 @@ impl<C: Drop> DeltaLog<C> {
     /// Notes one more change, which raises the version by one. The oldest of more than 1,024 is dropped. The change comes
     /// back where memory is refused, which never is where a place is spare.
     pub fn note(&mut self, change: C) -> Result<(), C>
-        ensures ok { OnOk result (self.new ≡ record { book = noted change self.old.book; spare = self.old.spare - 1 }) }
+        ensures ok { OnOk result (self.new
+            ≡ record { book = noted change self.old.book; spare = self.old.spare - 1 }) }
         ensures err { IfErr result (λ back. (back ≡ change) × (self.new ≡ self.old)) }
         ensures spare { 0 < self.old.spare → IsOk result }
     {

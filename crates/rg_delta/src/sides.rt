@@ -75,7 +75,8 @@ pub(crate) fn change_policies(
     policies: &mut Seq<Shared<Policy>>,
     changes: &[PolicyChange],
 ) -> Result<(), NoMemory>
-    ensures { OnOk result (policies.new ≡ listed (fold policies_after policies.old.items changes.now)) }
+    ensures { OnOk result (policies.new
+        ≡ listed (fold policies_after policies.old.items changes.now)) }
 {
     let edits = policy_edits(alloc, changes, false)?;
     edit_list(alloc, policies, edits.as_slice())
@@ -88,7 +89,8 @@ pub(crate) fn change_tag_policies(
     policies: &mut Seq<Shared<Policy>>,
     changes: &[PolicyChange],
 ) -> Result<(), NoMemory>
-    ensures { OnOk result (policies.new ≡ listed (fold tag_policies_after policies.old.items changes.now)) }
+    ensures { OnOk result (policies.new
+        ≡ listed (fold tag_policies_after policies.old.items changes.now)) }
 {
     let edits = policy_edits(alloc, changes, true)?;
     edit_list(alloc, policies, edits.as_slice())

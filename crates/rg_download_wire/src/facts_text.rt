@@ -20,7 +20,8 @@ use std::alloc::Global;
 
 /// Puts what the policies are, and what they are of.
 fn put_rules(alloc: Global, members: &mut Map<String, Value>, facts: &Facts) -> Result<(), NoMemory>
-    ensures { IfOk result (λ u. members_view members.new.entries ≡ with_members name_of (members_view members.old.entries) (rule_members facts.now)) }
+    ensures { IfOk result (λ u. members_view members.new.entries
+        ≡ with_members name_of (members_view members.old.entries) (rule_members facts.now)) }
 {
     put(alloc, members, Wire(Key::Service), &facts.service)?;
     put(alloc, members, Wire(Key::Fallback), &facts.fallback)?;
@@ -32,7 +33,8 @@ fn put_rules(alloc: Global, members: &mut Map<String, Value>, facts: &Facts) -> 
 
 /// Puts the rows, and the versions.
 fn put_rows(alloc: Global, members: &mut Map<String, Value>, facts: &Facts) -> Result<(), NoMemory>
-    ensures { IfOk result (λ u. members_view members.new.entries ≡ with_members name_of (members_view members.old.entries) (row_members facts.now)) }
+    ensures { IfOk result (λ u. members_view members.new.entries
+        ≡ with_members name_of (members_view members.old.entries) (row_members facts.now)) }
 {
     put(alloc, members, Wire(Key::Zones), &facts.zones)?;
     put(alloc, members, Wire(Key::Roles), &facts.roles)?;
@@ -60,7 +62,8 @@ fn facts_json(alloc: Global, facts: &Facts) -> Result<Value, NoMemory>
 pub fn print_facts(alloc: Global, facts: &Facts) -> Result<Text, NoMemory>
     ensures text { IfOk result (λ t. t ≡ chars (facts_text facts.now)) }
     ensures bytes { IfOk result (λ t. encode_utf8_all t ≡ facts_text facts.now) }
-    ensures again { IfOk result (λ t. AreFacts facts.now → reading facts_shape facts_of (facts_text facts.now) ≡ Ok facts.now) }
+    ensures again { IfOk result (λ t. AreFacts facts.now
+        → reading facts_shape facts_of (facts_text facts.now) ≡ Ok facts.now) }
 {
     let value = facts_json(alloc, facts)?;
     text_of(alloc, &value)

@@ -16,7 +16,8 @@ use std::alloc::Global;
 
 /// Facts that read from this text are in key order. Nothing is answered: it looks at the text.
 fn facts_are_in_order(alloc: Global, text: &[u8]) -> Result<(), NoMemory>
-    ensures { OnOk result ((facts : Facts) → reading facts_shape facts_of text.now ≡ Ok facts → AreFacts facts) }
+    ensures { OnOk result ((facts : Facts)
+        → reading facts_shape facts_of text.now ≡ Ok facts → AreFacts facts) }
 {
     json_is_orderly(alloc, text)
 }

@@ -18,7 +18,8 @@ use std::alloc::Global;
 
 /// A part that reads from this text is in key order. Nothing is answered: it looks at the text.
 fn policies_are_in_order(alloc: Global, text: &[u8]) -> Result<(), NoMemory>
-    ensures { OnOk result ((part : PolicyPart) → policy_part_reading text.now ≡ Ok part → IsPolicyPart part) }
+    ensures { OnOk result ((part : PolicyPart)
+        → policy_part_reading text.now ≡ Ok part → IsPolicyPart part) }
 {
     json_is_orderly(alloc, text)
 }
@@ -36,7 +37,8 @@ fn policies_in_order(alloc: Global, text: &[u8]) -> Result<PolicyPart, WireFault
 
 /// A part in key order is read again from its text. Nothing is answered: it looks at the text.
 fn policies_are_read(alloc: Global, part: &PolicyPart) -> Result<(), NoMemory>
-    ensures { OnOk result (IsPolicyPart part.now → policy_part_reading (policy_part_text part.now) ≡ Ok part.now) }
+    ensures { OnOk result (IsPolicyPart part.now
+        → policy_part_reading (policy_part_text part.now) ≡ Ok part.now) }
 {
     let value = <PolicyPart as ToJson<ReplyKey>>::json(part, alloc)?;
     let _text = text_of(alloc, &value)?;
@@ -65,7 +67,8 @@ pub fn policies_read_again(
 
 /// A part that reads from this text is in key order. Nothing is answered: it looks at the text.
 fn tags_are_in_order(alloc: Global, text: &[u8]) -> Result<(), NoMemory>
-    ensures { OnOk result ((part : TagPart) → tag_part_reading text.now ≡ Ok part → IsTagPart part) }
+    ensures { OnOk result ((part : TagPart)
+        → tag_part_reading text.now ≡ Ok part → IsTagPart part) }
 {
     json_is_orderly(alloc, text)
 }
@@ -83,7 +86,8 @@ fn tags_in_order(alloc: Global, text: &[u8]) -> Result<TagPart, WireFault>
 
 /// A part in key order is read again from its text. Nothing is answered: it looks at the text.
 fn tags_are_read(alloc: Global, part: &TagPart) -> Result<(), NoMemory>
-    ensures { OnOk result (IsTagPart part.now → tag_part_reading (tag_part_text part.now) ≡ Ok part.now) }
+    ensures { OnOk result (IsTagPart part.now
+        → tag_part_reading (tag_part_text part.now) ≡ Ok part.now) }
 {
     let value = <TagPart as ToJson<ReplyKey>>::json(part, alloc)?;
     let _text = text_of(alloc, &value)?;
@@ -109,7 +113,8 @@ pub fn tags_read_again(alloc: Global, text: &[u8]) -> Result<(TagPart, TagPart),
 
 /// A part that reads from this text is in key order. Nothing is answered: it looks at the text.
 fn roles_are_in_order(alloc: Global, text: &[u8]) -> Result<(), NoMemory>
-    ensures { OnOk result ((part : RolePart) → role_part_reading text.now ≡ Ok part → IsRolePart part) }
+    ensures { OnOk result ((part : RolePart)
+        → role_part_reading text.now ≡ Ok part → IsRolePart part) }
 {
     json_is_orderly(alloc, text)
 }
@@ -127,7 +132,8 @@ fn roles_in_order(alloc: Global, text: &[u8]) -> Result<RolePart, WireFault>
 
 /// A part in key order is read again from its text. Nothing is answered: it looks at the text.
 fn roles_are_read(alloc: Global, part: &RolePart) -> Result<(), NoMemory>
-    ensures { OnOk result (IsRolePart part.now → role_part_reading (role_part_text part.now) ≡ Ok part.now) }
+    ensures { OnOk result (IsRolePart part.now
+        → role_part_reading (role_part_text part.now) ≡ Ok part.now) }
 {
     let value = <RolePart as ToJson<ReplyKey>>::json(part, alloc)?;
     let _text = text_of(alloc, &value)?;

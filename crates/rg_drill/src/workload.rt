@@ -87,8 +87,10 @@ fn item(alloc: Global, draws: PolicyDraws) -> Result<Item, NoMemory>
 
 /// The allow items and the deny items: the one item stands in one of the two lists.
 fn items(alloc: Global, draws: PolicyDraws) -> Result<(Seq<Item>, Seq<Item>), NoMemory>
-    ensures allowed { IfOk result (λ lists. lists.0 ≡ listed (if draws.denies then [] else item_from draws ∷ [])) }
-    ensures denied { IfOk result (λ lists. lists.1 ≡ listed (if draws.denies then item_from draws ∷ [] else [])) }
+    ensures allowed { IfOk result
+        (λ lists. lists.0 ≡ listed (if draws.denies then [] else item_from draws ∷ [])) }
+    ensures denied { IfOk result
+        (λ lists. lists.1 ≡ listed (if draws.denies then item_from draws ∷ [] else [])) }
 {
     let mut full = Seq::new(alloc);
     full.add(item(alloc, draws)?)?;

@@ -74,7 +74,8 @@ pub(crate) fn compile_items(
     side: Side,
     items: &[Item],
 ) -> Result<Seq<CompiledItem>, NoMemory>
-    requires { list_all (λ (i : Item). all_compile (def_of frame.now side) i.conditions.items) items.now ≡ true }
+    requires { list_all
+        (λ (i : Item). all_compile (def_of frame.now side) i.conditions.items) items.now ≡ true }
     ensures { IfOk result (λ list. list ≡ compiled_items frame.now side items.now) }
 {
     let mut compiled = Seq::new(alloc);
@@ -91,7 +92,8 @@ pub(crate) fn compile_placed(
     side: Side,
     items: &[Item],
 ) -> Result<Seq<CompiledItem>, NoMemory>
-    requires { list_all (λ (i : Item). all_compile (def_of frame.now side) i.conditions.items) items.now ≡ true }
+    requires { list_all
+        (λ (i : Item). all_compile (def_of frame.now side) i.conditions.items) items.now ≡ true }
     ensures items { IfOk result (λ list. list ≡ compiled_items frame.now side items.now) }
     ensures few { OnOk result (length items.now < 2 ^ 32) }
 {

@@ -86,7 +86,8 @@ impl Model for Evaluator {
 
     ghost view = { λ e. record { frame = e.frame.value; policy = e.policy.value; side = e.side } };
 
-    ghost invariant = { λ e. IsCompiled (record { frame = e.frame.value; policy = e.policy.value; side = e.side }) e.parts };
+    ghost invariant = { λ e. IsCompiled
+        (record { frame = e.frame.value; policy = e.policy.value; side = e.side }) e.parts };
 }
 
 fn any_contains(spans: &[Span], context: &Context) -> bool
@@ -112,7 +113,8 @@ fn any_compiled(items: &[CompiledItem], context: &Context) -> bool
 
 /// Whether one of the items matches that these were compiled from.
 fn any_matches(items: &Seq<CompiledItem>, context: &Context) -> bool
-    ensures { (frame : Frame) (side : Side) (written : List Item) → items.now ≡ compiled_items frame side written → result ≡ any_matches frame side context.now written }
+    ensures { (frame : Frame) (side : Side) (written : List Item) → items.now
+        ≡ compiled_items frame side written → result ≡ any_matches frame side context.now written }
 {
     any_compiled(items.as_slice(), context)
 }
@@ -137,7 +139,8 @@ fn first_compiled(items: &[CompiledItem], context: &Context) -> Option<u32>
 /// The place of the first of the items that matches, of which these were compiled.
 fn first_item(items: &Seq<CompiledItem>, context: &Context) -> Option<u32>
     requires { length items.now.items < 2 ^ 32 }
-    ensures { (frame : Frame) (side : Side) (written : List Item) → items.now ≡ compiled_items frame side written → result ≡ first_item frame side context.now written }
+    ensures { (frame : Frame) (side : Side) (written : List Item) → items.now
+        ≡ compiled_items frame side written → result ≡ first_item frame side context.now written }
 {
     first_compiled(items.as_slice(), context)
 }
@@ -157,7 +160,8 @@ impl Evaluator {
         side: Side,
     ) -> Result<Parts, NoMemory>
         requires rules { policy_fault frame.now side policy.now ≡ None }
-        ensures { IfOk result (λ parts. IsCompiled (record { frame = frame.now; policy = policy.now; side = side }) parts) }
+        ensures { IfOk result (λ parts. IsCompiled
+            (record { frame = frame.now; policy = policy.now; side = side }) parts) }
     {
         fitting_policy_matches();
         let def = def_of(frame, side);
@@ -181,8 +185,8 @@ impl Evaluator {
         })
     }
 
-    /// The evaluator of a policy that passes the rules V3 to V9, V11 and V12 under the frame, whose definition of the side
-    /// passes its own. Exactly one compile is counted. Mask items or filter items past the places of 32 bits find no memory.
+    /// The evaluator of a policy that passes the rules V3 to V9, V11 and V12 under the frame. Exactly one compile is counted.
+    /// Mask items or filter items past the places of 32 bits find no memory.
     pub fn compile<L: Ledger>(
         alloc: Global,
         frame: &Frame,
@@ -191,7 +195,8 @@ impl Evaluator {
         steps: &mut Steps<L>,
     ) -> Result<Evaluator, NoMemory>
         requires rules { policy_fault frame.now side policy.now ≡ None }
-        ensures source { IfOk result (λ e. e ≡ record { frame = frame.now; policy = policy.now; side = side }) }
+        ensures source { IfOk result
+            (λ e. e ≡ record { frame = frame.now; policy = policy.now; side = side }) }
         ensures steps { steps.new ≡ one_compile steps.old }
     {
         steps.compile();
@@ -221,14 +226,16 @@ impl Evaluator {
 
     /// Whether there is no schedule, or one that contains the request's moment.
     fn is_scheduled(&self, context: &Context) -> bool
-        ensures { result ≡ is_scheduled (is_valid self.now.frame context.now) self.now.policy.schedules.items }
+        ensures { result
+            ≡ is_scheduled (is_valid self.now.frame context.now) self.now.policy.schedules.items }
     {
         is_scheduled(self.parts.spans.as_slice(), context)
     }
 
     /// Whether the conditions of the policy hold.
     fn conditions_hold(&self, context: &Context) -> bool
-        ensures { result ≡ all_hold self.now.frame self.now.side context.now self.now.policy.conditions.items }
+        ensures { result
+            ≡ all_hold self.now.frame self.now.side context.now self.now.policy.conditions.items }
     {
         all_hold(context, self.parts.conditions.as_slice())
     }
@@ -245,7 +252,8 @@ impl Evaluator {
 
     /// Whether a deny item matches and no deny exception does.
     fn denies(&self, context: &Context) -> bool
-        ensures { result ≡ (any_matches self.now.frame self.now.side context.now self.now.policy.deny_items.items
+        ensures { result
+            ≡ (any_matches self.now.frame self.now.side context.now self.now.policy.deny_items.items
             && not (any_matches self.now.frame self.now.side context.now self.now.policy.deny_exceptions.items)) }
     {
         any_matches(&self.parts.deny_items, context)
@@ -254,7 +262,8 @@ impl Evaluator {
 
     /// Whether an allow item matches and no allow exception does.
     fn allows(&self, context: &Context) -> bool
-        ensures { result ≡ (any_matches self.now.frame self.now.side context.now self.now.policy.items.items
+        ensures { result
+            ≡ (any_matches self.now.frame self.now.side context.now self.now.policy.items.items
             && not (any_matches self.now.frame self.now.side context.now self.now.policy.allow_exceptions.items)) }
     {
         any_matches(&self.parts.items, context)
@@ -289,7 +298,8 @@ impl Evaluator {
         tag: Option<&Tag>,
         steps: &mut Steps<L>,
     ) -> Effect
-        ensures effect { let asked = context request.now roles.now (option_map (λ t. t.now) tag.entry) in
+        ensures effect { let asked = context request.now roles.now
+            (option_map (λ t. t.now) tag.entry) in
             result ≡ access_of self.now.frame self.now.side asked self.now.policy }
         ensures tries { TriesAtMost 1 steps.old steps.new }
     {
@@ -315,7 +325,8 @@ impl Evaluator {
         tag: Option<&Tag>,
         steps: &mut Steps<L>,
     ) -> Option<u32>
-        ensures place { let asked = context request.now roles.now (option_map (λ t. t.now) tag.entry) in
+        ensures place { let asked = context request.now roles.now
+            (option_map (λ t. t.now) tag.entry) in
             result ≡ item_of self.now.frame self.now.side asked self.now.policy self.now.policy.filter_items.items }
         ensures tries { TriesAtMost 1 steps.old steps.new }
     {
@@ -341,7 +352,8 @@ impl Evaluator {
         tag: Option<&Tag>,
         steps: &mut Steps<L>,
     ) -> Option<u32>
-        ensures place { let asked = context request.now roles.now (option_map (λ t. t.now) tag.entry) in
+        ensures place { let asked = context request.now roles.now
+            (option_map (λ t. t.now) tag.entry) in
             result ≡ item_of self.now.frame self.now.side asked self.now.policy self.now.policy.mask_items.items }
         ensures tries { TriesAtMost 1 steps.old steps.new }
     {

@@ -58,7 +58,8 @@ fn all_granted(
 
 /// What follows the component and `:` in a text that begins with them.
 fn past_component<'a>(text: &'a str, component: &str) -> Option<&'a str>
-    ensures { option_map (λ t. chars t.now) result ≡ past_component (chars text.now) (chars component.now) }
+    ensures { option_map (λ t. chars t.now) result
+        ≡ past_component (chars text.now) (chars component.now) }
 {
     let mut text = text;
     let mut component = component;
@@ -82,7 +83,8 @@ fn past_component<'a>(text: &'a str, component: &str) -> Option<&'a str>
 /// The list with a copy of the text behind it, where there is one.
 fn with_some(alloc: Global, mut list: Seq<Text>, text: Option<&str>) -> Result<Seq<Text>, NoMemory>
     requires { list ≡ listed list.items }
-    ensures { IfOk result (λ longer. longer ≡ listed (list.items ++ option_to_list (option_map (λ t. chars t.now) text.entry))) }
+    ensures { IfOk result (λ longer. longer
+        ≡ listed (list.items ++ option_to_list (option_map (λ t. chars t.now) text.entry))) }
 {
     if let Some(text) = text {
         list.add(Text::copy_of(alloc, text)?)?;

@@ -25,7 +25,11 @@ impl<'a> Model for Context<'a> {
 
     ghost Value = { Asked };
 
-    ghost view = { λ c. record { request = c.request.now; roles = c.roles.now; tag = option_map (λ t. t.now) c.tag } };
+    ghost view = { λ c. record {
+      request = c.request.now;
+      roles = c.roles.now;
+      tag = option_map (λ t. t.now) c.tag;
+    } };
 }
 
 /// An item, its accesses and its conditions compiled.

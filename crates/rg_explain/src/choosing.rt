@@ -10,7 +10,8 @@ use rg_zone_rules::ZoneRow;
 
 /// Whether the policy is one of the judging zone, or has no zone where there is none.
 pub(crate) fn is_chosen(zone: Option<&ZoneRow>, side: Side, policy: &Policy) -> bool
-    ensures { let judging = judging_zone side policy.now.service (option_map (λ z. z.now) zone.entry) in
+    ensures { let judging = judging_zone side policy.now.service
+        (option_map (λ z. z.now) zone.entry) in
         result ≡ bytes_eq policy.now.zone (zone_name judging) }
 {
     let name = policy.zone.as_str();

@@ -35,7 +35,8 @@ fn first_reaching(
     elements: &[Element],
     maps: &[ResourceMap],
 ) -> Result<Option<usize>, NoMemory>
-    ensures { IfOk result (λ place. place ≡ position_from (reaches def.now elements.now) 0 maps.now) }
+    ensures { IfOk result
+        (λ place. place ≡ position_from (reaches def.now elements.now) 0 maps.now) }
 {
     for (place, map) in maps.iter().enumerate() {
         if reaches(alloc, def, elements, map)? {

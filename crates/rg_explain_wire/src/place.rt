@@ -39,7 +39,8 @@ fn levels_words(alloc: Global, request: &AccessRequest) -> Result<String, NoMemo
 
 /// What is asked for on which path, and the rest.
 fn access_words(alloc: Global, access: &Text, path: &Text, rest: &str) -> Result<String, NoMemory>
-    ensures { IfOk result (λ s. string_bytes s ≡ codes " asks for " ++ (quoted access.now ++ (codes " on " ++ (quoted path.now ++ rest.now)))) }
+    ensures { IfOk result (λ s. string_bytes s ≡ codes " asks for "
+        ++ (quoted access.now ++ (codes " on " ++ (quoted path.now ++ rest.now)))) }
 {
     let access = quoted(alloc, access)?;
     let path = quoted(alloc, path)?;
@@ -50,7 +51,8 @@ fn access_words(alloc: Global, access: &Text, path: &Text, rest: &str) -> Result
 
 /// With which groups, and the rest.
 fn groups_words(alloc: Global, groups: &Seq<Text>, rest: &str) -> Result<String, NoMemory>
-    ensures { IfOk result (λ s. string_bytes s ≡ codes " with the groups " ++ (quoted_list groups.now ++ rest.now)) }
+    ensures { IfOk result
+        (λ s. string_bytes s ≡ codes " with the groups " ++ (quoted_list groups.now ++ rest.now)) }
 {
     let groups = quoted_list(alloc, groups)?;
     let groups = groups.as_str();
@@ -150,7 +152,8 @@ fn roles_words(alloc: Global, roles: &[HeldBy]) -> Result<String, NoMemory>
 // ---- the tag rows
 
 fn row_line(alloc: Global, id: i64, tags: &str) -> Result<String, NoMemory>
-    ensures { let rest = codes " reaches down to the resource, with the tags " ++ (tags.now ++ codes ".\n") in
+    ensures { let rest = codes " reaches down to the resource, with the tags "
+        ++ (tags.now ++ codes ".\n") in
         IfOk result (λ s. string_bytes s ≡ codes "Tag row " ++ (signed_decimal id ++ rest)) }
 {
     Ok(format!(in alloc; "Tag row {id} reaches down to the resource, with the tags {tags}.\n")?)

@@ -27,7 +27,8 @@ fn put_word(
     key: Key,
     word: &str,
 ) -> Result<(), NoMemory>
-    ensures { IfOk result (λ u. members_view members.new.entries ≡ put (name_of key) (string word.now) (members_view members.old.entries)) }
+    ensures { IfOk result (λ u. members_view members.new.entries
+        ≡ put (name_of key) (string word.now) (members_view members.old.entries)) }
 {
     let value = word_json(alloc, word)?;
     put_value(alloc, members, key.name(), value)
@@ -35,7 +36,8 @@ fn put_word(
 
 /// What is there as JSON, null where nothing is.
 fn option_json<X: ToJson<Key>>(alloc: Global, part: Option<&X>) -> Result<Value, NoMemory>
-    ensures { IfOk result (λ v. view v ≡ option_data X.printing (option_map (λ x. x.now) part.entry)) }
+    ensures { IfOk result
+        (λ v. view v ≡ option_data X.printing (option_map (λ x. x.now) part.entry)) }
 {
     match part {
         Some(part) => part.json(alloc),
@@ -73,7 +75,8 @@ pub(crate) fn put_cell(
     key: Key,
     cell: Option<u8>,
 ) -> Result<(), NoMemory>
-    ensures { IfOk result (λ u. members_view members.new.entries ≡ put (name_of key) (option_data count_data cell) (members_view members.old.entries)) }
+    ensures { IfOk result (λ u. members_view members.new.entries
+        ≡ put (name_of key) (option_data count_data cell) (members_view members.old.entries)) }
 {
     put_value(alloc, members, key.name(), cell_json(cell))
 }
@@ -241,7 +244,8 @@ fn put_standing(
     members: &mut Map<String, Value>,
     told: &Told,
 ) -> Result<(), NoMemory>
-    ensures { IfOk result (λ u. members_view members.new.entries ≡ with_members name_of (members_view members.old.entries) (standing_members told.now)) }
+    ensures { IfOk result (λ u. members_view members.new.entries
+        ≡ with_members name_of (members_view members.old.entries) (standing_members told.now)) }
 {
     let standing = &told.standing;
     put_cell(alloc, members, Key::Cell, told.cell)?;

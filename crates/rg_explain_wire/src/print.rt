@@ -101,7 +101,8 @@ impl ToJson<Key> for Access {
 /// The policies that are listed.
 #[tactic(auto, unfolding(rg_json::specs::Printing::list_data))]
 fn policies_json(alloc: Global, explanation: &Explanation, all: bool) -> Result<Value, NoMemory>
-    ensures { IfOk result (λ v. view v ≡ list_data told_data (listed (listed_policies all explanation.now))) }
+    ensures { IfOk result
+        (λ v. view v ≡ list_data told_data (listed (listed_policies all explanation.now))) }
 {
     let mut made = Vec::new(alloc);
     for told in explanation.policies.as_slice() {
@@ -118,7 +119,8 @@ fn put_decided(
     members: &mut Map<String, Value>,
     explanation: &Explanation,
 ) -> Result<(), NoMemory>
-    ensures { IfOk result (λ u. members_view members.new.entries ≡ with_members name_of (members_view members.old.entries) (decided_members explanation.now)) }
+    ensures { IfOk result (λ u. members_view members.new.entries ≡ with_members name_of
+        (members_view members.old.entries) (decided_members explanation.now)) }
 {
     let verdict = &explanation.verdict;
     put(alloc, members, Key::Access, &verdict.access)?;
@@ -135,7 +137,8 @@ fn put_asked(
     request: &AccessRequest,
     explanation: &Explanation,
 ) -> Result<(), NoMemory>
-    ensures { IfOk result (λ u. members_view members.new.entries ≡ with_members name_of (members_view members.old.entries) (asked_members request.now explanation.now)) }
+    ensures { IfOk result (λ u. members_view members.new.entries ≡ with_members name_of
+        (members_view members.old.entries) (asked_members request.now explanation.now)) }
 {
     put(alloc, members, Key::Path, &explanation.decision.path)?;
     put(alloc, members, Key::Request, request)?;
@@ -173,7 +176,8 @@ pub fn print_explanation(
     all: bool,
 ) -> Result<Text, NoMemory>
     ensures text { IfOk result (λ t. t ≡ chars (explanation_text all request.now explanation.now)) }
-    ensures bytes { IfOk result (λ t. encode_utf8_all t ≡ explanation_text all request.now explanation.now) }
+    ensures bytes { IfOk result
+        (λ t. encode_utf8_all t ≡ explanation_text all request.now explanation.now) }
 {
     let value = explanation_json(alloc, request, explanation, all)?;
     text_of(alloc, &value)

@@ -42,7 +42,8 @@ pub(crate) fn by_words(alloc: Global, subject: Option<&Subject>) -> Result<Strin
 /// The item of one list, if one matches.
 #[tactic(auto, unfolding(crate::specs::Words::match_words))]
 fn match_words(alloc: Global, list: &str, found: Option<&Match>) -> Result<String, NoMemory>
-    ensures { IfOk result (λ s. string_bytes s ≡ match_words list.now (option_map (λ m. m.now) found.entry)) }
+    ensures { IfOk result
+        (λ s. string_bytes s ≡ match_words list.now (option_map (λ m. m.now) found.entry)) }
 {
     match found {
         Some(found) => {
@@ -138,7 +139,8 @@ fn all_misses(alloc: Global, misses: &[Miss]) -> Result<String, NoMemory>
 }
 
 fn elsewhere_words(alloc: Global, misses: &[Miss]) -> Result<String, NoMemory>
-    ensures { IfOk result (λ s. string_bytes s ≡ codes "lies elsewhere" ++ flat_map miss_words misses.now) }
+    ensures { IfOk result
+        (λ s. string_bytes s ≡ codes "lies elsewhere" ++ flat_map miss_words misses.now) }
 {
     let misses = all_misses(alloc, misses)?;
     let misses = misses.as_str();
@@ -146,7 +148,8 @@ fn elsewhere_words(alloc: Global, misses: &[Miss]) -> Result<String, NoMemory>
 }
 
 fn in_play_words(alloc: Global, cell: Option<u8>, matches: &Matches) -> Result<String, NoMemory>
-    ensures { IfOk result (λ s. string_bytes s ≡ codes "is in play and " ++ (effect_words cell matches.now ++ matches_words matches.now)) }
+    ensures { IfOk result (λ s. string_bytes s ≡ codes "is in play and "
+        ++ (effect_words cell matches.now ++ matches_words matches.now)) }
 {
     let effect = effect_words(alloc, cell, matches)?;
     let items = matches_words(alloc, matches)?;

@@ -34,7 +34,8 @@ fn decided_words(alloc: Global, verdict: &Verdict, cell: Option<u8>) -> Result<S
 /// What an item gives beside the decision, if one does.
 #[tactic(auto, unfolding(crate::specs::Words::given_words))]
 fn given_words(alloc: Global, what: &str, place: Option<&ItemPlace>) -> Result<String, NoMemory>
-    ensures { IfOk result (λ s. string_bytes s ≡ given_words what.now (option_map (λ p. p.now) place.entry)) }
+    ensures { IfOk result
+        (λ s. string_bytes s ≡ given_words what.now (option_map (λ p. p.now) place.entry)) }
 {
     match place {
         Some(place) => {
@@ -91,7 +92,8 @@ fn for_words(alloc: Global, tag: Option<&Text>) -> Result<String, NoMemory>
 
 /// Which policy it is, and the rest.
 fn policy_line(alloc: Global, id: i64, name: &Text, rest: &str) -> Result<String, NoMemory>
-    ensures { IfOk result (λ s. string_bytes s ≡ codes "Policy " ++ (signed_decimal id ++ (codes " " ++ (quoted name.now ++ rest.now)))) }
+    ensures { IfOk result (λ s. string_bytes s ≡ codes "Policy "
+        ++ (signed_decimal id ++ (codes " " ++ (quoted name.now ++ rest.now)))) }
 {
     let name = quoted(alloc, name)?;
     let name = name.as_str();
@@ -121,7 +123,8 @@ fn line_words(alloc: Global, told: &Told) -> Result<String, NoMemory>
 
 /// The lines of those that are listed.
 fn listed_words(alloc: Global, explanation: &Explanation, all: bool) -> Result<String, NoMemory>
-    ensures { IfOk result (λ s. string_bytes s ≡ flat_map line_words (listed_policies all explanation.now)) }
+    ensures { IfOk result
+        (λ s. string_bytes s ≡ flat_map line_words (listed_policies all explanation.now)) }
 {
     let mut text = String::new(alloc);
     for told in explanation.policies.as_slice() {
@@ -153,7 +156,8 @@ fn all_words(
     explanation: &Explanation,
     all: bool,
 ) -> Result<String, NoMemory>
-    ensures { IfOk result (λ s. string_bytes s ≡ explanation_words all request.now explanation.now) }
+    ensures { IfOk result
+        (λ s. string_bytes s ≡ explanation_words all request.now explanation.now) }
 {
     let head = head_words(alloc, request, explanation)?;
     let listed = listed_words(alloc, explanation, all)?;
@@ -173,8 +177,10 @@ pub fn print_words(
     explanation: &Explanation,
     all: bool,
 ) -> Result<Text, NoMemory>
-    ensures text { IfOk result (λ t. t ≡ chars (explanation_words all request.now explanation.now)) }
-    ensures bytes { IfOk result (λ t. encode_utf8_all t ≡ explanation_words all request.now explanation.now) }
+    ensures text { IfOk result
+        (λ t. t ≡ chars (explanation_words all request.now explanation.now)) }
+    ensures bytes { IfOk result
+        (λ t. encode_utf8_all t ≡ explanation_words all request.now explanation.now) }
 {
     let words = all_words(alloc, request, explanation, all)?;
     Ok(Text::of(words))

@@ -133,7 +133,8 @@ impl<'a> Candidate<'a> {
     /// The policy, of which this is the evaluator.
     pub fn new(policy: &'a Policy, evaluator: &'a Evaluator, tag: Option<&'a Tag>) -> Candidate<'a>
         requires { evaluator.now.policy ≡ policy.now }
-        ensures { result ≡ record { source = evaluator.now; tag = option_map (λ t. t.now) tag.entry } }
+        ensures { result
+            ≡ record { source = evaluator.now; tag = option_map (λ t. t.now) tag.entry } }
     {
         Candidate {
             policy,

@@ -65,7 +65,8 @@ fn copy_policies(
     alloc: Global,
     facts: &Facts,
 ) -> Result<(Seq<Shared<Policy>>, Seq<Shared<Policy>>), NoMemory>
-    ensures { IfOk result (λ lists. (lists.0 ≡ facts.now.policies) × (lists.1 ≡ facts.now.tag_policies)) }
+    ensures { IfOk result (λ lists. (lists.0 ≡ facts.now.policies)
+        × (lists.1 ≡ facts.now.tag_policies)) }
 {
     let policies = facts.policies.try_copy(alloc)?;
     let tag_policies = facts.tag_policies.try_copy(alloc)?;
@@ -81,7 +82,8 @@ fn copy_subjects(alloc: Global, facts: &Facts) -> Result<(Seq<ZoneRow>, Seq<Role
 }
 
 fn copy_rows(alloc: Global, facts: &Facts) -> Result<(Seq<TagRow>, Seq<TimeZoneRow>), NoMemory>
-    ensures { IfOk result (λ lists. (lists.0 ≡ facts.now.tag_rows) × (lists.1 ≡ facts.now.time_zones)) }
+    ensures { IfOk result (λ lists. (lists.0 ≡ facts.now.tag_rows)
+        × (lists.1 ≡ facts.now.time_zones)) }
 {
     let tag_rows = facts.tag_rows.try_copy(alloc)?;
     let time_zones = facts.time_zones.try_copy(alloc)?;

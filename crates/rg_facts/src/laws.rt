@@ -21,9 +21,11 @@ ghost use Rattle.rg_facts.specs.declared.facts.Facts.{Facts};
 /// What a policy gives rests on no other policy: whatever the lists hold, be it the other policies' exceptions or
 /// anything else of them, its effect is the same, and so are the masks and row filters that it offers.
 pub fn effects_are_local()
-    ensures effects { (facts : Facts) (policies tag_policies : Listed Policy) (q : AccessRequest) (c : Candidate)
+    ensures effects { (facts : Facts) (policies tag_policies : Listed Policy)
+        (q : AccessRequest) (c : Candidate)
         → given (setting_of (record facts { policies = policies; tag_policies = tag_policies }) q) c ≡ given (setting_of facts q) c }
-    ensures offers { (facts : Facts) (policies tag_policies : Listed Policy) (q : AccessRequest) (kind : Kind) (c : Candidate)
+    ensures offers { (facts : Facts) (policies tag_policies : Listed Policy)
+        (q : AccessRequest) (kind : Kind) (c : Candidate)
         → offered (setting_of (record facts { policies = policies; tag_policies = tag_policies }) q) kind c ≡ offered (setting_of facts q) kind c }
 {}
 
@@ -38,7 +40,8 @@ pub fn idle_policies_may_go()
     ensures policies { (facts : Facts) (q : AccessRequest) (p : Policy) (before after : List Policy)
         → takes_part (setting_of facts q) (candidate (frame_of facts) Resource None p) ≡ false
         → eval (record facts { policies = listed (before ++ p ∷ after) }) q ≡ eval (record facts { policies = listed (before ++ after) }) q }
-    ensures tag_policies { (facts : Facts) (q : AccessRequest) (p : Policy) (before after : List Policy)
+    ensures tag_policies { (facts : Facts)
+        (q : AccessRequest) (p : Policy) (before after : List Policy)
         → ((tag : Tag) → Contains (tags_of facts q) tag → takes_part (setting_of facts q) (candidate (frame_of facts) Tagged (Some tag) p) ≡ false)
         → eval (record facts { tag_policies = listed (before ++ p ∷ after) }) q ≡ eval (record facts { tag_policies = listed (before ++ after) }) q }
 {}
@@ -46,9 +49,11 @@ pub fn idle_policies_may_go()
 /// Whoever asks candidates one after the other needs no order, and may leave out those that take no part: two lists with the
 /// same candidates that take part, of which no two policies of one side have one id, give the same.
 pub fn order_plays_no_part()
-    ensures candidates { (fallback : Bool) (s : Setting) (these those : List Candidate) → AreTold those
+    ensures candidates { (fallback : Bool) (s : Setting) (these those : List Candidate)
+        → AreTold those
         → HaveSame (takes_part s) these those → outcome_of fallback s these ≡ outcome_of fallback s those }
-    ensures best { (fallback : Bool) (s : Setting) (cs : List Candidate) → outcome_by fallback (after All s cs none_yet) ≡ outcome_of fallback s cs }
+    ensures best { (fallback : Bool) (s : Setting) (cs : List Candidate)
+        → outcome_by fallback (after All s cs none_yet) ≡ outcome_of fallback s cs }
 {}
 
 /// A tag policy that denies for one tag of the resource and allows for another stands in both cells of its priority.

@@ -12,7 +12,8 @@ use std::alloc::Global;
 
 /// What follows `{col}` in a text that begins with it.
 fn past_mark(text: &str) -> Option<&str>
-    ensures { MatchOption result (begins_with_mark (chars text.now) ≡ false) (λ rest. chars text.now ≡ col_mark ++ chars rest.now) }
+    ensures { MatchOption result (begins_with_mark (chars text.now) ≡ false)
+        (λ rest. chars text.now ≡ col_mark ++ chars rest.now) }
 {
     text.strip_prefix("{col}")
 }
@@ -47,7 +48,8 @@ fn or_empty(text: Option<&Text>) -> &str
 
 /// The transformer of the definition's mask type of this name.
 fn transformer_in<'a>(def: &'a ServiceDef, kind: &str) -> Option<&'a Text>
-    ensures { unwrap_or (option_map (λ t. t.now) result) [] ≡ transformer_of (chars kind.now) def.now }
+    ensures { unwrap_or (option_map (λ t. t.now) result) []
+        ≡ transformer_of (chars kind.now) def.now }
 {
     let mask = find_named(def.masks.as_slice(), kind)?;
     Some(&mask.transformer)
@@ -72,7 +74,8 @@ pub(crate) fn masked(
     column: Option<&Text>,
     mask: &MaskInfo,
 ) -> Result<MaskText, NoMemory>
-    ensures { IfOk result (λ m. m ≡ masked def.now (unwrap_or (option_map (λ t. t.now) column.entry) []) mask.now) }
+    ensures { IfOk result
+        (λ m. m ≡ masked def.now (unwrap_or (option_map (λ t. t.now) column.entry) []) mask.now) }
 {
     let kind = mask.kind.try_copy(alloc)?;
     let expr = replaced(alloc, template_of(def, mask), or_empty(column))?;

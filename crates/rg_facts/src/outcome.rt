@@ -27,7 +27,12 @@ impl<'a> Model for Outcome<'a> {
 
     ghost Value = { Seen };
 
-    ghost view = { λ o. record { access = o.access; policy = option_map (λ p. p.now) o.policy; filter = o.filter; mask = o.mask } };
+    ghost view = { λ o. record {
+      access = o.access;
+      policy = option_map (λ p. p.now) o.policy;
+      filter = o.filter;
+      mask = o.mask;
+    } };
 }
 
 fn denies(cell: u8) -> bool

@@ -13,7 +13,8 @@ use rg_policy::Element;
 use std::alloc::Global;
 
 fn element_at<'a>(elements: &'a [Element], name: &str) -> Option<&'a Element>
-    ensures { option_map (λ e. e.now) result ≡ find (λ (e : Element). bytes_eq e.level (chars name.now)) elements.now }
+    ensures { option_map (λ e. e.now) result
+        ≡ find (λ (e : Element). bytes_eq e.level (chars name.now)) elements.now }
 {
     elements
         .iter()
@@ -45,7 +46,8 @@ fn after_value(
     text: Option<Text>,
     value: Option<&Text>,
 ) -> Result<Option<Text>, NoMemory>
-    ensures { IfOk result (λ longer. longer ≡ after_value text (option_map (λ t. t.now) value.entry)) }
+    ensures { IfOk result
+        (λ longer. longer ≡ after_value text (option_map (λ t. t.now) value.entry)) }
 {
     let Some(value) = value else {
         return Ok(text);
@@ -65,7 +67,8 @@ fn joined_on(
     elements: &[Element],
     path: &[u32],
 ) -> Result<Text, NoMemory>
-    ensures { IfOk result (λ t. t ≡ join_with_byte 47 (filter_map (value_of_place levels.now elements.now) path.now)) }
+    ensures { IfOk result (λ t. t
+        ≡ join_with_byte 47 (filter_map (value_of_place levels.now elements.now) path.now)) }
 {
     let mut text = None;
     for place in path {
@@ -80,7 +83,8 @@ fn joined_on(
 
 /// All values in the order of the elements, joined by `/`.
 fn all_joined(alloc: Global, elements: &[Element]) -> Result<Text, NoMemory>
-    ensures { IfOk result (λ t. t ≡ join_with_byte 47 (map (λ (e : Element). e.value) elements.now)) }
+    ensures { IfOk result
+        (λ t. t ≡ join_with_byte 47 (map (λ (e : Element). e.value) elements.now)) }
 {
     let mut text = None;
     for element in elements {
@@ -105,7 +109,8 @@ pub(crate) fn joined(
     elements: &[Element],
     path: Option<&[u32]>,
 ) -> Result<Text, NoMemory>
-    ensures { IfOk result (λ t. t ≡ join_with_byte 47 (values_along levels.now elements.now (option_map (λ p. p.now) path.entry))) }
+    ensures { IfOk result (λ t. t ≡ join_with_byte 47
+        (values_along levels.now elements.now (option_map (λ p. p.now) path.entry))) }
 {
     match path {
         Some(path) => joined_on(alloc, levels, elements, path),
@@ -115,7 +120,8 @@ pub(crate) fn joined(
 
 /// The value of the deepest level on the path that the elements name.
 fn deepest_on<'a>(levels: &[Level], elements: &'a [Element], path: &[u32]) -> Option<&'a Text>
-    ensures { option_map (λ t. t.now) result ≡ last_or None (filter_map (value_of_place levels.now elements.now) path.now) }
+    ensures { option_map (λ t. t.now) result
+        ≡ last_or None (filter_map (value_of_place levels.now elements.now) path.now) }
 {
     let mut deepest = None;
     for place in path {
@@ -125,7 +131,8 @@ fn deepest_on<'a>(levels: &[Level], elements: &'a [Element], path: &[u32]) -> Op
 }
 
 fn last_value(elements: &[Element]) -> Option<&Text>
-    ensures { option_map (λ t. t.now) result ≡ last_or None (map (λ (e : Element). e.value) elements.now) }
+    ensures { option_map (λ t. t.now) result
+        ≡ last_or None (map (λ (e : Element). e.value) elements.now) }
 {
     match elements.last() {
         Some(element) => Some(&element.value),
@@ -139,7 +146,8 @@ pub(crate) fn deepest<'a>(
     elements: &'a [Element],
     path: Option<&[u32]>,
 ) -> Option<&'a Text>
-    ensures { option_map (λ t. t.now) result ≡ last_or None (values_along levels.now elements.now (option_map (λ p. p.now) path.entry)) }
+    ensures { option_map (λ t. t.now) result
+        ≡ last_or None (values_along levels.now elements.now (option_map (λ p. p.now) path.entry)) }
 {
     match path {
         Some(path) => deepest_on(levels, elements, path),

@@ -24,12 +24,17 @@ impl<'a> Model for Setting<'a> {
 
     ghost Value = { Seen };
 
-    ghost view = { λ s. record { request = s.request.now; roles = s.roles.now; zone = option_map (λ z. z.now) s.zone } };
+    ghost view = { λ s. record {
+      request = s.request.now;
+      roles = s.roles.now;
+      zone = option_map (λ z. z.now) s.zone;
+    } };
 }
 
 /// The zone, if it lists the tag service.
 fn zone_listing<'a>(service: &str, zone: Option<&'a ZoneRow>) -> Option<&'a ZoneRow>
-    ensures { option_map (λ z. z.now) result ≡ zone_listing (chars service.now) (option_map (λ z. z.now) zone.entry) }
+    ensures { option_map (λ z. z.now) result
+        ≡ zone_listing (chars service.now) (option_map (λ z. z.now) zone.entry) }
 {
     match zone {
         Some(found) => if is_among(service, found.tag_services.as_slice()) {
@@ -54,7 +59,8 @@ fn is_name_of(name: &str, zone: Option<&ZoneRow>) -> bool
 impl<'a> Setting<'a> {
     /// The zone whose policies judge.
     fn judging_zone(&self, side: Side, policy: &Policy) -> Option<&'a ZoneRow>
-        ensures { option_map (λ z. z.now) result ≡ judging_zone side policy.now.service self.now.zone }
+        ensures { option_map (λ z. z.now) result
+            ≡ judging_zone side policy.now.service self.now.zone }
     {
         match side {
             Side::Tag => zone_listing(policy.service.as_str(), self.zone),
@@ -64,7 +70,8 @@ impl<'a> Setting<'a> {
 
     /// Whether the zone chooses the policy.
     pub(crate) fn chooses(&self, side: Side, policy: &Policy) -> bool
-        ensures { result ≡ bytes_eq policy.now.zone (zone_name (judging_zone side policy.now.service self.now.zone)) }
+        ensures { result ≡ bytes_eq policy.now.zone
+            (zone_name (judging_zone side policy.now.service self.now.zone)) }
     {
         is_name_of(policy.zone.as_str(), self.judging_zone(side, policy))
     }

@@ -92,13 +92,15 @@ impl<'a> Published<'a> {
 
     /// The first path on which the levels of all elements lie.
     fn path_for(&self, elements: &[Element]) -> Option<&'a [u32]>
-        ensures { option_map (λ p. p.now) result ≡ path_for self.now.def.levels.items (map (λ (e : Element). e.level) elements.now) }
+        ensures { option_map (λ p. p.now) result
+            ≡ path_for self.now.def.levels.items (map (λ (e : Element). e.level) elements.now) }
     {
         self.paths.path_for(elements)
     }
 
     fn column<'e>(&self, elements: &'e [Element]) -> Option<&'e Text>
-        ensures { unwrap_or (option_map (λ t. t.now) result) [] ≡ column_of self.now.def elements.now }
+        ensures { unwrap_or (option_map (λ t. t.now) result) []
+            ≡ column_of self.now.def elements.now }
     {
         deepest(
             self.def.levels.as_slice(),
@@ -113,7 +115,8 @@ impl<'a> Published<'a> {
         elements: &[Element],
         choice: &Option<Choice>,
     ) -> Result<Option<MaskText>, NoMemory>
-        ensures { IfOk result (λ text. text ≡ option_and_then (mask_text self.now elements.now) choice.now) }
+        ensures { IfOk result
+            (λ text. text ≡ option_and_then (mask_text self.now elements.now) choice.now) }
     {
         let Some(choice) = choice else {
             return Ok(None);

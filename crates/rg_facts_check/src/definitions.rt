@@ -55,7 +55,8 @@ fn add_tag_def_causes(
     def: Option<&ServiceDef>,
     causes: &mut Vec<Unsound>,
 ) -> Result<(), NoMemory>
-    ensures { OnOk result (causes.new.items ≡ causes.old.items ++ present (tag_def_causes (option_map (λ d. d.now) def.entry))) }
+    ensures { OnOk result (causes.new.items
+        ≡ causes.old.items ++ present (tag_def_causes (option_map (λ d. d.now) def.entry))) }
 {
     let Some(def) = def else {
         return Ok(());

@@ -36,7 +36,8 @@ fn are_positive(ids: &[i64]) -> bool
 
 /// Adds the ids of the policies.
 fn append_ids(ids: &mut Vec<i64>, policies: &[Shared<Policy>]) -> Result<(), NoMemory>
-    ensures { OnOk result (ids.new.items ≡ ids.old.items ++ map (λ (p : Policy). p.id.0) policies.now) }
+    ensures { OnOk result (ids.new.items
+        ≡ ids.old.items ++ map (λ (p : Policy). p.id.0) policies.now) }
 {
     for policy in policies {
         if ids.push(policy.id.0).is_err() {
@@ -48,7 +49,8 @@ fn append_ids(ids: &mut Vec<i64>, policies: &[Shared<Policy>]) -> Result<(), NoM
 
 /// The ids of all policies, those of the tag service last.
 fn policy_ids(alloc: Global, facts: &Facts) -> Result<Vec<i64>, NoMemory>
-    ensures { IfOk result (λ ids. ids.items ≡ map (λ (p : Policy). p.id.0) (all_policies facts.now)) }
+    ensures { IfOk result
+        (λ ids. ids.items ≡ map (λ (p : Policy). p.id.0) (all_policies facts.now)) }
 {
     let mut ids = Vec::new(alloc);
     append_ids(&mut ids, facts.policies.as_slice())?;

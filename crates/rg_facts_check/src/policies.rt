@@ -32,7 +32,8 @@ use std::alloc::Global;
 
 /// The rule of this number fails for the policy.
 fn of_policy(rule: u8, policy: Option<&Shared<Policy>>) -> Option<Unsound>
-    ensures { result ≡ option_map (λ (p : Policy). unsound.Policy p.id rule) (option_map (λ p. p.now) policy.entry) }
+    ensures { result ≡ option_map (λ (p : Policy). unsound.Policy p.id rule)
+        (option_map (λ p. p.now) policy.entry) }
 {
     match policy {
         Some(policy) => Some(Unsound::Policy(policy.id, rule)),
@@ -47,14 +48,16 @@ fn unfit_subjects<'a>(
     roles: &NameIndex,
     policies: &'a [Shared<Policy>],
 ) -> Option<&'a Shared<Policy>>
-    ensures { option_map (λ p. p.now) result ≡ find (λ p. not (subjects_fit roles.now p)) policies.now }
+    ensures { option_map (λ p. p.now) result
+        ≡ find (λ p. not (subjects_fit roles.now p)) policies.now }
 {
     policies.iter().find(|policy| !subjects_fit(roles, policy))
 }
 
 /// The first policy of the service that fails V10.
 fn subject_cause(prepared: &Prepared) -> Option<Unsound>
-    ensures { result ≡ first_policy 10 (subjects_fit (names_of prepared.now.roles.items)) prepared.now.policies.items }
+    ensures { result ≡ first_policy 10
+        (subjects_fit (names_of prepared.now.roles.items)) prepared.now.policies.items }
 {
     of_policy(
         10,
@@ -64,7 +67,8 @@ fn subject_cause(prepared: &Prepared) -> Option<Unsound>
 
 /// The first policy of the tag service that fails V10.
 fn tag_subject_cause(prepared: &Prepared) -> Option<Unsound>
-    ensures { result ≡ first_policy 10 (subjects_fit (names_of prepared.now.roles.items)) prepared.now.tag_policies.items }
+    ensures { result ≡ first_policy 10
+        (subjects_fit (names_of prepared.now.roles.items)) prepared.now.tag_policies.items }
 {
     of_policy(
         10,
@@ -88,7 +92,8 @@ pub(crate) fn add_role_causes(
     prepared: &Prepared,
     causes: &mut Vec<Unsound>,
 ) -> Result<(), NoMemory>
-    ensures { OnOk result (causes.new.items ≡ causes.old.items ++ present (role_causes prepared.now)) }
+    ensures { OnOk result (causes.new.items
+        ≡ causes.old.items ++ present (role_causes prepared.now)) }
 {
     note(
         causes,
@@ -102,7 +107,8 @@ pub(crate) fn add_role_causes(
 
 /// The first policy that has no zone in which it may stand.
 fn out_of_zone<'a>(is_tag: bool, facts: &'a Facts) -> Option<&'a Shared<Policy>>
-    ensures { option_map (λ p. p.now) result ≡ find (λ p. not (policy_zone_fits is_tag facts.now.service facts.now.zones.items p)) facts.now.policies.items }
+    ensures { option_map (λ p. p.now) result ≡ find (λ p. not (policy_zone_fits
+        is_tag facts.now.service facts.now.zones.items p)) facts.now.policies.items }
 {
     let service = facts.service.as_str();
     let zones = facts.zones.as_slice();
@@ -114,7 +120,8 @@ fn out_of_zone<'a>(is_tag: bool, facts: &'a Facts) -> Option<&'a Shared<Policy>>
 }
 
 fn tag_out_of_zone(facts: &Facts) -> Option<&Shared<Policy>>
-    ensures { option_map (λ p. p.now) result ≡ find (λ p. not (tag_policy_zone_fits facts.now.zones.items p)) facts.now.tag_policies.items }
+    ensures { option_map (λ p. p.now) result ≡ find
+        (λ p. not (tag_policy_zone_fits facts.now.zones.items p)) facts.now.tag_policies.items }
 {
     let zones = facts.zones.as_slice();
     facts
@@ -126,7 +133,8 @@ fn tag_out_of_zone(facts: &Facts) -> Option<&Shared<Policy>>
 
 /// Adds the policies that fail V14.
 pub(crate) fn add_zone_name_causes(facts: &Facts, causes: &mut Vec<Unsound>) -> Result<(), NoMemory>
-    ensures { OnOk result (causes.new.items ≡ causes.old.items ++ present (zone_name_causes facts.now)) }
+    ensures { OnOk result (causes.new.items
+        ≡ causes.old.items ++ present (zone_name_causes facts.now)) }
 {
     note(
         causes,
@@ -139,7 +147,8 @@ pub(crate) fn add_zone_name_causes(facts: &Facts, causes: &mut Vec<Unsound>) -> 
 
 /// The first time zone whose rule doesn't read.
 fn time_zone_cause(alloc: Global, rows: &[TimeZoneRow]) -> Result<Option<Unsound>, NoMemory>
-    ensures { IfOk result (λ cause. cause ≡ option_map unsound.TimeZone (option_map place_number (bad_rule rows.now))) }
+    ensures { IfOk result (λ cause. cause
+        ≡ option_map unsound.TimeZone (option_map place_number (bad_rule rows.now))) }
 {
     match TimeZones::build(alloc, rows) {
         Ok(_) => Ok(None),
@@ -163,7 +172,8 @@ fn unfit<'a>(
     policies: &'a [Shared<Policy>],
 ) -> Option<&'a Shared<Policy>>
     requires { paths.now ≡ (def_of frame.now side).levels.items }
-    ensures { option_map (λ p. p.now) result ≡ find (λ p. not (passes frame.now side p)) policies.now }
+    ensures { option_map (λ p. p.now) result
+        ≡ find (λ p. not (passes frame.now side p)) policies.now }
 {
     policies
         .iter()
@@ -207,7 +217,8 @@ fn tag_policies_cause(
     frame: &Frame,
     policies: &[Shared<Policy>],
 ) -> Result<Option<Unsound>, NoMemory>
-    ensures { IfOk result (λ cause. cause ≡ tag_policies_cause frame.now frame.now.tag_def policies.now) }
+    ensures { IfOk result
+        (λ cause. cause ≡ tag_policies_cause frame.now frame.now.tag_def policies.now) }
 {
     let Some(def) = &frame.tag_def else {
         return Ok(unless(is_no_policy(policies), Unsound::NoTagDefinition));
@@ -219,7 +230,8 @@ fn tag_policies_cause(
 /// The first policy of the service that fails a rule of V3 to V9, V11 and V12 under this frame, which is the facts'.
 fn resource_policy_cause(prepared: &Prepared, frame: &Frame) -> Option<Unsound>
     requires { frame.now ≡ frame_of prepared.now }
-    ensures { result ≡ first_faulty (frame_of prepared.now) Side.Resource prepared.now.policies.items }
+    ensures { result
+        ≡ first_faulty (frame_of prepared.now) Side.Resource prepared.now.policies.items }
 {
     first_faulty(
         frame,
@@ -236,7 +248,8 @@ fn tag_policy_cause(
     frame: &Frame,
 ) -> Result<Option<Unsound>, NoMemory>
     requires { frame.now ≡ frame_of facts.now }
-    ensures { IfOk result (λ cause. cause ≡ tag_policies_cause (frame_of facts.now) facts.now.tag_def facts.now.tag_policies.items) }
+    ensures { IfOk result (λ cause. cause ≡ tag_policies_cause
+        (frame_of facts.now) facts.now.tag_def facts.now.tag_policies.items) }
 {
     let cause = tag_policies_cause(alloc, frame, facts.tag_policies.as_slice())?;
     Ok(cause)
@@ -248,7 +261,8 @@ fn add_rule_causes(
     prepared: &Prepared,
     causes: &mut Vec<Unsound>,
 ) -> Result<(), NoMemory>
-    ensures { OnOk result (causes.new.items ≡ causes.old.items ++ present (rule_causes prepared.now)) }
+    ensures { OnOk result (causes.new.items
+        ≡ causes.old.items ++ present (rule_causes prepared.now)) }
 {
     let frame = frame_of(alloc, prepared.facts())?;
     note(causes, resource_policy_cause(prepared, &frame))?;

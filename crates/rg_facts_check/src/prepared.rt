@@ -25,7 +25,8 @@ impl<'a> Model for Prepared<'a> {
 
     ghost view = { λ p. p.facts.now };
 
-    ghost invariant = { λ p. (p.paths.now ≡ p.facts.now.def.levels.items) × (p.roles.now ≡ names_of p.facts.now.roles.items) };
+    ghost invariant = { λ p. (p.paths.now ≡ p.facts.now.def.levels.items)
+        × (p.roles.now ≡ names_of p.facts.now.roles.items) };
 }
 
 impl<'a> Prepared<'a> {

@@ -23,7 +23,8 @@ use std::alloc::Global;
 
 /// The rule of this number fails for the tag row.
 fn of_tag_row(rule: u8, row: Option<&TagRow>) -> Option<Unsound>
-    ensures { result ≡ option_map (λ (r : TagRow). unsound.TagRow r.id rule) (option_map (λ r. r.now) row.entry) }
+    ensures { result ≡ option_map (λ (r : TagRow). unsound.TagRow r.id rule)
+        (option_map (λ r. r.now) row.entry) }
 {
     match row {
         Some(row) => Some(Unsound::TagRow(row.id, rule)),
@@ -32,14 +33,16 @@ fn of_tag_row(rule: u8, row: Option<&TagRow>) -> Option<Unsound>
 }
 
 fn unfit_row<'a>(def: &PathedDef, rows: &'a [TagRow]) -> Option<&'a TagRow>
-    ensures { option_map (λ r. r.now) result ≡ find (λ r. not (tagged_fit def.now r.resources.items)) rows.now }
+    ensures { option_map (λ r. r.now) result
+        ≡ find (λ r. not (tagged_fit def.now r.resources.items)) rows.now }
 {
     rows.iter()
         .find(|row| !tagged_fit(def, row.resources.as_slice()))
 }
 
 fn resource_cause(prepared: &Prepared) -> Option<Unsound>
-    ensures { result ≡ first_tag_row 2 (λ (r : TagRow). tagged_fit prepared.now.def r.resources.items) prepared.now.tag_rows.items }
+    ensures { result ≡ first_tag_row 2 (λ (r : TagRow).
+        tagged_fit prepared.now.def r.resources.items) prepared.now.tag_rows.items }
 {
     let facts = prepared.facts();
     let def = prepared.def();
@@ -47,7 +50,8 @@ fn resource_cause(prepared: &Prepared) -> Option<Unsound>
 }
 
 fn tag_cause(prepared: &Prepared) -> Option<Unsound>
-    ensures { result ≡ first_tag_row 3 (λ (r : TagRow). tags_fit r.tags.items) prepared.now.tag_rows.items }
+    ensures { result ≡ first_tag_row 3
+        (λ (r : TagRow). tags_fit r.tags.items) prepared.now.tag_rows.items }
 {
     let rows = prepared.facts().tag_rows.as_slice();
     let row = rows.iter().find(|row| !tags_fit(row.tags.as_slice()));
@@ -74,7 +78,8 @@ fn row_ids_distinct(alloc: Global, rows: &[TagRow]) -> Result<bool, NoMemory>
 
 /// Whether two rows have one id.
 fn id_cause(alloc: Global, prepared: &Prepared) -> Result<Option<Unsound>, NoMemory>
-    ensures { IfOk result (λ cause. cause ≡ unless (all_distinct int_eq (row_ids prepared.now.tag_rows.items)) unsound.TagRowIds) }
+    ensures { IfOk result (λ cause. cause ≡ unless
+        (all_distinct int_eq (row_ids prepared.now.tag_rows.items)) unsound.TagRowIds) }
 {
     let rows = prepared.facts().tag_rows.as_slice();
     let are_distinct = row_ids_distinct(alloc, rows)?;
@@ -87,7 +92,8 @@ pub(crate) fn add_tag_row_causes(
     prepared: &Prepared,
     causes: &mut Vec<Unsound>,
 ) -> Result<(), NoMemory>
-    ensures { OnOk result (causes.new.items ≡ causes.old.items ++ present (tag_row_causes prepared.now)) }
+    ensures { OnOk result (causes.new.items
+        ≡ causes.old.items ++ present (tag_row_causes prepared.now)) }
 {
     note(causes, resource_cause(prepared))?;
     note(causes, tag_cause(prepared))?;

@@ -38,7 +38,8 @@ fn unfit_listing(is_tag: bool, service: &str, zones: &[ZoneRow]) -> Option<usize
 }
 
 fn listing_cause(prepared: &Prepared) -> Option<Unsound>
-    ensures { result ≡ first_zone 2 (listing_fits (is_tag_def prepared.now.def) prepared.now.service) prepared.now.zones.items }
+    ensures { result ≡ first_zone 2
+        (listing_fits (is_tag_def prepared.now.def) prepared.now.service) prepared.now.zones.items }
 {
     let facts = prepared.facts();
     let is_tag = is_tag_def(&facts.def);
@@ -55,7 +56,8 @@ fn unknown_subjects(roles: &NameIndex, zones: &[ZoneRow]) -> Option<usize>
 }
 
 fn subject_cause(prepared: &Prepared) -> Option<Unsound>
-    ensures { result ≡ first_zone 5 (subjects_exist (names_of prepared.now.roles.items)) prepared.now.zones.items }
+    ensures { result ≡ first_zone 5
+        (subjects_exist (names_of prepared.now.roles.items)) prepared.now.zones.items }
 {
     of_zone(
         5,
@@ -64,7 +66,8 @@ fn subject_cause(prepared: &Prepared) -> Option<Unsound>
 }
 
 fn unfit_levels(def: &PathedDef, service: &str, zones: &[ZoneRow]) -> Option<usize>
-    ensures { result ≡ position (λ z. not (zone_levels_fit (chars service.now) def.now z)) zones.now }
+    ensures { result
+        ≡ position (λ z. not (zone_levels_fit (chars service.now) def.now z)) zones.now }
 {
     zones
         .iter()
@@ -72,7 +75,8 @@ fn unfit_levels(def: &PathedDef, service: &str, zones: &[ZoneRow]) -> Option<usi
 }
 
 fn level_cause(prepared: &Prepared) -> Option<Unsound>
-    ensures { result ≡ first_zone 3 (zone_levels_fit prepared.now.service prepared.now.def) prepared.now.zones.items }
+    ensures { result ≡ first_zone 3
+        (zone_levels_fit prepared.now.service prepared.now.def) prepared.now.zones.items }
 {
     let facts = prepared.facts();
     let def = prepared.def();
@@ -91,7 +95,8 @@ fn unfit_values(service: &str, zones: &[ZoneRow]) -> Option<usize>
 }
 
 fn value_cause(prepared: &Prepared) -> Option<Unsound>
-    ensures { result ≡ first_zone 4 (zone_values_fit prepared.now.service) prepared.now.zones.items }
+    ensures { result
+        ≡ first_zone 4 (zone_values_fit prepared.now.service) prepared.now.zones.items }
 {
     let facts = prepared.facts();
     of_zone(

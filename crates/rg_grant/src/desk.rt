@@ -45,8 +45,10 @@ impl GrantDesk {
     pub fn step(&mut self, alloc: Global, ask: GrantAsk) -> Result<AdminReply, NoMemory>
         ensures ok { IfOk result (λ r. (self.new.admin, r) ≡ granted self.old.admin ask) }
         ensures err { OnErr result (self.new.admin ≡ self.old.admin) }
-        ensures in_force { (actor : List ℕ) (g : GrantRow) → ask ≡ Grant actor g → IfOk result (λ r. is_refused r ≡ false → IsInForce g self.old.admin self.new.admin r) }
-        ensures revoked { (actor : List ℕ) (g : GrantRow) → ask ≡ Revoke actor g → IfOk result (λ r. is_refused r ≡ false → IsRevoked g self.old.admin self.new.admin r) }
+        ensures in_force { (actor : List ℕ) (g : GrantRow) → ask ≡ Grant actor g → IfOk result
+            (λ r. is_refused r ≡ false → IsInForce g self.old.admin self.new.admin r) }
+        ensures revoked { (actor : List ℕ) (g : GrantRow) → ask ≡ Revoke actor g → IfOk result
+            (λ r. is_refused r ≡ false → IsRevoked g self.old.admin self.new.admin r) }
     {
         answer(alloc, &mut self.admin, ask)
     }

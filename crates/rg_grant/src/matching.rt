@@ -16,7 +16,8 @@ use std::alloc::Global;
 
 /// Whether each of the maps has the row's levels, flags and values.
 fn all_same(alloc: Global, row: &GrantRow, maps: &[ResourceMap]) -> Result<bool, NoMemory>
-    ensures { IfOk result (λ all. all ≡ list_all (λ (m : ResourceMap). same_levels row.now.resources.items m.levels.items) maps.now) }
+    ensures { IfOk result (λ all. all ≡ list_all
+        (λ (m : ResourceMap). same_levels row.now.resources.items m.levels.items) maps.now) }
 {
     for map in maps {
         if !same_levels(alloc, row.resources.as_slice(), map.levels.as_slice())? {

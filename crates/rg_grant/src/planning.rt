@@ -20,7 +20,8 @@ fn grant_of(
     row: &GrantRow,
 ) -> Result<AdminCommand, NoMemory>
     requires { IsCounted counts.now state.now.policies.items }
-    ensures { IfOk result (λ command. command ≡ grant_of state.now row.now (policy_for state.now row.now)) }
+    ensures { IfOk result
+        (λ command. command ≡ grant_of state.now row.now (policy_for state.now row.now)) }
 {
     match policy_for(alloc, state, counts, row)? {
         Some(policy) => Ok(AdminCommand::UpdatePolicy {
@@ -40,7 +41,8 @@ fn revoke_of(
     row: &GrantRow,
 ) -> Result<AdminCommand, NoMemory>
     requires { IsCounted counts.now state.now.policies.items }
-    ensures { IfOk result (λ command. command ≡ revoke_of state.now row.now (policy_for state.now row.now)) }
+    ensures { IfOk result
+        (λ command. command ≡ revoke_of state.now row.now (policy_for state.now row.now)) }
 {
     match policy_for(alloc, state, counts, row)? {
         Some(policy) => Ok(AdminCommand::UpdatePolicy {

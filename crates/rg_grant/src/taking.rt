@@ -52,7 +52,8 @@ fn part_of(
     named: bool,
     accesses: Seq<AccessEntry>,
 ) -> Result<Item, NoMemory>
-    ensures { IfOk result (λ part. part ≡ record (with_subjects named row.now item.now) { accesses = accesses }) }
+    ensures { IfOk result
+        (λ part. part ≡ record (with_subjects named row.now item.now) { accesses = accesses }) }
 {
     Ok(Item {
         accesses,
@@ -93,7 +94,8 @@ fn says_something(item: &Item) -> bool
 /// Adds the part, unless it has no subject or no entry.
 fn add_part(left: &mut Seq<Item>, part: Item) -> Result<(), NoMemory>
     requires { left.old ≡ listed left.old.items }
-    ensures { OnOk result (left.new ≡ listed (left.old.items ++ filter says_something (part ∷ []))) }
+    ensures { OnOk result
+        (left.new ≡ listed (left.old.items ++ filter says_something (part ∷ []))) }
 {
     if says_something(&part) {
         left.add(part)

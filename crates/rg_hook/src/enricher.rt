@@ -19,6 +19,7 @@ pub trait Enricher: Drop {
     /// The pair for the request, None where there is none. `NoMemory` leaves what it remembers.
     fn enrich(&mut self, alloc: Global, request: &AccessRequest) -> Result<Option<Pair>, NoMemory>
         ensures meaning { meaning self.new ≡ meaning self.old }
-        ensures given { IfOk result (λ pair. meaning self.old (remembered self.old) request.now ≡ record { remembered = remembered self.new; pair = pair }) }
+        ensures given { IfOk result (λ pair. meaning self.old (remembered self.old) request.now
+            ≡ record { remembered = remembered self.new; pair = pair }) }
         ensures err { OnErr result (remembered self.new ≡ remembered self.old) };
 }

@@ -14,9 +14,12 @@ fn run_one(
     enricher: &mut Box<dyn Enricher + Send>,
     request: &mut AccessRequest,
 ) -> Result<(), NoMemory>
-    ensures ran { OnOk result (state_by (λ e. meaning e) (λ e. remembered e) enricher.new ≡ has_run (state_by (λ e. meaning e) (λ e. remembered e) enricher.old) request.old) }
-    ensures request { OnOk result (request.new ≡ request_after (state_by (λ e. meaning e) (λ e. remembered e) enricher.old) request.old) }
-    ensures err { OnErr result ((state_by (λ e. meaning e) (λ e. remembered e) enricher.new ≡ state_by (λ e. meaning e) (λ e. remembered e) enricher.old)
+    ensures ran { OnOk result (state_by (λ e. meaning e) (λ e. remembered e) enricher.new
+        ≡ has_run (state_by (λ e. meaning e) (λ e. remembered e) enricher.old) request.old) }
+    ensures request { OnOk result (request.new ≡ request_after
+        (state_by (λ e. meaning e) (λ e. remembered e) enricher.old) request.old) }
+    ensures err { OnErr result ((state_by (λ e. meaning e) (λ e. remembered e) enricher.new
+        ≡ state_by (λ e. meaning e) (λ e. remembered e) enricher.old)
         ⊎ (state_by (λ e. meaning e) (λ e. remembered e) enricher.new ≡ has_run (state_by (λ e. meaning e) (λ e. remembered e) enricher.old) request.old)) }
     ensures same { OnErr result (request.new ≡ request.old) }
 {
@@ -32,9 +35,12 @@ fn run_each(
     list: &mut [Box<dyn Enricher + Send>],
     request: &mut AccessRequest,
 ) -> Result<(), NoMemory>
-    ensures ok { OnOk result (enriched (map (state_by (λ e. meaning e) (λ e. remembered e)) list.old) request.old
+    ensures ok { OnOk result
+        (enriched (map (state_by (λ e. meaning e) (λ e. remembered e)) list.old) request.old
         ≡ record { enrichers = map (state_by (λ e. meaning e) (λ e. remembered e)) list.new; request = request.new }) }
-    ensures err { OnErr result (HaveRun (map (state_by (λ e. meaning e) (λ e. remembered e)) list.old) request.old (map (state_by (λ e. meaning e) (λ e. remembered e)) list.new)) }
+    ensures err { OnErr result
+        (HaveRun (map (state_by (λ e. meaning e) (λ e. remembered e)) list.old) request.old
+        (map (state_by (λ e. meaning e) (λ e. remembered e)) list.new)) }
     ensures front { cut (length request.old.context.items) request.new ≡ unreserved request.old }
 {
     for enricher in list.iter_mut() {
@@ -68,7 +74,8 @@ impl Enrichers {
     /// These enrichers, at most 16. It takes no memory.
     pub fn new(list: Vec<Box<dyn Enricher + Send>>) -> Enrichers
         requires { vec_len list ≤ 16 }
-        ensures { states_of (λ e. meaning e) (λ e. remembered e) result ≡ map (state_by (λ e. meaning e) (λ e. remembered e)) list.items }
+        ensures { states_of (λ e. meaning e) (λ e. remembered e) result
+            ≡ map (state_by (λ e. meaning e) (λ e. remembered e)) list.items }
     {
         Enrichers { list }
     }
@@ -76,9 +83,12 @@ impl Enrichers {
     /// Adds the enrichers' pairs to the context of the request, in their order. Want of memory leaves the request as before,
     /// but for a reserved place, and the enrichers that ran in their new state.
     pub fn run(&mut self, alloc: Global, request: &mut AccessRequest) -> Result<(), NoMemory>
-        ensures ok { OnOk result (enriched (states_of (λ e. meaning e) (λ e. remembered e) self.old) request.old
+        ensures ok { OnOk result
+            (enriched (states_of (λ e. meaning e) (λ e. remembered e) self.old) request.old
             ≡ record { enrichers = states_of (λ e. meaning e) (λ e. remembered e) self.new; request = request.new }) }
-        ensures ran { OnErr result (HaveRun (states_of (λ e. meaning e) (λ e. remembered e) self.old) request.old (states_of (λ e. meaning e) (λ e. remembered e) self.new)) }
+        ensures ran { OnErr result
+            (HaveRun (states_of (λ e. meaning e) (λ e. remembered e) self.old) request.old
+            (states_of (λ e. meaning e) (λ e. remembered e) self.new)) }
         ensures unchanged { OnErr result (request.new ≡ unreserved request.old) }
     {
         let count = request.context.len();

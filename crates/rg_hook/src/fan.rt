@@ -15,7 +15,8 @@ const DROP_AT: u32 = 3;
 /// Gives the line to the sink, unless it is dropped.
 fn write_one(sink: &mut Box<dyn AuditSink + Send>, failures: &mut u32, line: &str)
     requires { failures.old ≤ drop_at }
-    ensures after { AfterLine (λ s. heard s) (λ s. sink_faults s) (chars line.now) (sink.old, failures.old) (sink.new, failures.new) }
+    ensures after { AfterLine (λ s. heard s)
+        (λ s. sink_faults s) (chars line.now) (sink.old, failures.old) (sink.new, failures.new) }
     ensures within { failures.new ≤ drop_at }
 {
     if *failures < DROP_AT {
@@ -29,7 +30,8 @@ fn write_one(sink: &mut Box<dyn AuditSink + Send>, failures: &mut u32, line: &st
 fn write_each(sinks: &mut [Box<dyn AuditSink + Send>], failures: &mut [u32], line: &str)
     requires room { length sinks.old ≤ length failures.old }
     requires within { All (λ n. n ≤ drop_at) failures.old }
-    ensures after { AllZip (AfterLine (λ s. heard s) (λ s. sink_faults s) (chars line.now)) (zip sinks.old failures.old) (zip sinks.new failures.new) }
+    ensures after { AllZip (AfterLine (λ s. heard s) (λ s. sink_faults s) (chars line.now))
+        (zip sinks.old failures.old) (zip sinks.new failures.new) }
     ensures within { All (λ n. n ≤ drop_at) failures.new }
 {
     for (place, sink) in sinks.iter_mut().enumerate() {
@@ -75,7 +77,8 @@ impl AuditFan {
 
     /// Gives the line, which has no line end, to each sink that isn't dropped. A sink that fails takes nothing from the others.
     pub fn write(&mut self, line: &str)
-        ensures { AllZip (AfterLine (λ s. heard s) (λ s. sink_faults s) (chars line.now)) (sinks_of self.old) (sinks_of self.new) }
+        ensures { AllZip (AfterLine (λ s. heard s) (λ s. sink_faults s) (chars line.now))
+            (sinks_of self.old) (sinks_of self.new) }
     {
         write_each(self.sinks.as_mut_slice(), &mut self.failures, line);
     }

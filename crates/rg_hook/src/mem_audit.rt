@@ -27,7 +27,12 @@ impl Model for MemAudit {
 
     ghost Value = { AuditState };
 
-    ghost view = { λ a. record { lines = a.lines.items; made = a.made.count; faults = a.faults.count; fails = a.fails.items } };
+    ghost view = { λ a. record {
+      lines = a.lines.items;
+      made = a.made.count;
+      faults = a.faults.count;
+      fails = a.fails.items;
+    } };
 
     ghost invariant = { λ a. a.seen ≡ min a.made.count (2 ^ 64 - 1) };
 }
@@ -36,7 +41,8 @@ impl MemAudit {
     /// Keeps lines behind those of `lines`, which is handed in empty, and takes memory from the allocator of that list. `fails`
     /// lists the calls that are to fail, all calls being counted from 1.
     pub fn new(lines: Seq<Text>, fails: Seq<u64>) -> MemAudit
-        ensures { result ≡ record { lines = lines.items; made = 0; faults = 0; fails = fails.items } }
+        ensures { result
+            ≡ record { lines = lines.items; made = 0; faults = 0; fails = fails.items } }
     {
         let lines = lines.into_vec();
         let alloc = *lines.allocator();
@@ -70,7 +76,8 @@ impl MemAudit {
 
     // Keeps the line, and counts nothing.
     fn keep(&mut self, line: &str) -> Result<(), NoMemory>
-        ensures ok { OnOk result (self.new ≡ record self.old { lines = self.old.lines ++ chars line.now ∷ [] }) }
+        ensures ok { OnOk result (self.new
+            ≡ record self.old { lines = self.old.lines ++ chars line.now ∷ [] }) }
         ensures err { OnErr result (self.new ≡ self.old) }
     {
         let text = Text::copy_of(self.alloc, line)?;

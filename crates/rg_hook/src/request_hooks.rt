@@ -24,7 +24,8 @@ pub trait RequestHooks: Drop {
     /// Adds the enrichers' pairs to the context of the request, in their order. Want of memory leaves the request as before,
     /// but for a reserved place, and the enrichers that ran in their new state.
     fn enrich(&mut self, alloc: Global, request: &mut AccessRequest) -> Result<(), NoMemory>
-        ensures ok { OnOk result (enriched (enrichers self.old) request.old ≡ record { enrichers = enrichers self.new; request = request.new }) }
+        ensures ok { OnOk result (enriched (enrichers self.old) request.old
+            ≡ record { enrichers = enrichers self.new; request = request.new }) }
         ensures ran { OnErr result (HaveRun (enrichers self.old) request.old (enrichers self.new)) }
         ensures unchanged { OnErr result (request.new ≡ unreserved request.old) }
         ensures unheard { sinks self.new ≡ sinks self.old };
@@ -39,9 +40,11 @@ impl RequestHooks for WorkerHooks {
     ghost use Rattle.rg_hook.specs.Shown.{states_of};
     ghost use Rattle.rg_hook.specs.Told.{told_of};
 
-    ghost sinks = { λ h. told_of (λ s. (AuditSink-box s).heard s.value) (λ s. (AuditSink-box s).sink_faults s.value) h.sinks };
+    ghost sinks = { λ h. told_of (λ s. (AuditSink-box s).heard s.value)
+        (λ s. (AuditSink-box s).sink_faults s.value) h.sinks };
 
-    ghost enrichers = { λ h. states_of (λ e. (Enricher-box e).meaning e.value) (λ e. (Enricher-box e).remembered e.value) h.enrichers };
+    ghost enrichers = { λ h. states_of (λ e. (Enricher-box e).meaning e.value)
+        (λ e. (Enricher-box e).remembered e.value) h.enrichers };
 
     fn enrich(&mut self, alloc: Global, request: &mut AccessRequest) -> Result<(), NoMemory> {
         self.enrichers.run(alloc, request)

@@ -85,7 +85,8 @@ fn find_group<'a>(
     rows: &'a [PairRow],
     groups: &[Text],
 ) -> Result<Option<&'a PairRow>, NoMemory>
-    ensures { IfOk result (λ found. option_map (λ r. r.now) found ≡ find (λ r. is_among r.name groups.now) rows.now) }
+    ensures { IfOk result
+        (λ found. option_map (λ r. r.now) found ≡ find (λ r. is_among r.name groups.now) rows.now) }
 {
     if rows.len() <= FEW || groups.len() <= FEW {
         return Ok(find_by_scan(rows, groups));
@@ -100,7 +101,8 @@ impl SubjectPairs {
 
     // The row whose pair is added.
     fn row_for(&self, alloc: Global, request: &AccessRequest) -> Result<Option<&PairRow>, NoMemory>
-        ensures { IfOk result (λ found. option_map (λ r. r.now) found ≡ row_for self.now request.now) }
+        ensures { IfOk result
+            (λ found. option_map (λ r. r.now) found ≡ row_for self.now request.now) }
     {
         match find_named(self.users.as_slice(), request.user.as_str()) {
             Some(row) => Ok(Some(row)),

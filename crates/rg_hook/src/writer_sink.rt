@@ -11,7 +11,8 @@ use std::marker::Model;
 
 // Writes the line and an LF behind it.
 fn write_line<W: Write>(writer: &mut W, line: &str) -> io::Result<()>
-    ensures { OnOk result (Appends (W.contents writer.old) (W.contents writer.new) (line.now ++ 10 ∷ [])) }
+    ensures { OnOk result
+        (Appends (W.contents writer.old) (W.contents writer.new) (line.now ++ 10 ∷ [])) }
 {
     writer.write_all(line.as_bytes())?;
     writer.write_all(b"\n")
@@ -66,7 +67,8 @@ impl<W: Write + Drop> AuditSink for WriterSink<W> {
     ghost sink_faults = { λ s. s.faults };
 
     fn write(&mut self, line: &str) -> Result<(), Failed>
-        ensures written { OnOk result (Appends self.old.bytes self.new.bytes (line.now ++ 10 ∷ [])) }
+        ensures written { OnOk result
+            (Appends self.old.bytes self.new.bytes (line.now ++ 10 ∷ [])) }
         ensures kept { OnOk result (self.new.faults ≡ self.old.faults) }
         ensures failed { OnErr result (self.new.faults ≡ self.old.faults + 1) }
     {

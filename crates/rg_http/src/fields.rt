@@ -64,7 +64,8 @@ pub fn count(window: &[u8], fields: &[HeaderSpan], name: FieldName) -> usize
 /// The value of the first field of that name.
 pub fn first_value<'b>(window: &'b [u8], fields: &[HeaderSpan], name: FieldName) -> Option<&'b [u8]>
     requires { All (IsHeaderWithin (length window.now)) fields.now }
-    ensures { option_map (λ s. s.now) result ≡ first (values name (map (header_bytes window.now) fields.now)) }
+    ensures { option_map (λ s. s.now) result
+        ≡ first (values name (map (header_bytes window.now) fields.now)) }
 {
     for field in fields {
         if has_name(window, field, name) {

@@ -50,8 +50,10 @@ fn find_head<T: Link>(
     ensures grows { Grows (T.left link.old) (T.left link.new) inbox.old inbox.new }
     ensures bounded { length inbox.new ≤ max (length inbox.old) (head_limit + piece_limit) }
     ensures place { MatchResult result (Stands inbox.new) (Breaks inbox.new) }
-    ensures end { IfOk result (λ p. says_end p ≡ true → (T.ended link.new ≡ true) × IsUsedUp (T.left link.new)) }
-    ensures faults { MatchResult result (λ _. T.faults link.new ≡ T.faults link.old) (λ fault. Counts fault (T.faults link.old) (T.faults link.new)) }
+    ensures end { IfOk result (λ p. says_end p ≡ true
+        → (T.ended link.new ≡ true) × IsUsedUp (T.left link.new)) }
+    ensures faults { MatchResult result (λ _. T.faults link.new ≡ T.faults link.old)
+        (λ fault. Counts fault (T.faults link.old) (T.faults link.new)) }
     ensures unwritten { T.held link.new ≡ T.held link.old }
 {
     loop {
@@ -91,11 +93,14 @@ fn finish_message<T: Link>(
     link: &mut T,
 ) -> Result<Next, FrameFault>
     requires { Begins inbox.old message len n }
-    ensures answer { (read : List ℕ) × IsRead (T.left link.old) read (T.left link.new) × IsSparing inbox.old read
+    ensures answer { (read : List ℕ) × IsRead (T.left link.old) read (T.left link.new)
+        × IsSparing inbox.old read
         × MatchResult result (λ next. Answers (inbox.old ++ read) next inbox.new) (λ fault. Leaves (inbox.old ++ read) fault inbox.new) }
     ensures bounded { length inbox.new ≤ max (length inbox.old) kept_limit }
-    ensures end { IfOk result (λ next. is_end next ≡ true → (T.ended link.new ≡ true) × IsUsedUp (T.left link.new)) }
-    ensures faults { MatchResult result (λ _. T.faults link.new ≡ T.faults link.old) (λ fault. Counts fault (T.faults link.old) (T.faults link.new)) }
+    ensures end { IfOk result (λ next. is_end next ≡ true
+        → (T.ended link.new ≡ true) × IsUsedUp (T.left link.new)) }
+    ensures faults { MatchResult result (λ _. T.faults link.new ≡ T.faults link.old)
+        (λ fault. Counts fault (T.faults link.old) (T.faults link.new)) }
     ensures unwritten { T.held link.new ≡ T.held link.old }
 {
     let need = len + n as usize;
@@ -127,11 +132,14 @@ fn answer<T: Link>(
     room: &mut Vec<HeaderSpan>,
     link: &mut T,
 ) -> Result<Next, FrameFault>
-    ensures answer { (read : List ℕ) × IsRead (T.left link.old) read (T.left link.new) × IsSparing inbox.old read
+    ensures answer { (read : List ℕ) × IsRead (T.left link.old) read (T.left link.new)
+        × IsSparing inbox.old read
         × MatchResult result (λ next. Answers (inbox.old ++ read) next inbox.new) (λ fault. Leaves (inbox.old ++ read) fault inbox.new) }
     ensures bounded { length inbox.new ≤ max (length inbox.old) kept_limit }
-    ensures end { IfOk result (λ next. is_end next ≡ true → (T.ended link.new ≡ true) × IsUsedUp (T.left link.new)) }
-    ensures faults { MatchResult result (λ _. T.faults link.new ≡ T.faults link.old) (λ fault. Counts fault (T.faults link.old) (T.faults link.new)) }
+    ensures end { IfOk result (λ next. is_end next ≡ true
+        → (T.ended link.new ≡ true) × IsUsedUp (T.left link.new)) }
+    ensures faults { MatchResult result (λ _. T.faults link.new ≡ T.faults link.old)
+        (λ fault. Counts fault (T.faults link.old) (T.faults link.new)) }
     ensures unwritten { T.held link.new ≡ T.held link.old }
 {
     let place = match find_head(alloc, inbox, room, link) {
@@ -183,14 +191,17 @@ impl Framer {
     /// answers no more, and keeps all that it read. Want of memory costs no byte.
     pub fn next<T: Link>(&mut self, alloc: Global, link: &mut T) -> Result<Next, FrameFault>
         requires { self.old.live ≡ true }
-        ensures answer { (read : List ℕ) × IsRead (T.left link.old) read (T.left link.new) × IsSparing self.old.bytes read
+        ensures answer { (read : List ℕ) × IsRead (T.left link.old) read (T.left link.new)
+            × IsSparing self.old.bytes read
             × MatchResult result (λ next. Answers (self.old.bytes ++ read) next self.new.bytes) (λ fault. Leaves (self.old.bytes ++ read) fault self.new.bytes) }
-        ensures end { IfOk result (λ next. is_end next ≡ true → (T.ended link.new ≡ true) × IsUsedUp (T.left link.new)) }
+        ensures end { IfOk result (λ next. is_end next ≡ true
+            → (T.ended link.new ≡ true) × IsUsedUp (T.left link.new)) }
         ensures status { IfOk result HasKnownStatus }
         ensures bounded { length self.new.bytes ≤ kept_limit }
         ensures live { IfOk result (λ next. self.new.live ≡ is_message next) }
         ensures dead { OnErr result (self.new.live ≡ false) }
-        ensures faults { MatchResult result (λ _. T.faults link.new ≡ T.faults link.old) (λ fault. Counts fault (T.faults link.old) (T.faults link.new)) }
+        ensures faults { MatchResult result (λ _. T.faults link.new ≡ T.faults link.old)
+            (λ fault. Counts fault (T.faults link.old) (T.faults link.new)) }
         ensures unwritten { T.held link.new ≡ T.held link.old }
     {
         self.live = false;

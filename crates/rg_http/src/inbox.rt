@@ -61,9 +61,11 @@ impl Inbox {
     pub fn take_piece<T: Link>(&mut self, link: &mut T) -> Result<bool, FrameFault>
         ensures took { Took (T.left link.old) (T.left link.new) self.old self.new }
         ensures more { result ≡ Ok true → length self.old < length self.new }
-        ensures end { result ≡ Ok false → (T.ended link.new ≡ true) × (self.new ≡ self.old) × IsUsedUp (T.left link.new) }
+        ensures end { result ≡ Ok false → (T.ended link.new ≡ true)
+            × (self.new ≡ self.old) × IsUsedUp (T.left link.new) }
         ensures none { OnErr result (self.new ≡ self.old) }
-        ensures faults { MatchResult result (λ _. T.faults link.new ≡ T.faults link.old) (λ fault. Counts fault (T.faults link.old) (T.faults link.new)) }
+        ensures faults { MatchResult result (λ _. T.faults link.new ≡ T.faults link.old)
+            (λ fault. Counts fault (T.faults link.old) (T.faults link.new)) }
         ensures unwritten { T.held link.new ≡ T.held link.old }
     {
         self.held.try_reserve(PIECE_LIMIT)?;
@@ -79,9 +81,11 @@ impl Inbox {
         ensures fills { Fills need (T.left link.old) (T.left link.new) self.old self.new }
         ensures bounded { length self.new ≤ max (length self.old) (need + piece_limit) }
         ensures came { result ≡ Ok true → need ≤ length self.new }
-        ensures end { result ≡ Ok false → (T.ended link.new ≡ true) × (length self.new < need) × IsUsedUp (T.left link.new) }
+        ensures end { result ≡ Ok false → (T.ended link.new ≡ true)
+            × (length self.new < need) × IsUsedUp (T.left link.new) }
         ensures short { OnErr result (length self.new < need) }
-        ensures faults { MatchResult result (λ _. T.faults link.new ≡ T.faults link.old) (λ fault. Counts fault (T.faults link.old) (T.faults link.new)) }
+        ensures faults { MatchResult result (λ _. T.faults link.new ≡ T.faults link.old)
+            (λ fault. Counts fault (T.faults link.old) (T.faults link.new)) }
         ensures unwritten { T.held link.new ≡ T.held link.old }
     {
         while self.held.len() < need {

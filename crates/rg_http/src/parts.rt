@@ -53,7 +53,8 @@ pub fn begin_message(
 ) -> Result<Message, NoMemory>
     requires within { IsRequestWithin window.now room.now head }
     requires head { (h : RequestHead) × IsRequestAt window.now room.now head h }
-    ensures { IfOk result (λ m. (h : RequestHead) → IsRequestAt window.now room.now head h → m ≡ message_of h []) }
+    ensures { IfOk result (λ m. (h : RequestHead)
+        → IsRequestAt window.now room.now head h → m ≡ message_of h []) }
 {
     let fields = &room[..head.headers];
     let method = text_of(alloc, head.method.of(window))?;

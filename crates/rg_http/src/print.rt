@@ -52,7 +52,8 @@ fn type_line(text: &mut String, len: usize) -> Result<(), AllocError>
 
 // Says how long the body is, and of what type.
 fn length_lines(text: &mut String, status: u16, len: usize) -> Result<(), AllocError>
-    ensures { OnOk result (string_bytes text.new ≡ string_bytes text.old ++ length_lines status len) }
+    ensures { OnOk result (string_bytes text.new
+        ≡ string_bytes text.old ++ length_lines status len) }
 {
     if is_bare(status) {
         return Ok(());
@@ -64,7 +65,8 @@ fn length_lines(text: &mut String, status: u16, len: usize) -> Result<(), AllocE
 // All before the body, with room for the body behind it.
 fn head_text(alloc: Global, response: &Response) -> Result<String, AllocError>
     requires { IsStatusCode response.now.status }
-    ensures { IfOk result (λ s. string_bytes s ++ response.now.body.items ≡ response_text response.now) }
+    ensures { IfOk result
+        (λ s. string_bytes s ++ response.now.body.items ≡ response_text response.now) }
 {
     let room = response.body.len().saturating_add(HEAD_ROOM);
     let mut text = String::with_capacity(alloc, room)?;

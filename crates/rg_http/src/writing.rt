@@ -9,8 +9,10 @@ use rg_ports::Link;
 /// Writes all bytes, or those before the link failed.
 pub fn write_whole<T: Link>(link: &mut T, bytes: &[u8]) -> Result<(), Failed>
     ensures ok { OnOk result (Wrote (T.held link.old) (T.held link.new) bytes.now) }
-    ensures err { OnErr result ((part : List ℕ) × Wrote (T.held link.old) (T.held link.new) part × IsPrefix part bytes.now) }
-    ensures faults { MatchResult result (λ _. T.faults link.new ≡ T.faults link.old) (λ _. T.faults link.old < T.faults link.new) }
+    ensures err { OnErr result ((part : List ℕ)
+        × Wrote (T.held link.old) (T.held link.new) part × IsPrefix part bytes.now) }
+    ensures faults { MatchResult result
+        (λ _. T.faults link.new ≡ T.faults link.old) (λ _. T.faults link.old < T.faults link.new) }
     ensures unread { (T.left link.new ≡ T.left link.old) × (T.ended link.new ≡ T.ended link.old) }
 {
     let mut done: usize = 0;

@@ -47,7 +47,8 @@ impl Model for Index {
 
     ghost view = { λ x. x.seen.value };
 
-    ghost invariant = { λ x. (x.nothing ≡ []) × IsIndexed x.seen.value.def x.seen.value.forms x.levels.items };
+    ghost invariant = { λ x. (x.nothing ≡ [])
+        × IsIndexed x.seen.value.def x.seen.value.forms x.levels.items };
 }
 
 /// All levels with these forms.
@@ -59,7 +60,8 @@ fn build_levels<L: Ledger>(
 ) -> Result<Vec<LevelTrie>, NoMemory>
     requires { list_all is_written forms.now ≡ true }
     ensures built { IfOk result (λ v. v.items ≡ map (built forms.now) levels.now) }
-    ensures steps { EditsWithin (sum_by (λ (l : Level). sum_by (λ f. length (level_keys l f)) forms.now) levels.now) steps.old steps.new }
+    ensures steps { EditsWithin (sum_by (λ (l : Level). sum_by
+        (λ f. length (level_keys l f)) forms.now) levels.now) steps.old steps.new }
 {
     let mut list = Vec::new(alloc);
     for level in levels {
@@ -79,8 +81,11 @@ fn edit_levels<L: Ledger>(
 ) -> Result<Vec<LevelTrie>, NoMemory>
     requires old { is_given_written (option_map (λ f. f.now) old) ≡ true }
     requires new { is_given_written (option_map (λ f. f.now) new) ≡ true }
-    ensures edited { IfOk result (λ v. v.items ≡ map (edited (option_map (λ f. f.now) old.entry) (option_map (λ f. f.now) new.entry)) levels.now) }
-    ensures steps { EditsWithin (sum_by (λ (t : LevelPairs). length (given_keys t.level (option_map (λ f. f.now) old.entry)) + length (given_keys t.level (option_map (λ f. f.now) new.entry))) levels.now) steps.old steps.new }
+    ensures edited { IfOk result (λ v. v.items ≡ map (edited (option_map (λ f. f.now) old.entry)
+        (option_map (λ f. f.now) new.entry)) levels.now) }
+    ensures steps { EditsWithin (sum_by (λ (t : LevelPairs).
+        length (given_keys t.level (option_map (λ f. f.now) old.entry)) + length (given_keys
+        t.level (option_map (λ f. f.now) new.entry))) levels.now) steps.old steps.new }
 {
     let mut list = Vec::new(alloc);
     for level in levels {
@@ -124,10 +129,16 @@ impl Index {
     ) -> Result<Index, NoMemory>
         requires same { def.now ≡ self.now.def }
         requires old { IsAmong self.now.forms (option_map (λ f. f.now) old) }
-        requires free { is_free self.now.forms (option_map (λ f. f.now) old) (option_map (λ f. f.now) new) ≡ true }
+        requires free { is_free self.now.forms
+            (option_map (λ f. f.now) old) (option_map (λ f. f.now) new) ≡ true }
         requires fit { given_fits def.now (option_map (λ f. f.now) new) ≡ true }
-        ensures made { IfOk result (λ x. x ≡ record { def = def.now; forms = changed self.now.forms (option_map (λ f. f.now) old.entry) (option_map (λ f. f.now) new.entry) }) }
-        ensures steps { EditsWithin (given_pairs def.now (option_map (λ f. f.now) old.entry) + given_pairs def.now (option_map (λ f. f.now) new.entry)) steps.old steps.new }
+        ensures made { IfOk result (λ x. x ≡ record {
+          def = def.now;
+          forms = changed self.now.forms
+              (option_map (λ f. f.now) old.entry) (option_map (λ f. f.now) new.entry);
+        }) }
+        ensures steps { EditsWithin (given_pairs def.now (option_map (λ f. f.now) old.entry)
+            + given_pairs def.now (option_map (λ f. f.now) new.entry)) steps.old steps.new }
     {
         let levels = edit_levels(alloc, &self.levels, old, new, steps)?;
         Ok(Index {
@@ -148,7 +159,8 @@ impl Index {
 
     /// A walk over what is filed at the level of this name for the value.
     fn walk<'a>(&'a self, name: &str, value: &'a str) -> Walk<'a>
-        ensures { result ≡ entries_of (in_order (filed self.now.def self.now.forms (chars name.now) (chars value.now))) }
+        ensures { result ≡ entries_of
+            (in_order (filed self.now.def self.now.forms (chars name.now) (chars value.now))) }
     {
         match find_named(&self.levels, name) {
             Some(level) => level.trie.walk(value, level.level.fold),
@@ -158,7 +170,8 @@ impl Index {
 
     /// How much is filed there.
     fn count(&self, name: &str, value: &str) -> usize
-        ensures { result ≡ length (filed self.now.def self.now.forms (chars name.now) (chars value.now)) }
+        ensures { result
+            ≡ length (filed self.now.def self.now.forms (chars name.now) (chars value.now)) }
     {
         match find_named(&self.levels, name) {
             Some(level) => level.trie.count(value, level.level.fold),
@@ -189,8 +202,10 @@ impl Index {
     /// with the shorter prefixes first, then by id and place, so an id comes as often as a value of its form is filed
     /// there. Every form that lies on the resource is among them. They are counted at each level, and nothing is copied.
     pub fn candidates<'a>(&'a self, resource: &'a Resource) -> Candidates<'a>
-        ensures exact { result ≡ candidates self.now.def self.now.forms resource.now.elements.items }
-        ensures bounded { length result ≡ bound self.now.def self.now.forms resource.now.elements.items }
+        ensures exact { result
+            ≡ candidates self.now.def self.now.forms resource.now.elements.items }
+        ensures bounded { length result
+            ≡ bound self.now.def self.now.forms resource.now.elements.items }
         ensures all { (form : Form) (user : List ℕ) → Contains self.now.forms form
             → some_lies self.now.def form.maps.items form.reach resource.now.elements.items user ≡ true → Contains result form.id }
     {
@@ -208,8 +223,10 @@ impl Index {
 
     /// As `candidates`, for a resource whose one element has the level `tag` and this value.
     pub fn candidates_tag<'a>(&'a self, tag: &'a str) -> Candidates<'a>
-        ensures exact { result ≡ candidates self.now.def self.now.forms (tag_elements (chars tag.now)) }
-        ensures bounded { length result ≡ bound self.now.def self.now.forms (tag_elements (chars tag.now)) }
+        ensures exact { result
+            ≡ candidates self.now.def self.now.forms (tag_elements (chars tag.now)) }
+        ensures bounded { length result
+            ≡ bound self.now.def self.now.forms (tag_elements (chars tag.now)) }
         ensures all { (form : Form) (user : List ℕ) → Contains self.now.forms form
             → some_lies self.now.def form.maps.items form.reach (tag_elements (chars tag.now)) user ≡ true → Contains result form.id }
     {
@@ -225,7 +242,8 @@ fn lesser<'a>(
     element: &'a Element,
     count: usize,
 ) -> Option<(&'a Element, usize)>
-    ensures { option_map (λ p. (p.0.now, p.1)) result ≡ lesser (option_map (λ p. (p.0.now, p.1)) best.entry) element.now count }
+    ensures { option_map (λ p. (p.0.now, p.1)) result
+        ≡ lesser (option_map (λ p. (p.0.now, p.1)) best.entry) element.now count }
 {
     match best {
         Some((held, least)) => {
@@ -240,7 +258,8 @@ fn lesser<'a>(
 }
 
 fn element_of<'a>(best: Option<(&'a Element, usize)>) -> Option<&'a Element>
-    ensures { option_map (λ e. e.now) result ≡ option_map (λ (p : Element × ℕ). p.0) (option_map (λ p. (p.0.now, p.1)) best.entry) }
+    ensures { option_map (λ e. e.now) result
+        ≡ option_map (λ (p : Element × ℕ). p.0) (option_map (λ p. (p.0.now, p.1)) best.entry) }
 {
     match best {
         Some((element, _)) => Some(element),

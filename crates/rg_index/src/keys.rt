@@ -68,7 +68,8 @@ fn with_resources(
     resources: &[PolicyResource],
 ) -> Result<Vec<Text>, NoMemory>
     requires { are_written resources.now ≡ true }
-    ensures { IfOk result (λ v. v.items ≡ keys.items ++ flat_map (named_keys level.now) resources.now) }
+    ensures { IfOk result
+        (λ v. v.items ≡ keys.items ++ flat_map (named_keys level.now) resources.now) }
 {
     for resource in resources {
         keys = with_resource(alloc, keys, level, resource)?;
@@ -115,7 +116,8 @@ fn with_map(
 
 /// The keys of the form at the level, map by map.
 pub(crate) fn level_keys(alloc: Global, level: &Level, form: &Form) -> Result<Vec<Text>, NoMemory>
-    requires { list_all (λ (m : ResourceMap). are_written m.levels.items) form.now.maps.items ≡ true }
+    requires { list_all (λ (m : ResourceMap). are_written m.levels.items) form.now.maps.items
+        ≡ true }
     ensures { IfOk result (λ v. v.items ≡ level_keys level.now form.now) }
 {
     let mut keys = Vec::new(alloc);

@@ -11,7 +11,8 @@ use rg_pattern::{prefix_begins_text, stands_is_decided};
 
 /// Every form that lies on a resource for some user is among its candidates.
 pub fn lying_forms_are_candidates()
-    ensures { (def : ServiceDef) (forms : List Form) (elements : List Element) (form : Form) (user : List ℕ) → Contains forms form
+    ensures { (def : ServiceDef) (forms : List Form)
+        (elements : List Element) (form : Form) (user : List ℕ) → Contains forms form
         → some_lies def form.maps.items form.reach elements user ≡ true → Contains (candidates def forms elements) form.id }
 {
     stands_is_decided();
@@ -20,6 +21,7 @@ pub fn lying_forms_are_candidates()
 
 /// Each candidate is the id of one of the forms.
 pub fn candidates_are_of_forms()
-    ensures { (def : ServiceDef) (forms : List Form) (elements : List Element) (id : ℤ) → Contains (candidates def forms elements) id
+    ensures { (def : ServiceDef) (forms : List Form) (elements : List Element) (id : ℤ)
+        → Contains (candidates def forms elements) id
         → (form : Form) × Contains forms form × (form.id ≡ id) }
 {}

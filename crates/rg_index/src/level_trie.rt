@@ -58,7 +58,8 @@ fn with_keys<L: Ledger>(
     keys: &[Text],
     steps: &mut Steps<L>,
 ) -> Result<Arc<Trie>, NoMemory>
-    ensures filed { IfOk result (λ t. arc_value t ≡ with_all (arc_value trie) (numbered id 0 keys.now)) }
+    ensures filed { IfOk result
+        (λ t. arc_value t ≡ with_all (arc_value trie) (numbered id 0 keys.now)) }
     ensures steps { EditsWithin (length keys.now) steps.old steps.new }
 {
     for (place, key) in keys.iter().enumerate() {
@@ -77,7 +78,8 @@ fn without_keys<L: Ledger>(
     keys: &[Text],
     steps: &mut Steps<L>,
 ) -> Result<Arc<Trie>, NoMemory>
-    ensures taken { IfOk result (λ t. arc_value t ≡ without_all (arc_value trie) (numbered id 0 keys.now)) }
+    ensures taken { IfOk result
+        (λ t. arc_value t ≡ without_all (arc_value trie) (numbered id 0 keys.now)) }
     ensures steps { EditsWithin (length keys.now) steps.old steps.new }
 {
     for (place, key) in keys.iter().enumerate() {
@@ -96,7 +98,8 @@ fn with_form<L: Ledger>(
     steps: &mut Steps<L>,
 ) -> Result<Arc<Trie>, NoMemory>
     requires { is_written form.now ≡ true }
-    ensures filed { IfOk result (λ t. arc_value t ≡ with_all (arc_value trie) (level_pairs level.now form.now)) }
+    ensures filed { IfOk result
+        (λ t. arc_value t ≡ with_all (arc_value trie) (level_pairs level.now form.now)) }
     ensures steps { EditsWithin (length (level_keys level.now form.now)) steps.old steps.new }
 {
     let keys = level_keys(alloc, level, form)?;
@@ -111,7 +114,8 @@ fn without_form<L: Ledger>(
     steps: &mut Steps<L>,
 ) -> Result<Arc<Trie>, NoMemory>
     requires { is_written form.now ≡ true }
-    ensures taken { IfOk result (λ t. arc_value t ≡ without_all (arc_value trie) (level_pairs level.now form.now)) }
+    ensures taken { IfOk result
+        (λ t. arc_value t ≡ without_all (arc_value trie) (level_pairs level.now form.now)) }
     ensures steps { EditsWithin (length (level_keys level.now form.now)) steps.old steps.new }
 {
     let keys = level_keys(alloc, level, form)?;
@@ -126,8 +130,10 @@ fn with_forms<L: Ledger>(
     steps: &mut Steps<L>,
 ) -> Result<Arc<Trie>, NoMemory>
     requires { list_all is_written forms.now ≡ true }
-    ensures filed { IfOk result (λ t. arc_value t ≡ with_all (arc_value trie) (flat_map (level_pairs level.now) forms.now)) }
-    ensures steps { EditsWithin (sum_by (λ f. length (level_keys level.now f)) forms.now) steps.old steps.new }
+    ensures filed { IfOk result (λ t. arc_value t
+        ≡ with_all (arc_value trie) (flat_map (level_pairs level.now) forms.now)) }
+    ensures steps { EditsWithin (sum_by
+        (λ f. length (level_keys level.now f)) forms.now) steps.old steps.new }
 {
     for form in forms {
         trie = with_form(alloc, trie, level, form, steps)?;
@@ -145,7 +151,8 @@ impl LevelTrie {
     ) -> Result<LevelTrie, NoMemory>
         requires { list_all is_written forms.now ≡ true }
         ensures built { IfOk result (λ t. t ≡ built forms.now level.now) }
-        ensures steps { EditsWithin (sum_by (λ f. length (level_keys level.now f)) forms.now) steps.old steps.new }
+        ensures steps { EditsWithin (sum_by
+            (λ f. length (level_keys level.now f)) forms.now) steps.old steps.new }
     {
         let copy = Arc::new(alloc, level.try_copy(alloc)?)?;
         let empty = Arc::new(alloc, Trie::empty(alloc))?;
@@ -160,8 +167,10 @@ impl LevelTrie {
         steps: &mut Steps<L>,
     ) -> Result<Arc<Trie>, NoMemory>
         requires { is_given_written (option_map (λ f. f.now) old) ≡ true }
-        ensures taken { IfOk result (λ t. arc_value t ≡ without_all self.now.held (given_level_pairs self.now.level (option_map (λ f. f.now) old.entry))) }
-        ensures steps { EditsWithin (length (given_keys self.now.level (option_map (λ f. f.now) old.entry))) steps.old steps.new }
+        ensures taken { IfOk result (λ t. arc_value t ≡ without_all self.now.held
+            (given_level_pairs self.now.level (option_map (λ f. f.now) old.entry))) }
+        ensures steps { EditsWithin (length (given_keys self.now.level
+            (option_map (λ f. f.now) old.entry))) steps.old steps.new }
     {
         let trie = Arc::try_clone(&self.trie)?;
         match old {
@@ -180,8 +189,11 @@ impl LevelTrie {
     ) -> Result<LevelTrie, NoMemory>
         requires old { is_given_written (option_map (λ f. f.now) old) ≡ true }
         requires new { is_given_written (option_map (λ f. f.now) new) ≡ true }
-        ensures edited { IfOk result (λ t. t ≡ edited (option_map (λ f. f.now) old.entry) (option_map (λ f. f.now) new.entry) self.now) }
-        ensures steps { EditsWithin (length (given_keys self.now.level (option_map (λ f. f.now) old.entry)) + length (given_keys self.now.level (option_map (λ f. f.now) new.entry))) steps.old steps.new }
+        ensures edited { IfOk result (λ t. t ≡ edited
+            (option_map (λ f. f.now) old.entry) (option_map (λ f. f.now) new.entry) self.now) }
+        ensures steps { EditsWithin (length
+            (given_keys self.now.level (option_map (λ f. f.now) old.entry)) + length (given_keys
+            self.now.level (option_map (λ f. f.now) new.entry))) steps.old steps.new }
     {
         let level = Arc::try_clone(&self.level)?;
         let taken = self.without(alloc, old, steps)?;

@@ -117,7 +117,8 @@ fn all_items_entries_fit(def: &ServiceDef, kind: i64, items: &[Item]) -> bool
 }
 
 fn all_lists_entries_fit(def: &ServiceDef, policy: &Policy, lists: &[&[Item]]) -> bool
-    ensures { result ≡ list_all (λ list. list_all (item_entries_fit def.now policy.now.policy_type) list.now) lists.now }
+    ensures { result ≡ list_all
+        (λ list. list_all (item_entries_fit def.now policy.now.policy_type) list.now) lists.now }
 {
     let kind = policy.policy_type;
     lists
@@ -153,7 +154,8 @@ fn all_subjects_fit(roles: &NameIndex, items: &[Item]) -> bool
 }
 
 fn all_lists_subjects_fit(roles: &NameIndex, lists: &[&[Item]]) -> bool
-    ensures { result ≡ list_all (λ list. list_all (item_subjects_fit roles.now) list.now) lists.now }
+    ensures { result
+        ≡ list_all (λ list. list_all (item_subjects_fit roles.now) list.now) lists.now }
 {
     lists.iter().all(|items| all_subjects_fit(roles, items))
 }

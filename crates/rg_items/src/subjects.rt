@@ -23,7 +23,11 @@ impl<'a> Model for Subjects<'a> {
 
     ghost Value = { Listed };
 
-    ghost view = { λ s. record { users = s.users.now; groups = s.groups.now; roles = s.roles.now } };
+    ghost view = { λ s. record {
+      users = s.users.now;
+      groups = s.groups.now;
+      roles = s.roles.now;
+    } };
 }
 
 /// Whether the asker owns the resource.

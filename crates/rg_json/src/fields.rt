@@ -25,7 +25,8 @@ pub fn find<'a, K: Name>(value: &'a Value, key: K) -> Option<&'a Value>
 /// The field; null where it is missing. Null is handed in, so that it outlives the call.
 #[tactic(auto, unfolding(crate::specs::Fields::within))]
 pub fn find_or<'a, K: Name>(value: &'a Value, key: K, null: &'a Value) -> &'a Value
-    ensures { view null.now ≡ null_data → view result.now ≡ within (K.name_of key) (view value.now) }
+    ensures { view null.now ≡ null_data
+        → view result.now ≡ within (K.name_of key) (view value.now) }
 {
     match find(value, key) {
         None => null,

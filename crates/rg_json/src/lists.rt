@@ -52,7 +52,8 @@ pub fn record_at<X: Drop, W: Reader<X>, K: Name>(
     value: &Value,
     key: K,
 ) -> Result<X, NoMemory>
-    ensures reads { IfOk result (λ x. x ≡ W.reading reader.now (within (K.name_of key) (view value.now))) }
+    ensures reads { IfOk result
+        (λ x. x ≡ W.reading reader.now (within (K.name_of key) (view value.now))) }
     ensures owned { IfOk result (λ x. W.owned x) }
 {
     match find(value, key) {
@@ -72,7 +73,8 @@ pub fn optional_at<X: Drop, W: Reader<X>, K: Name>(
     value: &Value,
     key: K,
 ) -> Result<Option<X>, NoMemory>
-    ensures reads { IfOk result (λ o. o ≡ optional_at (W.reading reader.now) (K.name_of key) (view value.now)) }
+    ensures reads { IfOk result
+        (λ o. o ≡ optional_at (W.reading reader.now) (K.name_of key) (view value.now)) }
     ensures owned { IfOk result (λ o. OwnOption W.owned o) }
 {
     match find(value, key) {
@@ -88,7 +90,8 @@ fn read_each<X: Drop, W: Reader<X>>(
     reader: &W,
     values: &[Value],
 ) -> Result<Seq<X>, NoMemory>
-    ensures reads { IfOk result (λ xs. xs ≡ listed (map (W.reading reader.now) (map view values.now))) }
+    ensures reads { IfOk result
+        (λ xs. xs ≡ listed (map (W.reading reader.now) (map view values.now))) }
     ensures owned { IfOk result (λ xs. OwnList W.owned xs) }
 {
     let mut read = Seq::new(alloc);
@@ -119,7 +122,8 @@ pub fn list_at<X: Drop, W: Reader<X>, K: Name>(
     value: &Value,
     key: K,
 ) -> Result<Seq<X>, NoMemory>
-    ensures reads { IfOk result (λ xs. xs ≡ list_at (W.reading reader.now) (K.name_of key) (view value.now)) }
+    ensures reads { IfOk result
+        (λ xs. xs ≡ list_at (W.reading reader.now) (K.name_of key) (view value.now)) }
     ensures owned { IfOk result (λ xs. OwnList W.owned xs) }
 {
     match find(value, key) {
@@ -135,9 +139,11 @@ fn read_members<X: Drop, W: MemberReader<X>>(
     reader: &W,
     members: &Map<String, Value>,
 ) -> Result<Seq<X>, NoMemory>
-    ensures reads { IfOk result (λ xs. xs ≡ listed (map (W.member_reading reader.now) (map (λ m. (string_bytes m.0, view m.1)) members.now.entries))) }
+    ensures reads { IfOk result (λ xs. xs ≡ listed (map (W.member_reading reader.now)
+        (map (λ m. (string_bytes m.0, view m.1)) members.now.entries))) }
     ensures owned { IfOk result (λ xs. OwnList W.member_owned xs) }
-    ensures sorted { IfOk result (λ xs. IsSorted (map (λ m. (string_bytes m.0, view m.1)) members.now.entries)) }
+    ensures sorted { IfOk result
+        (λ xs. IsSorted (map (λ m. (string_bytes m.0, view m.1)) members.now.entries)) }
 {
     let mut read = Seq::new(alloc);
     for (key, value) in members.iter() {
@@ -171,9 +177,11 @@ pub fn map_at<X: Drop, W: MemberReader<X>, K: Name>(
     value: &Value,
     key: K,
 ) -> Result<Seq<X>, NoMemory>
-    ensures reads { IfOk result (λ xs. xs ≡ map_at (W.member_reading reader.now) (K.name_of key) (view value.now)) }
+    ensures reads { IfOk result
+        (λ xs. xs ≡ map_at (W.member_reading reader.now) (K.name_of key) (view value.now)) }
     ensures owned { IfOk result (λ xs. OwnList W.member_owned xs) }
-    ensures sorted { IfOk result (λ xs. IsSorted (members_in (within (K.name_of key) (view value.now)))) }
+    ensures sorted { IfOk result
+        (λ xs. IsSorted (members_in (within (K.name_of key) (view value.now)))) }
 {
     match find(value, key) {
         None => Ok(Seq::new(alloc)),

@@ -32,7 +32,8 @@ pub fn put_value(
     name: &str,
     value: Value,
 ) -> Result<(), NoMemory>
-    ensures { IfOk result (λ u. members_view members.new.entries ≡ put name.now (view value) (members_view members.old.entries)) }
+    ensures { IfOk result (λ u. members_view members.new.entries
+        ≡ put name.now (view value) (members_view members.old.entries)) }
 {
     let key = String::from_str(alloc, name)?;
     let _replaced = members.insert(key, value)?;
@@ -46,7 +47,8 @@ pub fn put<K: Name, X: ToJson<K>>(
     key: K,
     part: &X,
 ) -> Result<(), NoMemory>
-    ensures { IfOk result (λ u. members_view members.new.entries ≡ put (K.name_of key) (X.printing part.now) (members_view members.old.entries)) }
+    ensures { IfOk result (λ u. members_view members.new.entries
+        ≡ put (K.name_of key) (X.printing part.now) (members_view members.old.entries)) }
 {
     let value = part.json(alloc)?;
     put_value(alloc, members, key.name(), value)
@@ -132,9 +134,12 @@ impl<K: Name, X: ToJson<K>> ToJson<K> for Option<X> {
 /// The compact text of a value. Where the value nests at most 127 deep, it is read again from that text.
 #[tactic(auto, using(crate::proofs::Printed::printed))]
 pub fn text_of(alloc: Global, value: &Value) -> Result<Text, NoMemory>
-    ensures text { IfOk result (λ t. has_float (view value.now) ≡ false → t ≡ chars (compact_text (view value.now))) }
-    ensures bytes { IfOk result (λ t. has_float (view value.now) ≡ false → encode_utf8_all t ≡ compact_text (view value.now)) }
-    ensures back { IfOk result (λ t. has_float (view value.now) ≡ false → depth (view value.now) ≤ max_depth
+    ensures text { IfOk result (λ t. has_float (view value.now) ≡ false
+        → t ≡ chars (compact_text (view value.now))) }
+    ensures bytes { IfOk result (λ t. has_float (view value.now) ≡ false
+        → encode_utf8_all t ≡ compact_text (view value.now)) }
+    ensures back { IfOk result (λ t. has_float (view value.now) ≡ false
+        → depth (view value.now) ≤ max_depth
         → data_of (compact_text (view value.now)) ≡ Some (view value.now)) }
 {
     Ok(Text::of(value.to_string(alloc)?))

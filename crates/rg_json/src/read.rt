@@ -23,8 +23,10 @@ pub fn judge<K: Name, R: Table<K>>(
     fields: &[Field<K, R>],
     value: &Value,
 ) -> Result<(), WireFault>
-    ensures right { IfOk result (λ u. fault_of (record_of (fields_from K.name_of R.record_shape fields.now)) (view value.now) ≡ None) }
-    ensures wrong { IfErr result (λ e. Refuses e (fault_of (record_of (fields_from K.name_of R.record_shape fields.now)) (view value.now))) }
+    ensures right { IfOk result (λ u. fault_of
+        (record_of (fields_from K.name_of R.record_shape fields.now)) (view value.now) ≡ None) }
+    ensures wrong { IfErr result (λ e. Refuses e (fault_of
+        (record_of (fields_from K.name_of R.record_shape fields.now)) (view value.now))) }
 {
     if !value.is_object() {
         return Err(WireFault::Bad {
@@ -46,7 +48,8 @@ pub fn judge<K: Name, R: Table<K>>(
 fn judged<K: Name, R: Table<K>>(alloc: Global, table: R, text: &[u8]) -> Result<Value, WireFault>
     ensures json { IfOk result (λ v. data_of text.now ≡ Some (view v)) }
     ensures right { IfOk result (λ v. text_fault (R.record_shape table) (data_of text.now) ≡ None) }
-    ensures wrong { IfErr result (λ e. Refuses e (text_fault (R.record_shape table) (data_of text.now))) }
+    ensures wrong { IfErr result
+        (λ e. Refuses e (text_fault (R.record_shape table) (data_of text.now))) }
 {
     let value = match parse(alloc, text) {
         Ok(value) => value,
@@ -70,7 +73,8 @@ pub fn read_as<X: Drop, W: Reader<X>, K: Name, R: Table<K>>(
     table: R,
     text: &[u8],
 ) -> Result<X, WireFault>
-    ensures reads { Answers result (reading (R.record_shape table) (W.reading reader.now) text.now) }
+    ensures reads { Answers result
+        (reading (R.record_shape table) (W.reading reader.now) text.now) }
     ensures owned { IfOk result W.owned }
 {
     match judged::<K, R>(alloc, table, text) {

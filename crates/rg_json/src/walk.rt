@@ -143,7 +143,8 @@ fn list_fault<K: Name, R: Table<K>>(
     kind: Kind<R>,
     value: &Value,
 ) -> Result<Option<Fault>, NoMemory>
-    ensures { IfOk result (λ o. o ≡ list_fault (fault_of (shape_of R.record_shape kind)) (as_array (view value.now))) }
+    ensures { IfOk result (λ o. o
+        ≡ list_fault (fault_of (shape_of R.record_shape kind)) (as_array (view value.now))) }
 {
     match value.as_array() {
         None => Ok(here(alloc, WireKind::Mistyped)),
@@ -157,7 +158,8 @@ fn items_fault<K: Name, R: Table<K>>(
     kind: Kind<R>,
     items: &[Value],
 ) -> Result<Option<Fault>, NoMemory>
-    ensures { IfOk result (λ o. o ≡ items_fault (fault_of (shape_of R.record_shape kind)) 0 (map view items.now)) }
+    ensures { IfOk result
+        (λ o. o ≡ items_fault (fault_of (shape_of R.record_shape kind)) 0 (map view items.now)) }
 {
     for place in 0..items.len() {
         let inner = fault_in::<K, R>(alloc, kind, &items[place])?;
@@ -177,7 +179,8 @@ fn member_fault<K: Name, R: Table<K>>(
     name: &str,
     value: &Value,
 ) -> Result<Option<Fault>, NoMemory>
-    ensures { IfOk result (λ o. o ≡ member_fault keys (fault_of (shape_of R.record_shape kind)) (name.now, view value.now)) }
+    ensures { IfOk result (λ o. o ≡ member_fault keys
+        (fault_of (shape_of R.record_shape kind)) (name.now, view value.now)) }
 {
     let inner = if key_passes(keys, name) {
         fault_in::<K, R>(alloc, kind, value)?
@@ -194,7 +197,8 @@ fn members_fault<K: Name, R: Table<K>>(
     kind: Kind<R>,
     members: &Map<String, Value>,
 ) -> Result<Option<Fault>, NoMemory>
-    ensures { IfOk result (λ o. o ≡ members_fault keys (fault_of (shape_of R.record_shape kind)) (map (λ m. (string_bytes m.0, view m.1)) members.now.entries)) }
+    ensures { IfOk result (λ o. o ≡ members_fault keys (fault_of (shape_of R.record_shape kind))
+        (map (λ m. (string_bytes m.0, view m.1)) members.now.entries)) }
 {
     for (name, value) in members.iter() {
         let fault = member_fault::<K, R>(alloc, keys, kind, name.as_str(), value)?;
@@ -213,7 +217,8 @@ fn map_fault<K: Name, R: Table<K>>(
     kind: Kind<R>,
     value: &Value,
 ) -> Result<Option<Fault>, NoMemory>
-    ensures { IfOk result (λ o. o ≡ map_fault keys (fault_of (shape_of R.record_shape kind)) (as_object (view value.now))) }
+    ensures { IfOk result (λ o. o ≡ map_fault keys
+        (fault_of (shape_of R.record_shape kind)) (as_object (view value.now))) }
 {
     match value.as_object() {
         None => Ok(here(alloc, WireKind::Mistyped)),
@@ -227,7 +232,8 @@ fn field_fault<K: Name, R: Table<K>>(
     row: Field<K, R>,
     value: &Value,
 ) -> Result<Option<Fault>, NoMemory>
-    ensures { IfOk result (λ o. o ≡ below (chars (K.name_of row.0)) (field_fault row.1 (fault_of (shape_of R.record_shape row.2)) (field (K.name_of row.0) (view value.now)))) }
+    ensures { IfOk result (λ o. o ≡ below (chars (K.name_of row.0)) (field_fault row.1 (fault_of
+        (shape_of R.record_shape row.2)) (field (K.name_of row.0) (view value.now)))) }
 {
     let inner = match find(value, row.0) {
         None => match row.1 {
@@ -246,7 +252,8 @@ pub(crate) fn fields_fault<K: Name, R: Table<K>>(
     fields: &[Field<K, R>],
     value: &Value,
 ) -> Result<Option<Fault>, NoMemory>
-    ensures { IfOk result (λ o. o ≡ fields_fault (fields_from K.name_of R.record_shape fields.now) (view value.now)) }
+    ensures { IfOk result
+        (λ o. o ≡ fields_fault (fields_from K.name_of R.record_shape fields.now) (view value.now)) }
 {
     for place in 0..fields.len() {
         let fault = field_fault(alloc, fields[place], value)?;

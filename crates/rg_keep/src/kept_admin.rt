@@ -94,7 +94,8 @@ fn keep_record<P: Keeper>(
     ensures answered { IfOk result (λ r. (r.reply ≡ reply) × (r.is_kept ≡ true)) }
     ensures stored { OnOk result (Gets (P.kept keeper.old) entry.now (P.kept keeper.new)) }
     ensures refused { OnErr result (MayGet (P.kept keeper.old) entry.now (P.kept keeper.new)) }
-    ensures moments { Passes (P.moment keeper.old) (P.moment keeper.new) (P.left_since keeper.old) (P.left_since keeper.new) (WithOrWithout (P.kept keeper.old) entry.now) }
+    ensures moments { Passes (P.moment keeper.old) (P.moment keeper.new) (P.left_since keeper.old)
+        (P.left_since keeper.new) (WithOrWithout (P.kept keeper.old) entry.now) }
     ensures counted { P.faults keeper.old ≤ P.faults keeper.new }
     ensures failed { IsErrOf result KeeperFault.Failed → P.faults keeper.old < P.faults keeper.new }
 {
@@ -119,11 +120,15 @@ fn answer_keeping<P: Keeper>(
     requires keeps { is_keeping ask.command ≡ true }
     ensures reply { IfOk result (λ r. (admin.new, r.reply) ≡ stepped admin.old ask) }
     ensures is_kept { IfOk result (λ r. r.is_kept ≡ is_kept admin.old ask) }
-    ensures added { IfOk result (λ r. Adds (P.kept keeper.old) r.is_kept entry.now (P.kept keeper.new)) }
-    ensures stopped { OnErr result (Gains (P.kept keeper.old) (is_kept admin.old ask) entry.now (P.kept keeper.new)) }
-    ensures moments { Passes (P.moment keeper.old) (P.moment keeper.new) (P.left_since keeper.old) (P.left_since keeper.new) (MayGain (P.kept keeper.old) (is_kept admin.old ask) entry.now) }
+    ensures added { IfOk result
+        (λ r. Adds (P.kept keeper.old) r.is_kept entry.now (P.kept keeper.new)) }
+    ensures stopped { OnErr result
+        (Gains (P.kept keeper.old) (is_kept admin.old ask) entry.now (P.kept keeper.new)) }
+    ensures moments { Passes (P.moment keeper.old) (P.moment keeper.new) (P.left_since keeper.old)
+        (P.left_since keeper.new) (MayGain (P.kept keeper.old) (is_kept admin.old ask) entry.now) }
     ensures counted { P.faults keeper.old ≤ P.faults keeper.new }
-    ensures failed { IfErr result (λ fault. fault ≡ KeeperFault.Failed → P.faults keeper.old < P.faults keeper.new) }
+    ensures failed { IfErr result (λ fault. fault ≡ KeeperFault.Failed
+        → P.faults keeper.old < P.faults keeper.new) }
 {
     let reply = answer(alloc, admin, ask)?;
     if is_refused(&reply) {
@@ -141,9 +146,12 @@ impl<P: Keeper + Drop> KeptAdmin<P> {
         ensures lawful { IfOk result (λ desk. start_fault config ≡ None) }
         ensures same { IfOk result (λ desk. P.kept desk.keeper ≡ P.kept keeper) }
         ensures same_err { IfErr result (λ fault. P.kept fault.keeper ≡ P.kept keeper) }
-        ensures cause { IfErr result (λ fault. IsCause fault.cause (P.kept keeper) config (P.faults keeper) (P.faults fault.keeper)) }
-        ensures moments { IfOk result (λ desk. Passes (P.moment keeper) (P.moment desk.keeper) (P.left_since keeper) (P.left_since desk.keeper) Nothing) }
-        ensures moments_err { IfErr result (λ fault. Passes (P.moment keeper) (P.moment fault.keeper) (P.left_since keeper) (P.left_since fault.keeper) Nothing) }
+        ensures cause { IfErr result (λ fault. IsCause fault.cause
+            (P.kept keeper) config (P.faults keeper) (P.faults fault.keeper)) }
+        ensures moments { IfOk result (λ desk. Passes (P.moment keeper)
+            (P.moment desk.keeper) (P.left_since keeper) (P.left_since desk.keeper) Nothing) }
+        ensures moments_err { IfErr result (λ fault. Passes (P.moment keeper)
+            (P.moment fault.keeper) (P.left_since keeper) (P.left_since fault.keeper) Nothing) }
         ensures counted { IfOk result (λ desk. P.faults keeper ≤ P.faults desk.keeper) }
         ensures counted_err { IfErr result (λ fault. P.faults keeper ≤ P.faults fault.keeper) }
     {
@@ -202,14 +210,22 @@ impl<P: Keeper + Drop> KeptAdmin<P> {
         requires { is_keeping ask.command ≡ false }
         ensures answer { IfOk result (λ r. IsAnswer self.admin ask r.0.admin r.1) }
         ensures full { IfOk result (λ r. is_full r.1 ≡ is_past self.kept ask) }
-        ensures added { IfOk result (λ r. Adds (P.kept self.keeper) (adds self.kept self.admin ask) (ask_text ask) (P.kept r.0.keeper)) }
-        ensures fit { IfOk result (λ r. adds self.kept self.admin ask ≡ true → IsFit self.admin ask self.kept) }
-        ensures stopped { IfErr result (λ s. MayTell (P.kept self.keeper) self.admin ask self.kept (P.kept s.keeper)) }
-        ensures moments { IfOk result (λ r. Passes (P.moment self.keeper) (P.moment r.0.keeper) (P.left_since self.keeper) (P.left_since r.0.keeper) (MayLeave (P.kept self.keeper) self.admin ask self.kept)) }
-        ensures moments_err { IfErr result (λ s. Passes (P.moment self.keeper) (P.moment s.keeper) (P.left_since self.keeper) (P.left_since s.keeper) (MayLeave (P.kept self.keeper) self.admin ask self.kept)) }
+        ensures added { IfOk result (λ r. Adds (P.kept self.keeper)
+            (adds self.kept self.admin ask) (ask_text ask) (P.kept r.0.keeper)) }
+        ensures fit { IfOk result (λ r. adds self.kept self.admin ask ≡ true
+            → IsFit self.admin ask self.kept) }
+        ensures stopped { IfErr result
+            (λ s. MayTell (P.kept self.keeper) self.admin ask self.kept (P.kept s.keeper)) }
+        ensures moments { IfOk result (λ r. Passes (P.moment self.keeper)
+            (P.moment r.0.keeper) (P.left_since self.keeper) (P.left_since r.0.keeper)
+            (MayLeave (P.kept self.keeper) self.admin ask self.kept)) }
+        ensures moments_err { IfErr result
+            (λ s. Passes (P.moment self.keeper) (P.moment s.keeper) (P.left_since self.keeper)
+            (P.left_since s.keeper) (MayLeave (P.kept self.keeper) self.admin ask self.kept)) }
         ensures counted { IfOk result (λ r. P.faults self.keeper ≤ P.faults r.0.keeper) }
         ensures counted_err { IfErr result (λ s. P.faults self.keeper ≤ P.faults s.keeper) }
-        ensures failed { IfErr result (λ s. s.cause ≡ KeeperFault.Failed → P.faults self.keeper < P.faults s.keeper) }
+        ensures failed { IfErr result (λ s. s.cause ≡ KeeperFault.Failed
+            → P.faults self.keeper < P.faults s.keeper) }
     {
         let mut desk = self;
         match answer(alloc, &mut desk.admin, ask) {
@@ -232,14 +248,22 @@ impl<P: Keeper + Drop> KeptAdmin<P> {
         requires again { ask_reading (ask_text ask) ≡ Ok ask }
         ensures answer { IfOk result (λ r. IsAnswer self.admin ask r.0.admin r.1) }
         ensures full { IfOk result (λ r. is_full r.1 ≡ is_past self.kept ask) }
-        ensures added { IfOk result (λ r. Adds (P.kept self.keeper) (adds self.kept self.admin ask) (ask_text ask) (P.kept r.0.keeper)) }
-        ensures fit { IfOk result (λ r. adds self.kept self.admin ask ≡ true → IsFit self.admin ask self.kept) }
-        ensures stopped { IfErr result (λ s. MayTell (P.kept self.keeper) self.admin ask self.kept (P.kept s.keeper)) }
-        ensures moments { IfOk result (λ r. Passes (P.moment self.keeper) (P.moment r.0.keeper) (P.left_since self.keeper) (P.left_since r.0.keeper) (MayLeave (P.kept self.keeper) self.admin ask self.kept)) }
-        ensures moments_err { IfErr result (λ s. Passes (P.moment self.keeper) (P.moment s.keeper) (P.left_since self.keeper) (P.left_since s.keeper) (MayLeave (P.kept self.keeper) self.admin ask self.kept)) }
+        ensures added { IfOk result (λ r. Adds (P.kept self.keeper)
+            (adds self.kept self.admin ask) (ask_text ask) (P.kept r.0.keeper)) }
+        ensures fit { IfOk result (λ r. adds self.kept self.admin ask ≡ true
+            → IsFit self.admin ask self.kept) }
+        ensures stopped { IfErr result
+            (λ s. MayTell (P.kept self.keeper) self.admin ask self.kept (P.kept s.keeper)) }
+        ensures moments { IfOk result (λ r. Passes (P.moment self.keeper)
+            (P.moment r.0.keeper) (P.left_since self.keeper) (P.left_since r.0.keeper)
+            (MayLeave (P.kept self.keeper) self.admin ask self.kept)) }
+        ensures moments_err { IfErr result
+            (λ s. Passes (P.moment self.keeper) (P.moment s.keeper) (P.left_since self.keeper)
+            (P.left_since s.keeper) (MayLeave (P.kept self.keeper) self.admin ask self.kept)) }
         ensures counted { IfOk result (λ r. P.faults self.keeper ≤ P.faults r.0.keeper) }
         ensures counted_err { IfErr result (λ s. P.faults self.keeper ≤ P.faults s.keeper) }
-        ensures failed { IfErr result (λ s. s.cause ≡ KeeperFault.Failed → P.faults self.keeper < P.faults s.keeper) }
+        ensures failed { IfErr result (λ s. s.cause ≡ KeeperFault.Failed
+            → P.faults self.keeper < P.faults s.keeper) }
     {
         let KeptAdmin {
             admin,
@@ -270,14 +294,22 @@ impl<P: Keeper + Drop> KeptAdmin<P> {
         ensures length { HasLength (P.kept self.keeper) self.kept }
         ensures answer { IfOk result (λ r. IsAnswer self.admin ask r.0.admin r.1) }
         ensures full { IfOk result (λ r. is_full r.1 ≡ is_past self.kept ask) }
-        ensures added { IfOk result (λ r. Adds (P.kept self.keeper) (adds self.kept self.admin ask) (ask_text ask) (P.kept r.0.keeper)) }
-        ensures fit { IfOk result (λ r. adds self.kept self.admin ask ≡ true → IsFit self.admin ask self.kept) }
-        ensures stopped { IfErr result (λ s. MayTell (P.kept self.keeper) self.admin ask self.kept (P.kept s.keeper)) }
-        ensures moments { IfOk result (λ r. Passes (P.moment self.keeper) (P.moment r.0.keeper) (P.left_since self.keeper) (P.left_since r.0.keeper) (MayLeave (P.kept self.keeper) self.admin ask self.kept)) }
-        ensures moments_err { IfErr result (λ s. Passes (P.moment self.keeper) (P.moment s.keeper) (P.left_since self.keeper) (P.left_since s.keeper) (MayLeave (P.kept self.keeper) self.admin ask self.kept)) }
+        ensures added { IfOk result (λ r. Adds (P.kept self.keeper)
+            (adds self.kept self.admin ask) (ask_text ask) (P.kept r.0.keeper)) }
+        ensures fit { IfOk result (λ r. adds self.kept self.admin ask ≡ true
+            → IsFit self.admin ask self.kept) }
+        ensures stopped { IfErr result
+            (λ s. MayTell (P.kept self.keeper) self.admin ask self.kept (P.kept s.keeper)) }
+        ensures moments { IfOk result (λ r. Passes (P.moment self.keeper)
+            (P.moment r.0.keeper) (P.left_since self.keeper) (P.left_since r.0.keeper)
+            (MayLeave (P.kept self.keeper) self.admin ask self.kept)) }
+        ensures moments_err { IfErr result
+            (λ s. Passes (P.moment self.keeper) (P.moment s.keeper) (P.left_since self.keeper)
+            (P.left_since s.keeper) (MayLeave (P.kept self.keeper) self.admin ask self.kept)) }
         ensures counted { IfOk result (λ r. P.faults self.keeper ≤ P.faults r.0.keeper) }
         ensures counted_err { IfErr result (λ s. P.faults self.keeper ≤ P.faults s.keeper) }
-        ensures failed { IfErr result (λ s. s.cause ≡ KeeperFault.Failed → P.faults self.keeper < P.faults s.keeper) }
+        ensures failed { IfErr result (λ s. s.cause ≡ KeeperFault.Failed
+            → P.faults self.keeper < P.faults s.keeper) }
     {
         if !is_keeping(&ask.command) {
             return self.look(alloc, ask);
@@ -303,20 +335,31 @@ impl<P: Keeper + Drop> KeptAdmin<P> {
         requires { IsInKeyOrder ask }
         ensures answer { IfOk result (λ r. IsAnswer self.admin ask r.0.admin r.1) }
         ensures full { IfOk result (λ r. is_full r.1 ≡ is_past self.kept ask) }
-        ensures added { IfOk result (λ r. Adds (P.kept self.keeper) (adds self.kept self.admin ask) (ask_text ask) (P.kept r.0.keeper)) }
-        ensures kept { (config : Config) → IsKept (P.kept self.keeper) config self.admin → IfOk result (λ r. IsKept (P.kept r.0.keeper) config r.0.admin) }
-        ensures reopens { (config : Config) → IsKept (P.kept self.keeper) config self.admin → IfErr result (λ s. Reopens (P.kept s.keeper) config) }
-        ensures stopped { IfErr result (λ s. MayTell (P.kept self.keeper) self.admin ask self.kept (P.kept s.keeper)) }
+        ensures added { IfOk result (λ r. Adds (P.kept self.keeper)
+            (adds self.kept self.admin ask) (ask_text ask) (P.kept r.0.keeper)) }
+        ensures kept { (config : Config) → IsKept (P.kept self.keeper) config self.admin
+            → IfOk result (λ r. IsKept (P.kept r.0.keeper) config r.0.admin) }
+        ensures reopens { (config : Config) → IsKept (P.kept self.keeper) config self.admin
+            → IfErr result (λ s. Reopens (P.kept s.keeper) config) }
+        ensures stopped { IfErr result
+            (λ s. MayTell (P.kept self.keeper) self.admin ask self.kept (P.kept s.keeper)) }
         ensures any_moment { (config : Config) → IsKept (P.kept self.keeper) config self.admin
             → IfOk result (λ r. Passes (P.moment self.keeper) (P.moment r.0.keeper) (P.left_since self.keeper) (P.left_since r.0.keeper) (Survives (P.kept self.keeper) config self.admin ask)) }
         ensures any_moment_err { (config : Config) → IsKept (P.kept self.keeper) config self.admin
             → IfErr result (λ s. Passes (P.moment self.keeper) (P.moment s.keeper) (P.left_since self.keeper) (P.left_since s.keeper) (Survives (P.kept self.keeper) config self.admin ask)) }
-        ensures moments { IfOk result (λ r. Passes (P.moment self.keeper) (P.moment r.0.keeper) (P.left_since self.keeper) (P.left_since r.0.keeper) (MayLeave (P.kept self.keeper) self.admin ask self.kept)) }
-        ensures moments_err { IfErr result (λ s. Passes (P.moment self.keeper) (P.moment s.keeper) (P.left_since self.keeper) (P.left_since s.keeper) (MayLeave (P.kept self.keeper) self.admin ask self.kept)) }
-        ensures acknowledged { IfOk result (λ r. (entries left : List (List ℕ)) → P.kept r.0.keeper ≡ Some entries → P.left_since r.0.keeper (P.moment r.0.keeper) left → left ≡ entries) }
+        ensures moments { IfOk result (λ r. Passes (P.moment self.keeper)
+            (P.moment r.0.keeper) (P.left_since self.keeper) (P.left_since r.0.keeper)
+            (MayLeave (P.kept self.keeper) self.admin ask self.kept)) }
+        ensures moments_err { IfErr result
+            (λ s. Passes (P.moment self.keeper) (P.moment s.keeper) (P.left_since self.keeper)
+            (P.left_since s.keeper) (MayLeave (P.kept self.keeper) self.admin ask self.kept)) }
+        ensures acknowledged { IfOk result
+            (λ r. (entries left : List (List ℕ)) → P.kept r.0.keeper ≡ Some entries
+            → P.left_since r.0.keeper (P.moment r.0.keeper) left → left ≡ entries) }
         ensures counted { IfOk result (λ r. P.faults self.keeper ≤ P.faults r.0.keeper) }
         ensures counted_err { IfErr result (λ s. P.faults self.keeper ≤ P.faults s.keeper) }
-        ensures failed { IfErr result (λ s. s.cause ≡ KeeperFault.Failed → P.faults self.keeper < P.faults s.keeper) }
+        ensures failed { IfErr result (λ s. s.cause ≡ KeeperFault.Failed
+            → P.faults self.keeper < P.faults s.keeper) }
     {
         self.step_list(alloc, ask)
     }

@@ -90,7 +90,8 @@ fn take_ask(alloc: Global, admin: &mut Admin, ask: Ask) -> Result<bool, NoMemory
 #[tactic(auto, using(crate::proofs::Adding::entries))]
 fn take_entry(alloc: Global, admin: &mut Admin, entry: &[u8]) -> Result<bool, NoMemory>
     ensures good { IfOk result (λ good. good ≡ not (is_bad admin.old entry.now)) }
-    ensures after { IfOk result (λ good. good ≡ true → admin.new ≡ after_entry admin.old entry.now) }
+    ensures after { IfOk result (λ good. good ≡ true
+        → admin.new ≡ after_entry admin.old entry.now) }
 {
     match read_ask(alloc, entry) {
         Ok(ask) => take_ask(alloc, admin, ask),
@@ -113,9 +114,11 @@ fn take_at<P: Keeper>(
     requires { place ≤ most_kept }
     ensures took { IfOk result (λ more. Takes (P.kept keeper.old) place admin.old more admin.new) }
     ensures within { IfOk result (λ more. more ≡ true → place < most_kept) }
-    ensures stopped { IfErr result (λ cause. IsStopped (P.kept keeper.old) place admin.old (P.faults keeper.old) (P.faults keeper.new) cause) }
+    ensures stopped { IfErr result (λ cause. IsStopped
+        (P.kept keeper.old) place admin.old (P.faults keeper.old) (P.faults keeper.new) cause) }
     ensures same { P.kept keeper.new ≡ P.kept keeper.old }
-    ensures moments { Passes (P.moment keeper.old) (P.moment keeper.new) (P.left_since keeper.old) (P.left_since keeper.new) Nothing }
+    ensures moments { Passes (P.moment keeper.old)
+        (P.moment keeper.new) (P.left_since keeper.old) (P.left_since keeper.new) Nothing }
     ensures counted { P.faults keeper.old ≤ P.faults keeper.new }
 {
     match keeper.fetch(alloc, place) {
@@ -140,9 +143,11 @@ fn take_at<P: Keeper>(
 fn take_all<P: Keeper>(alloc: Global, admin: &mut Admin, keeper: &mut P) -> Result<u64, ReopenCause>
     ensures all { IfOk result (λ n. IsReplaying (P.kept keeper.old) admin.old n admin.new) }
     ensures within { IfOk result (λ n. n ≤ most_kept) }
-    ensures stopped { IfErr result (λ cause. IsStoppedIn (P.kept keeper.old) admin.old (P.faults keeper.old) (P.faults keeper.new) cause) }
+    ensures stopped { IfErr result (λ cause. IsStoppedIn
+        (P.kept keeper.old) admin.old (P.faults keeper.old) (P.faults keeper.new) cause) }
     ensures same { P.kept keeper.new ≡ P.kept keeper.old }
-    ensures moments { Passes (P.moment keeper.old) (P.moment keeper.new) (P.left_since keeper.old) (P.left_since keeper.new) Nothing }
+    ensures moments { Passes (P.moment keeper.old)
+        (P.moment keeper.new) (P.left_since keeper.old) (P.left_since keeper.new) Nothing }
     ensures counted { P.faults keeper.old ≤ P.faults keeper.new }
 {
     let mut place = 0;
@@ -158,7 +163,8 @@ fn take_all<P: Keeper>(alloc: Global, admin: &mut Admin, keeper: &mut P) -> Resu
 /// Starts from the configuration.
 #[tactic(auto, using(crate::proofs::Kept::starts))]
 fn start(alloc: Global, config: Config) -> Result<Admin, ReopenCause>
-    ensures ok { IfOk result (λ admin. (start_fault config ≡ None) × (admin ≡ started config) × IsStart (started config)) }
+    ensures ok { IfOk result (λ admin. (start_fault config ≡ None)
+        × (admin ≡ started config) × IsStart (started config)) }
     ensures err { IfErr result (λ cause. IsNoStart config cause) }
 {
     match Admin::start(alloc, config) {
@@ -179,9 +185,11 @@ pub(crate) fn replay<P: Keeper>(
     ensures replayed { IfOk result (λ r. IsReplayed (P.kept keeper.new) config r.0) }
     ensures counts { IfOk result (λ r. Counts (P.kept keeper.new) r.1) }
     ensures lawful { IfOk result (λ r. start_fault config ≡ None) }
-    ensures cause { IfErr result (λ cause. IsCause cause (P.kept keeper.old) config (P.faults keeper.old) (P.faults keeper.new)) }
+    ensures cause { IfErr result (λ cause.
+        IsCause cause (P.kept keeper.old) config (P.faults keeper.old) (P.faults keeper.new)) }
     ensures same { P.kept keeper.new ≡ P.kept keeper.old }
-    ensures moments { Passes (P.moment keeper.old) (P.moment keeper.new) (P.left_since keeper.old) (P.left_since keeper.new) Nothing }
+    ensures moments { Passes (P.moment keeper.old)
+        (P.moment keeper.new) (P.left_since keeper.old) (P.left_since keeper.new) Nothing }
     ensures counted { P.faults keeper.old ≤ P.faults keeper.new }
 {
     let mut admin = start(alloc, config)?;

@@ -34,7 +34,8 @@ impl<T: Ordered> Ordered for Seq<T> {
 
 /// Whether the bytes of a text are before those of the other.
 fn is_before(a: &str, b: &str) -> bool
-    ensures { result ≡ true → slice_cmp nat_cmp (encode_utf8_all (chars a.now)) (encode_utf8_all (chars b.now)) ≡ Less }
+    ensures { result ≡ true
+        → slice_cmp nat_cmp (encode_utf8_all (chars a.now)) (encode_utf8_all (chars b.now)) ≡ Less }
 {
     matches!(a.cmp(b), Ordering::Less)
 }

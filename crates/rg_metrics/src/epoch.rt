@@ -41,7 +41,8 @@ impl Epoch {
 
     /// With this as its first record, where it had none.
     pub fn with_record(self, first: &[u8]) -> Epoch
-        ensures { (line : List ℕ) → self.hash ≡ hash_of line [] → result.hash ≡ hash_of line first.now }
+        ensures { (line : List ℕ) → self.hash ≡ hash_of line []
+            → result.hash ≡ hash_of line first.now }
     {
         Epoch {
             hash: hashed(self.hash, first),

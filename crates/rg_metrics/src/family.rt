@@ -76,7 +76,8 @@ impl Family {
 }
 
 fn add_label(text: &mut String, label: &str, word: Option<&'static str>) -> Result<(), NoMemory>
-    ensures { OnOk result (string_bytes text.new ≡ string_bytes text.old ++ label_text label.now (option_map (λ w. w.now) word.entry)) }
+    ensures { OnOk result (string_bytes text.new
+        ≡ string_bytes text.old ++ label_text label.now (option_map (λ w. w.now) word.entry)) }
 {
     let Some(word) = word else {
         return Ok(());
@@ -88,7 +89,8 @@ fn add_label(text: &mut String, label: &str, word: Option<&'static str>) -> Resu
 }
 
 fn add_sample(text: &mut String, family: &Family, sample: &Sample) -> Result<(), NoMemory>
-    ensures { OnOk result (string_bytes text.new ≡ string_bytes text.old ++ sample_text family.now sample.now) }
+    ensures { OnOk result (string_bytes text.new
+        ≡ string_bytes text.old ++ sample_text family.now sample.now) }
 {
     text.push_str(family.name)?;
     add_label(text, family.label, sample.label)?;
@@ -111,7 +113,8 @@ fn add_type(text: &mut String, family: &Family) -> Result<(), NoMemory>
 }
 
 fn add_family(text: &mut String, family: &Family) -> Result<(), NoMemory>
-    ensures { OnOk result (string_bytes text.new ≡ string_bytes text.old ++ family_text family.now) }
+    ensures { OnOk result (string_bytes text.new
+        ≡ string_bytes text.old ++ family_text family.now) }
 {
     add_type(text, family)?;
     for sample in &family.samples {

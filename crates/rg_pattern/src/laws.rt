@@ -15,15 +15,18 @@ ghost use Rattle.rg_pattern.specs.Tests.{stands, covers, overlaps};
 /// `{USER}` gives its own atom.
 pub fn reads_from_the_left()
     ensures nothing { (wild : Bool) → atoms_of wild [] ≡ [] }
-    ensures mark { (wild : Bool) (t : List ℕ) → atoms_of wild (user_mark ++ t) ≡ User ∷ atoms_of wild t }
-    ensures other { (wild : Bool) (c : ℕ) (t : List ℕ) → ((rest : List ℕ) → c ∷ t ≡ user_mark ++ rest → ⊥)
+    ensures mark { (wild : Bool) (t : List ℕ)
+        → atoms_of wild (user_mark ++ t) ≡ User ∷ atoms_of wild t }
+    ensures other { (wild : Bool) (c : ℕ) (t : List ℕ)
+        → ((rest : List ℕ) → c ∷ t ≡ user_mark ++ rest → ⊥)
         → atoms_of wild (c ∷ t) ≡ atom_of wild c ∷ atoms_of wild t }
     ensures no_longer { (wild : Bool) (t : List ℕ) → length (atoms_of wild t) ≤ length t }
 {}
 
 /// The test of matching decides standing for.
 pub fn stands_is_decided()
-    ensures { (fold : Bool) (user : List ℕ) (p : List Atom) (t : List ℕ) → IsTrue (stands fold user p t) ↔ Stands fold user p t }
+    ensures { (fold : Bool) (user : List ℕ) (p : List Atom) (t : List ℕ)
+        → IsTrue (stands fold user p t) ↔ Stands fold user p t }
 {}
 
 /// The test of covering decides covering.
@@ -34,8 +37,10 @@ pub fn covers_is_decided()
 /// The table decides overlap, for patterns without `{USER}`. That the common text is one of Unicode scalar
 /// values takes that the patterns' characters are, as those of every `Pattern` are.
 pub fn overlap_is_decided()
-    ensures shown { (fold : Bool) (p q : List Atom) → has_user p ≡ false → has_user q ≡ false → Overlap fold p q → IsTrue (overlaps fold p q) }
-    ensures found { (fold : Bool) (p q : List Atom) → has_user p ≡ false → has_user q ≡ false → IsTrue (are_scalars p) → IsTrue (are_scalars q)
+    ensures shown { (fold : Bool) (p q : List Atom)
+        → has_user p ≡ false → has_user q ≡ false → Overlap fold p q → IsTrue (overlaps fold p q) }
+    ensures found { (fold : Bool) (p q : List Atom)
+        → has_user p ≡ false → has_user q ≡ false → IsTrue (are_scalars p) → IsTrue (are_scalars q)
         → IsTrue (overlaps fold p q) → Overlap fold p q }
 {}
 
@@ -46,31 +51,38 @@ pub fn overlap_is_symmetric()
 
 /// A pattern without `{USER}` stands for the same texts whoever asks, and for at least one text.
 pub fn user_plays_no_part()
-    ensures same { (fold : Bool) (user other : List ℕ) (p : List Atom) (t : List ℕ) → has_user p ≡ false → Stands fold user p t → Stands fold other p t }
-    ensures some { (fold : Bool) (user : List ℕ) (p : List Atom) → has_user p ≡ false → IsTrue (are_scalars p) → (t : List ℕ) × IsTrue (all_scalars t) × Stands fold user p t }
+    ensures same { (fold : Bool) (user other : List ℕ) (p : List Atom) (t : List ℕ)
+        → has_user p ≡ false → Stands fold user p t → Stands fold other p t }
+    ensures some { (fold : Bool) (user : List ℕ) (p : List Atom) → has_user p ≡ false
+        → IsTrue (are_scalars p) → (t : List ℕ) × IsTrue (all_scalars t) × Stands fold user p t }
 {}
 
 /// A pattern that covers another stands, for every user, for each text that the other stands for.
 pub fn covers_keeps_stands()
-    ensures { (fold : Bool) (user : List ℕ) (q p : List Atom) (t : List ℕ) → Covers fold q p → Stands fold user p t → Stands fold user q t }
+    ensures { (fold : Bool) (user : List ℕ) (q p : List Atom) (t : List ℕ)
+        → Covers fold q p → Stands fold user p t → Stands fold user q t }
 {}
 
 /// A text that a pattern or its twin stands for begins with the literal prefix of the pattern, both folded alike.
 pub fn prefix_begins_text()
-    ensures pattern { (fold : Bool) (user : List ℕ) (p : List Atom) (t : List ℕ) → Stands fold user p t
+    ensures pattern { (fold : Bool) (user : List ℕ) (p : List Atom) (t : List ℕ)
+        → Stands fold user p t
         → starts_with nat_eq (folded fold t) (literal_prefix fold p) ≡ true }
-    ensures twin { (fold : Bool) (user : List ℕ) (p : List Atom) (t : List ℕ) → Stands fold user (twin p) t
+    ensures twin { (fold : Bool) (user : List ℕ) (p : List Atom) (t : List ℕ)
+        → Stands fold user (twin p) t
         → starts_with nat_eq (folded fold t) (literal_prefix fold p) ≡ true }
 {}
 
 /// Whether wildcards are on or off, `{USER}` stands in the same written values.
 pub fn user_is_read_alike()
-    ensures { (wild : Bool) (t : List ℕ) → has_user (atoms_of wild t) ≡ has_user (atoms_of false t) }
+    ensures { (wild : Bool) (t : List ℕ)
+        → has_user (atoms_of wild t) ≡ has_user (atoms_of false t) }
 {}
 
 /// The twin of a pattern stands for exactly the texts below those that the pattern stands for.
 pub fn twin_stands_below()
-    ensures { (fold : Bool) (user : List ℕ) (p : List Atom) (t : List ℕ) → Stands fold user (twin p) t ↔ IsBelow fold user p t }
+    ensures { (fold : Bool) (user : List ℕ) (p : List Atom) (t : List ℕ)
+        → Stands fold user (twin p) t ↔ IsBelow fold user p t }
 {}
 
 /// The twin has `{USER}` where the pattern has it, and its characters are Unicode scalar values where those of

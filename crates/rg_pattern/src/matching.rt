@@ -20,7 +20,8 @@ pub(crate) fn same_char(a: char, b: char, fold: bool) -> bool
 
 /// What follows the prefix in a text that begins with it.
 pub(crate) fn strip_prefix<'a>(text: &'a str, prefix: &str, fold: bool) -> Option<&'a str>
-    ensures { option_map (λ rest. chars rest.now) result ≡ strip_prefix fold (chars prefix.now) (chars text.now) }
+    ensures { option_map (λ rest. chars rest.now) result
+        ≡ strip_prefix fold (chars prefix.now) (chars text.now) }
 {
     let mut text = text;
     let mut prefix = prefix;
@@ -38,7 +39,8 @@ pub(crate) fn strip_prefix<'a>(text: &'a str, prefix: &str, fold: bool) -> Optio
 
 /// What follows in a text that begins with what the atom stands for. None at `Any`, which fixes no length.
 fn strip_atom<'a>(atom: Atom, text: &'a str, user: &str, fold: bool) -> Option<&'a str>
-    ensures { option_map (λ rest. chars rest.now) result ≡ strip_atom fold (chars user.now) atom (chars text.now) }
+    ensures { option_map (λ rest. chars rest.now) result
+        ≡ strip_atom fold (chars user.now) atom (chars text.now) }
 {
     match atom {
         Atom::Any => None,
@@ -102,8 +104,10 @@ fn match_segment<'a>(
 /// Whether the pattern stands for some suffix of the text. A segment that fits is never tried again at a later
 /// place: its length is fixed, so at the earliest place it leaves the most text for what follows.
 fn matches_suffix(pattern: &[Atom], text: &str, user: &str, fold: bool, work: &mut Tally) -> bool
-    ensures answer { result ≡ some_suffix (stands fold (chars user.now) pattern.now) (chars text.now) }
-    ensures work { work.new.count ≤ work.old.count + (length pattern.now + 1) * (length (chars text.now) + 1) }
+    ensures answer { result
+        ≡ some_suffix (stands fold (chars user.now) pattern.now) (chars text.now) }
+    ensures work { work.new.count ≤ work.old.count
+        + (length pattern.now + 1) * (length (chars text.now) + 1) }
 {
     let mut pattern = pattern;
     let mut text = text;
@@ -135,7 +139,8 @@ pub(crate) fn matches_whole(
     work: &mut Tally,
 ) -> bool
     ensures answer { result ≡ stands fold (chars user.now) pattern.now (chars text.now) }
-    ensures work { work.new.count ≤ work.old.count + (length pattern.now + 1) * (length (chars text.now) + 1) }
+    ensures work { work.new.count ≤ work.old.count
+        + (length pattern.now + 1) * (length (chars text.now) + 1) }
 {
     match match_segment(pattern, text, user, fold, work) {
         Segment::Whole => true,

@@ -84,7 +84,8 @@ fn leading_characters<'a>(
     pattern: &'a [Atom],
     other: &'a [Atom],
 ) -> Option<(char, char, &'a [Atom], &'a [Atom])>
-    ensures { IfSome result (λ l. (pattern.now ≡ Character l.0 ∷ l.2.now) × (other.now ≡ Character l.1 ∷ l.3.now)) }
+    ensures { IfSome result (λ l. (pattern.now ≡ Character l.0 ∷ l.2.now)
+        × (other.now ≡ Character l.1 ∷ l.3.now)) }
 {
     match (pattern, other) {
         ([Atom::Character(c), after @ ..], [Atom::Character(d), later @ ..]) => {

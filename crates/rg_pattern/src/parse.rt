@@ -24,8 +24,10 @@ fn atom_of(c: char, wild: bool) -> Atom
 
 /// The first atom of a written value, and what follows it.
 pub(crate) fn split_atom(text: &str, wild: bool) -> Option<(Atom, &str)>
-    ensures read { MatchOption result (chars text.now ≡ []) (λ p. atoms_of wild (chars text.now) ≡ p.0 ∷ atoms_of wild (chars p.1.now)) }
-    ensures shorter { MatchOption result (chars text.now ≡ []) (λ p. length (chars p.1.now) < length (chars text.now)) }
+    ensures read { MatchOption result (chars text.now ≡ [])
+        (λ p. atoms_of wild (chars text.now) ≡ p.0 ∷ atoms_of wild (chars p.1.now)) }
+    ensures shorter { MatchOption result (chars text.now ≡ [])
+        (λ p. length (chars p.1.now) < length (chars text.now)) }
 {
     let (c, rest) = split_char(text)?;
     match strip_prefix(text, "{USER}", false) {

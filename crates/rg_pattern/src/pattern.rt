@@ -75,7 +75,8 @@ impl Pattern {
     pub fn matches_counted(&self, value: &str, user: &str, fold: bool, work: &mut Tally) -> bool
         ensures exact { IsTrue result ↔ Stands fold (chars user.now) self.now (chars value.now) }
         ensures test { result ≡ stands fold (chars user.now) self.now (chars value.now) }
-        ensures work { work.new.count ≤ work.old.count + (length self.now + 1) * (length (chars value.now) + 1) }
+        ensures work { work.new.count ≤ work.old.count
+            + (length self.now + 1) * (length (chars value.now) + 1) }
     {
         matches_whole(&self.atoms, value, user, fold, work)
     }

@@ -38,7 +38,11 @@ pub(crate) fn roles_of(alloc: Global, rows: &[RoleRow]) -> Result<Roles, NoMemor
 /// The zones of sound facts.
 pub(crate) fn zones_of(alloc: Global, facts: &Facts) -> Result<ZoneMap, NoMemory>
     requires { sound facts.now ≡ true }
-    ensures { IfOk result (λ m. m ≡ record { zones = facts.now.zones.items; service = facts.now.service; def = facts.now.def }) }
+    ensures { IfOk result (λ m. m ≡ record {
+      zones = facts.now.zones.items;
+      service = facts.now.service;
+      def = facts.now.def;
+    }) }
 {
     let map = ZoneMap::build(
         alloc,
@@ -56,7 +60,8 @@ fn evaluators(
     side: Side,
     policies: &[Shared<Policy>],
 ) -> Result<Seq<Evaluator>, NoMemory>
-    requires { list_all (λ (p : Policy). is_none (policy_fault frame.now side p)) policies.now ≡ true }
+    requires { list_all (λ (p : Policy). is_none (policy_fault frame.now side p)) policies.now
+        ≡ true }
     ensures { IfOk result (λ list. list ≡ listed (sources_of frame.now side policies.now)) }
 {
     let mut steps = Steps::silent();

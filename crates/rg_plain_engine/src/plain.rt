@@ -88,7 +88,8 @@ fn ask_policies<'a>(
     tag: Option<&'a Tag>,
 ) -> Best<'a>
     requires { map (λ (s : Source). s.policy) evaluators.now ≡ policies.now }
-    ensures { result ≡ after pass setting.now (asked_for (option_map (λ t. t.now) tag.entry) evaluators.now) best.entry }
+    ensures { result ≡ after pass setting.now
+        (asked_for (option_map (λ t. t.now) tag.entry) evaluators.now) best.entry }
 {
     let mut steps = Steps::silent();
     let mut best = best;
@@ -116,7 +117,8 @@ fn ask_tags<'a>(
     tags: &'a [Tag],
 ) -> Best<'a>
     requires { map (λ (s : Source). s.policy) evaluators.now ≡ policies.now }
-    ensures { result ≡ after Pass.All setting.now (flat_map (λ tag. asked_for (Some tag) evaluators.now) tags.now) best.entry }
+    ensures { result ≡ after Pass.All setting.now
+        (flat_map (λ tag. asked_for (Some tag) evaluators.now) tags.now) best.entry }
 {
     let mut best = best;
     let mut tags = tags;
@@ -129,7 +131,8 @@ fn ask_tags<'a>(
 
 /// Whether the row, of which this is the matcher, reaches down to the resource.
 fn row_lies(request: &AccessRequest, row: &TagRow, matcher: &Matcher) -> bool
-    ensures { (facts : Facts) → matcher.now ≡ row_matching facts.def row.now → result ≡ row_lies facts request.now row.now }
+    ensures { (facts : Facts) → matcher.now ≡ row_matching facts.def row.now
+        → result ≡ row_lies facts request.now row.now }
 {
     let mut steps = Steps::silent();
     matcher.matches(&request.resource, "", &mut steps)
@@ -142,9 +145,11 @@ fn ask_rows<'a>(
     evaluators: &'a [Evaluator],
     matchers: &[Matcher],
 ) -> Best<'a>
-    requires policies { map (λ (s : Source). s.policy) evaluators.now ≡ facts.now.tag_policies.items }
+    requires policies { map (λ (s : Source). s.policy) evaluators.now
+        ≡ facts.now.tag_policies.items }
     requires rows { matchers.now ≡ map (row_matching facts.now.def) facts.now.tag_rows.items }
-    ensures { result ≡ after Pass.All setting.now (flat_map (λ tag. asked_for (Some tag) evaluators.now) (tags_of facts.now setting.now.request)) none_yet }
+    ensures { result ≡ after Pass.All setting.now (flat_map (λ tag. asked_for
+        (Some tag) evaluators.now) (tags_of facts.now setting.now.request)) none_yet }
 {
     let mut best = Best::none();
     let mut rows = facts.tag_rows.as_slice();
@@ -202,7 +207,8 @@ impl Plain {
 
     /// What is found by tag policies. Where there are none, no tag row is looked at.
     fn ask_tag_policies(&self, setting: &Setting) -> Best<'_>
-        ensures { result ≡ after Pass.All setting.now (flat_map (tag_candidates self.now) (tags_of self.now setting.now.request)) none_yet }
+        ensures { result ≡ after Pass.All setting.now
+            (flat_map (tag_candidates self.now) (tags_of self.now setting.now.request)) none_yet }
     {
         if self.held.tag_policies.is_empty() {
             return Best::none();

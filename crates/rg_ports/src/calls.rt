@@ -23,7 +23,12 @@ impl Model for Calls {
 
     ghost Value = { CallState };
 
-    ghost view = { λ c. record { made = c.made; faults = c.faults; pieces = c.pieces.items; fails = c.fails.items } };
+    ghost view = { λ c. record {
+      made = c.made;
+      faults = c.faults;
+      pieces = c.pieces.items;
+      fails = c.fails.items;
+    } };
 
     ghost invariant = { λ c. All (λ size. 0 < size) c.pieces.items };
 }

@@ -70,8 +70,10 @@ impl Watched {
     /// One read. It meets the end where it gives 0 for a room that isn't empty.
     pub(crate) fn read<R: Read>(&mut self, reader: &mut R, room: &mut [u8]) -> Result<usize, Failed>
         ensures within { IfOk result (λ n. n ≤ length room.old) }
-        ensures after { IfOk result (λ n. self.new ≡ after_machine_read (length room.old) n self.old) }
-        ensures failed { OnErr result (self.new ≡ record self.old { faults = self.old.faults + 1 }) }
+        ensures after { IfOk result
+            (λ n. self.new ≡ after_machine_read (length room.old) n self.old) }
+        ensures failed { OnErr result (self.new
+            ≡ record self.old { faults = self.old.faults + 1 }) }
     {
         match read_past_interrupts(reader, room) {
             Ok(n) => {
@@ -92,7 +94,8 @@ impl Watched {
         ensures within { IfOk result (λ n. n ≤ length piece.now) }
         ensures some { IfOk result (λ n. 0 < length piece.now → 0 < n) }
         ensures after { OnOk result (self.new ≡ self.old) }
-        ensures failed { OnErr result (self.new ≡ record self.old { faults = self.old.faults + 1 }) }
+        ensures failed { OnErr result (self.new
+            ≡ record self.old { faults = self.old.faults + 1 }) }
     {
         match write_past_interrupts(writer, piece) {
             Ok(0) if !piece.is_empty() => {

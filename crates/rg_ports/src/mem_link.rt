@@ -24,7 +24,12 @@ impl Model for MemLink {
 
     ghost Value = { LinkState };
 
-    ghost view = { λ l. record { left = l.bytes.left; ended = l.bytes.ended; held = l.held.items; calls = l.calls } };
+    ghost view = { λ l. record {
+      left = l.bytes.left;
+      ended = l.bytes.ended;
+      held = l.held.items;
+      calls = l.calls;
+    } };
 }
 
 impl MemLink {
@@ -34,7 +39,12 @@ impl MemLink {
     /// being counted from 1.
     pub fn new(bytes: Seq<u8>, held: Seq<u8>, pieces: Seq<u32>, fails: Seq<u64>) -> MemLink
         requires { All (λ size. 0 < size) pieces.items }
-        ensures { result ≡ record { left = bytes.items; ended = false; held = held.items; calls = untouched pieces.items fails.items } }
+        ensures { result ≡ record {
+          left = bytes.items;
+          ended = false;
+          held = held.items;
+          calls = untouched pieces.items fails.items;
+        } }
     {
         MemLink {
             bytes: Unread::new(bytes),
@@ -66,11 +76,14 @@ impl Link for MemLink {
     /// allow. The rest of the room stays as it was, and all of it after `Failed`.
     fn read(&mut self, room: &mut [u8]) -> Result<usize, Failed>
         ensures fails { IsErr result ↔ IsToFail self.old.calls }
-        ensures failed { OnErr result (self.new ≡ record self.old { calls = failed self.old.calls }) }
+        ensures failed { OnErr result (self.new
+            ≡ record self.old { calls = failed self.old.calls }) }
         ensures room { OnErr result (room.new ≡ room.old) }
-        ensures moved { IfOk result (λ n. n ≡ moves self.old.calls (min (length room.old) (length self.old.left))) }
+        ensures moved { IfOk result
+            (λ n. n ≡ moves self.old.calls (min (length room.old) (length self.old.left))) }
         ensures gave { IfOk result (λ n. room.new ≡ take n self.old.left ++ drop n room.old) }
-        ensures used_up { IfOk result (λ n. n ≡ 0 → 0 < length room.old → length self.old.left ≡ 0) }
+        ensures used_up { IfOk result (λ n. n ≡ 0
+            → 0 < length room.old → length self.old.left ≡ 0) }
         ensures steady { self.old.calls.fails ≡ [] → self.new.calls.faults ≡ self.old.calls.faults }
         ensures after { IfOk result (λ n. self.new ≡ link_read (length room.old) n self.old) }
     {
@@ -83,7 +96,8 @@ impl Link for MemLink {
     fn write(&mut self, piece: &[u8]) -> Result<usize, Failed>
         ensures fails { IsToFail self.old.calls → IsErr result }
         ensures empty { length piece.now ≡ 0 → IsErr result → IsToFail self.old.calls }
-        ensures failed { OnErr result (self.new ≡ record self.old { calls = failed self.old.calls }) }
+        ensures failed { OnErr result (self.new
+            ≡ record self.old { calls = failed self.old.calls }) }
         ensures within { IfOk result (λ n. n ≤ moves self.old.calls (length piece.now)) }
         ensures some { IfOk result (λ n. 0 < length piece.now → 0 < n) }
         ensures after { IfOk result (λ n. self.new ≡ link_write piece.now n self.old) }

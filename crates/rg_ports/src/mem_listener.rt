@@ -25,13 +25,23 @@ impl Model for MemListener {
 
     ghost Value = { ListenerState };
 
-    ghost view = { λ l. record { links = l.links.items; given = l.given; ended = l.met_end; calls = l.calls } };
+    ghost view = { λ l. record {
+      links = l.links.items;
+      given = l.given;
+      ended = l.met_end;
+      calls = l.calls;
+    } };
 }
 
 impl MemListener {
     /// Gives these links. `fails` lists the calls that are to fail, all calls being counted from 1.
     pub fn new(links: Vec<MemLink>, fails: Seq<u64>) -> MemListener
-        ensures { result ≡ record { links = links.items; given = 0; ended = false; calls = untouched [] fails.items } }
+        ensures { result ≡ record {
+          links = links.items;
+          given = 0;
+          ended = false;
+          calls = untouched [] fails.items;
+        } }
     {
         let fails = fails.into_vec();
         let no_sizes = Seq::new(*fails.allocator());
@@ -56,8 +66,10 @@ impl Listener for MemListener {
     /// Fails exactly where the call is listed. It is for any address.
     fn listen(&mut self, _address: &str) -> Result<(), Failed>
         ensures fails { IsErr result ↔ IsToFail self.old.calls }
-        ensures failed { OnErr result (self.new ≡ record self.old { calls = failed self.old.calls }) }
-        ensures after { OnOk result (self.new ≡ record self.old { calls = succeeded self.old.calls }) }
+        ensures failed { OnErr result (self.new
+            ≡ record self.old { calls = failed self.old.calls }) }
+        ensures after { OnOk result (self.new
+            ≡ record self.old { calls = succeeded self.old.calls }) }
     {
         if self.calls.is_to_fail() {
             self.calls.fail();
@@ -71,7 +83,8 @@ impl Listener for MemListener {
     /// links are used up.
     fn accept(&mut self) -> Result<Option<MemLink>, Failed>
         ensures fails { IsErr result ↔ IsToFail self.old.calls }
-        ensures failed { OnErr result (self.new ≡ record self.old { calls = failed self.old.calls }) }
+        ensures failed { OnErr result (self.new
+            ≡ record self.old { calls = failed self.old.calls }) }
         ensures after { IfOk result (λ link. Gives self.old link self.new) }
     {
         if self.calls.is_to_fail() {

@@ -31,7 +31,8 @@ impl MemSink {
     /// empty list sets no bound. No size is 0. `fails` lists the calls that are to fail, all calls being counted from 1.
     pub fn new(held: Seq<u8>, pieces: Seq<u32>, fails: Seq<u64>) -> MemSink
         requires { All (λ size. 0 < size) pieces.items }
-        ensures { result ≡ record { held = held.items; calls = untouched pieces.items fails.items } }
+        ensures { result
+            ≡ record { held = held.items; calls = untouched pieces.items fails.items } }
     {
         MemSink {
             bytes: held,
@@ -60,7 +61,8 @@ impl Sink for MemSink {
     fn write(&mut self, piece: &[u8]) -> Result<usize, Failed>
         ensures fails { IsToFail self.old.calls → IsErr result }
         ensures empty { length piece.now ≡ 0 → IsErr result → IsToFail self.old.calls }
-        ensures failed { OnErr result (self.new ≡ record self.old { calls = failed self.old.calls }) }
+        ensures failed { OnErr result (self.new
+            ≡ record self.old { calls = failed self.old.calls }) }
         ensures within { IfOk result (λ n. n ≤ moves self.old.calls (length piece.now)) }
         ensures some { IfOk result (λ n. 0 < length piece.now → 0 < n) }
         ensures after { IfOk result (λ n. self.new ≡ after_write piece.now n self.old) }

@@ -31,7 +31,11 @@ impl MemSource {
     /// counted from 1.
     pub fn new(bytes: Seq<u8>, pieces: Seq<u32>, fails: Seq<u64>) -> MemSource
         requires { All (λ size. 0 < size) pieces.items }
-        ensures { result ≡ record { left = bytes.items; ended = false; calls = untouched pieces.items fails.items } }
+        ensures { result ≡ record {
+          left = bytes.items;
+          ended = false;
+          calls = untouched pieces.items fails.items;
+        } }
     {
         MemSource {
             bytes: Unread::new(bytes),
@@ -53,11 +57,14 @@ impl Source for MemSource {
     /// allow. The rest of the room stays as it was, and all of it after `Failed`.
     fn read(&mut self, room: &mut [u8]) -> Result<usize, Failed>
         ensures fails { IsErr result ↔ IsToFail self.old.calls }
-        ensures failed { OnErr result (self.new ≡ record self.old { calls = failed self.old.calls }) }
+        ensures failed { OnErr result (self.new
+            ≡ record self.old { calls = failed self.old.calls }) }
         ensures room { OnErr result (room.new ≡ room.old) }
-        ensures moved { IfOk result (λ n. n ≡ moves self.old.calls (min (length room.old) (length self.old.left))) }
+        ensures moved { IfOk result
+            (λ n. n ≡ moves self.old.calls (min (length room.old) (length self.old.left))) }
         ensures gave { IfOk result (λ n. room.new ≡ take n self.old.left ++ drop n room.old) }
-        ensures used_up { IfOk result (λ n. n ≡ 0 → 0 < length room.old → length self.old.left ≡ 0) }
+        ensures used_up { IfOk result (λ n. n ≡ 0
+            → 0 < length room.old → length self.old.left ≡ 0) }
         ensures steady { self.old.calls.fails ≡ [] → self.new.calls.faults ≡ self.old.calls.faults }
         ensures after { IfOk result (λ n. self.new ≡ after_read (length room.old) n self.old) }
     {

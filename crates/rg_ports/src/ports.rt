@@ -22,11 +22,14 @@ pub trait Source {
     fn read(&mut self, room: &mut [u8]) -> Result<usize, Failed>
         ensures within { IfOk result (λ n. n ≤ length room.old) }
         ensures gave { IfOk result (λ n. Gave (left self.old) (left self.new) n room.new) }
-        ensures ended { IfOk result (λ n. ended self.new ≡ (ended self.old || (n == 0 && nat_lt 0 (length room.old)))) }
-        ensures used_up { IfOk result (λ n. n ≡ 0 → 0 < length room.old → IsUsedUp (left self.old)) }
+        ensures ended { IfOk result
+            (λ n. ended self.new ≡ (ended self.old || (n == 0 && nat_lt 0 (length room.old)))) }
+        ensures used_up { IfOk result (λ n. n ≡ 0
+            → 0 < length room.old → IsUsedUp (left self.old)) }
         ensures kept { OnOk result (faults self.new ≡ faults self.old) }
         ensures failed { OnErr result (faults self.old < faults self.new) }
-        ensures unread { OnErr result ((left self.new ≡ left self.old) × (ended self.new ≡ ended self.old)) };
+        ensures unread { OnErr result ((left self.new ≡ left self.old)
+            × (ended self.new ≡ ended self.old)) };
 }
 
 /// Where bytes go, in order. The count of its faults rises where a call fails, and stands still where it succeeds.
@@ -68,11 +71,14 @@ pub trait Link: Send {
     fn read(&mut self, room: &mut [u8]) -> Result<usize, Failed>
         ensures within { IfOk result (λ n. n ≤ length room.old) }
         ensures gave { IfOk result (λ n. Gave (left self.old) (left self.new) n room.new) }
-        ensures ended { IfOk result (λ n. ended self.new ≡ (ended self.old || (n == 0 && nat_lt 0 (length room.old)))) }
-        ensures used_up { IfOk result (λ n. n ≡ 0 → 0 < length room.old → IsUsedUp (left self.old)) }
+        ensures ended { IfOk result
+            (λ n. ended self.new ≡ (ended self.old || (n == 0 && nat_lt 0 (length room.old)))) }
+        ensures used_up { IfOk result (λ n. n ≡ 0
+            → 0 < length room.old → IsUsedUp (left self.old)) }
         ensures kept { OnOk result (faults self.new ≡ faults self.old) }
         ensures failed { OnErr result (faults self.old < faults self.new) }
-        ensures unread { OnErr result ((left self.new ≡ left self.old) × (ended self.new ≡ ended self.old)) }
+        ensures unread { OnErr result ((left self.new ≡ left self.old)
+            × (ended self.new ≡ ended self.old)) }
         ensures unwritten { held self.new ≡ held self.old };
 
     /// Takes bytes from the front of the piece, at least one of a piece that isn't empty, and says how many it took.
@@ -109,11 +115,14 @@ pub trait Listener {
 
     /// The next link; None where no link is to come.
     fn accept(&mut self) -> Result<Option<Self::Link>, Failed>
-        ensures given { IfOk result (λ link. given self.new ≡ given self.old + length (option_to_list link)) }
-        ensures ended { IfOk result (λ link. MatchOption link (ended self.new ≡ true) (λ _. ended self.new ≡ ended self.old)) }
+        ensures given { IfOk result
+            (λ link. given self.new ≡ given self.old + length (option_to_list link)) }
+        ensures ended { IfOk result (λ link. MatchOption link (ended self.new ≡ true)
+            (λ _. ended self.new ≡ ended self.old)) }
         ensures kept { OnOk result (faults self.new ≡ faults self.old) }
         ensures failed { OnErr result (faults self.old < faults self.new) }
-        ensures unaccepted { OnErr result ((given self.new ≡ given self.old) × (ended self.new ≡ ended self.old)) };
+        ensures unaccepted { OnErr result
+            ((given self.new ≡ given self.old) × (ended self.new ≡ ended self.old)) };
 }
 
 /// The time. It can't fail.

@@ -26,7 +26,8 @@ fn append(held: &mut Seq<u8>, bytes: &[u8]) -> usize
 pub fn take_bytes(held: &mut Seq<u8>, calls: &mut Calls, piece: &[u8]) -> Result<usize, Failed>
     ensures fails { IsToFail calls.old → IsErr result }
     ensures empty { length piece.now ≡ 0 → IsErr result → IsToFail calls.old }
-    ensures failed { OnErr result ((held.new.items ≡ held.old.items) × (calls.new ≡ failed calls.old)) }
+    ensures failed { OnErr result ((held.new.items ≡ held.old.items)
+        × (calls.new ≡ failed calls.old)) }
     ensures within { IfOk result (λ n. n ≤ moves calls.old (length piece.now)) }
     ensures some { IfOk result (λ n. 0 < length piece.now → 0 < n) }
     ensures after { IfOk result (λ n. held.new.items ≡ held.old.items ++ take n piece.now) }

@@ -54,9 +54,11 @@ impl Unread {
         ensures fails { IsErr result ↔ IsToFail calls.old }
         ensures failed { OnErr result ((self.new ≡ self.old) × (calls.new ≡ failed calls.old)) }
         ensures room { OnErr result (room.new ≡ room.old) }
-        ensures moved { IfOk result (λ n. n ≡ moves calls.old (min (length room.old) (length self.old.left))) }
+        ensures moved { IfOk result
+            (λ n. n ≡ moves calls.old (min (length room.old) (length self.old.left))) }
         ensures gave { IfOk result (λ n. room.new ≡ take n self.old.left ++ drop n room.old) }
-        ensures used_up { IfOk result (λ n. n ≡ 0 → 0 < length room.old → length self.old.left ≡ 0) }
+        ensures used_up { IfOk result (λ n. n ≡ 0
+            → 0 < length room.old → length self.old.left ≡ 0) }
         ensures after { IfOk result (λ n. self.new ≡ after_reading (length room.old) n self.old) }
         ensures succeeded { IfOk result (λ n. calls.new ≡ succeeded calls.old) }
     {

@@ -43,7 +43,8 @@ pub trait Keeper {
     fn append(&mut self, alloc: Global, entry: &[u8]) -> Result<(), KeeperFault>
         ensures stored { OnOk result (Gets (kept self.old) entry.now (kept self.new)) }
         ensures refused { OnErr result (MayGet (kept self.old) entry.now (kept self.new)) }
-        ensures moments { Passes (moment self.old) (moment self.new) (left_since self.old) (left_since self.new) (WithOrWithout (kept self.old) entry.now) }
+        ensures moments { Passes (moment self.old) (moment self.new)
+            (left_since self.old) (left_since self.new) (WithOrWithout (kept self.old) entry.now) }
         ensures counted { faults self.old ≤ faults self.new }
         ensures failed { IsErrOf result KeeperFault.Failed → faults self.old < faults self.new };
 
@@ -51,13 +52,16 @@ pub trait Keeper {
     fn fetch(&mut self, alloc: Global, place: u64) -> Result<Option<Seq<u8>>, KeeperFault>
         ensures found { IfOk result (λ found. IsAt (kept self.old) place found) }
         ensures same { kept self.new ≡ kept self.old }
-        ensures moments { Passes (moment self.old) (moment self.new) (left_since self.old) (left_since self.new) Nothing }
+        ensures moments { Passes (moment self.old)
+            (moment self.new) (left_since self.old) (left_since self.new) Nothing }
         ensures counted { faults self.old ≤ faults self.new }
         ensures failed { IsErrOf result KeeperFault.Failed → faults self.old < faults self.new };
 
     /// A crash at this moment is one since any earlier one, and leaves the list.
-    ghost counts_now: { (keeper : Self) (t : ℕ) (records : List (List ℕ)) → t ≤ moment keeper → kept keeper ≡ Some records → left_since keeper t records };
+    ghost counts_now: { (keeper : Self) (t : ℕ) (records : List (List ℕ))
+        → t ≤ moment keeper → kept keeper ≡ Some records → left_since keeper t records };
 
     /// A crash since this moment leaves nothing but the list.
-    ghost only_now: { (keeper : Self) (records left : List (List ℕ)) → kept keeper ≡ Some records → left_since keeper (moment keeper) left → left ≡ records };
+    ghost only_now: { (keeper : Self) (records left : List (List ℕ))
+        → kept keeper ≡ Some records → left_since keeper (moment keeper) left → left ≡ records };
 }

@@ -34,13 +34,23 @@ impl Model for MemKeeper {
 
     ghost Value = { MemState };
 
-    ghost view = { λ k. record { kept = map (λ bytes. bytes.items) k.records.items; fails = k.fails.items; made = k.made; faults = k.faults.count } };
+    ghost view = { λ k. record {
+      kept = map (λ bytes. bytes.items) k.records.items;
+      fails = k.fails.items;
+      made = k.made;
+      faults = k.faults.count;
+    } };
 }
 
 impl MemKeeper {
     /// Keeps records behind these. `fails` lists the calls that are to fail; of two with one number the first counts.
     pub fn new(records: Seq<Seq<u8>>, fails: Seq<FailingCall>) -> MemKeeper
-        ensures { result ≡ record { kept = map (λ bytes. bytes.items) records.items; fails = fails.items; made = 0; faults = 0 } }
+        ensures { result ≡ record {
+          kept = map (λ bytes. bytes.items) records.items;
+          fails = fails.items;
+          made = 0;
+          faults = 0;
+        } }
     {
         MemKeeper {
             records,
@@ -82,7 +92,8 @@ impl MemKeeper {
 
     /// Keeps the record where that is listed, and counts a fault.
     fn fail_to_keep(&mut self, alloc: Global, entry: &[u8], keeps: bool) -> Result<(), NoMemory>
-        ensures ok { OnOk result (self.new ≡ record (as_listed keeps entry.now self.old) { faults = self.old.faults + 1 }) }
+        ensures ok { OnOk result (self.new
+            ≡ record (as_listed keeps entry.now self.old) { faults = self.old.faults + 1 }) }
         ensures err { OnErr result (self.new ≡ self.old) }
     {
         if keeps {
@@ -94,7 +105,8 @@ impl MemKeeper {
 
     /// A copy of the record at the place.
     fn copy_at(&self, alloc: Global, place: u64) -> Result<Option<Seq<u8>>, NoMemory>
-        ensures { IfOk result (λ found. option_map (λ bytes. bytes.items) found ≡ slice_get self.now.kept place) }
+        ensures { IfOk result
+            (λ found. option_map (λ bytes. bytes.items) found ≡ slice_get self.now.kept place) }
     {
         let Ok(place) = usize::try_from(place) else {
             return Ok(None);
@@ -127,7 +139,8 @@ impl Keeper for MemKeeper {
     fn append(&mut self, alloc: Global, entry: &[u8]) -> Result<(), KeeperFault>
         ensures fails { OnOk result (failing self.old ≡ None) }
         ensures after { OnOk result (self.new ≡ with_record entry.now (after_call self.old)) }
-        ensures failed { IsErrOf result KeeperFault.Failed → IsFailed (failing self.old) (λ call. as_listed call.keeps entry.now (after_fault self.old)) self.new }
+        ensures failed { IsErrOf result KeeperFault.Failed → IsFailed (failing self.old)
+            (λ call. as_listed call.keeps entry.now (after_fault self.old)) self.new }
         ensures no_memory { IsErrOf result KeeperFault.NoMemory → self.new ≡ after_call self.old }
     {
         match self.begin_call() {
@@ -142,9 +155,11 @@ impl Keeper for MemKeeper {
     /// Fails exactly where the call is listed.
     fn fetch(&mut self, alloc: Global, place: u64) -> Result<Option<Seq<u8>>, KeeperFault>
         ensures fails { OnOk result (failing self.old ≡ None) }
-        ensures found { IfOk result (λ found. option_map (λ bytes. bytes.items) found ≡ slice_get self.old.kept place) }
+        ensures found { IfOk result
+            (λ found. option_map (λ bytes. bytes.items) found ≡ slice_get self.old.kept place) }
         ensures after { OnOk result (self.new ≡ after_call self.old) }
-        ensures failed { IsErrOf result KeeperFault.Failed → IsFailed (failing self.old) (λ call. after_fault self.old) self.new }
+        ensures failed { IsErrOf result KeeperFault.Failed
+            → IsFailed (failing self.old) (λ call. after_fault self.old) self.new }
         ensures no_memory { IsErrOf result KeeperFault.NoMemory → self.new ≡ after_call self.old }
     {
         match self.begin_call() {

@@ -48,7 +48,13 @@ impl<J: Configured, K: Keeper + Drop, W: Wait + Drop> Model for ListRecorder<J, 
 
     ghost Value = { Recorded K };
 
-    ghost view = { λ r. record { keeper = r.keeper; config = J.config; place = r.place; next = r.next; stopped = r.is_stopped } };
+    ghost view = { λ r. record {
+      keeper = r.keeper;
+      config = J.config;
+      place = r.place;
+      next = r.next;
+      stopped = r.is_stopped;
+    } };
 
     ghost invariant = { λ r. r.is_stopped ≡ false → Stands (K.kept r.keeper) r.place r.next };
 }
@@ -100,7 +106,8 @@ impl<J: Configured, K: Keeper + Drop, W: Wait + Drop> ListRecorder<J, K, W> {
         ensures same { IfOk result (λ r. K.kept r.keeper ≡ K.kept keeper) }
         ensures going { IfOk result (λ r. (r.place ≡ 0) × (r.stopped ≡ false)) }
         ensures back { IfErr result (λ u. K.kept u.keeper ≡ K.kept keeper) }
-        ensures failed { IfErr result (λ u. u.cause ≡ KeeperFault.Failed → K.faults keeper < K.faults u.keeper) }
+        ensures failed { IfErr result (λ u. u.cause ≡ KeeperFault.Failed
+            → K.faults keeper < K.faults u.keeper) }
     {
         let mut keeper = keeper;
         let next = match keeper.fetch(alloc, 0) {
@@ -176,7 +183,8 @@ impl<J: Configured, K: Keeper + Drop, W: Wait + Drop> ListRecorder<J, K, W> {
         requires going { self.old.stopped ≡ false }
         requires behind { is_none self.old.next ≡ false }
         requires room { self.old.place < most_kept }
-        ensures ok { OnOk result ((entry : List ℕ) → IsNext self.old.next entry → Takes K.kept self.old entry self.new) }
+        ensures ok { OnOk result ((entry : List ℕ)
+            → IsNext self.old.next entry → Takes K.kept self.old entry self.new) }
         ensures err { OnErr result (Stays K.kept self.old self.new) }
     {
         let place = self.place + 1;
@@ -265,7 +273,8 @@ impl<J: Configured, K: Keeper + Drop, W: Wait + Drop> Recorder for ListRecorder<
 
     ghost undoes = { λ r a. IsUndone K.kept r a };
 
-    ghost refusals_count_for_nothing = { λ r a is. held_refused r.stopped (seen (K.kept r.keeper) r.place r.next) r.config a is };
+    ghost refusals_count_for_nothing = { λ r a is.
+        held_refused r.stopped (seen (K.kept r.keeper) r.place r.next) r.config a is };
 
     fn record(&mut self, alloc: Global, ask: &Ask) -> Result<(), NoMemory> {
         if !is_keeping(&ask.command) {
@@ -288,7 +297,8 @@ pub fn recorder_of<J: Configured, K: Keeper + Drop, W: Wait + Drop>(
     admin: Admin<ListRecorder<J, K, W>>,
 ) -> ListRecorder<J, K, W>
     ensures held { IsHeld K.kept result admin }
-    ensures level { is_none result.next ≡ true → IsKeptOr result.stopped (K.kept result.keeper) J.config admin }
+    ensures level { is_none result.next ≡ true
+        → IsKeptOr result.stopped (K.kept result.keeper) J.config admin }
 {
     admin.into_recorder()
 }

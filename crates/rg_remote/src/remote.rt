@@ -30,7 +30,15 @@ impl<T: Link + Drop> Model for Remote<T> {
 
     ghost Value = { Far };
 
-    ghost view = { λ r. record { left = T.left r.link; held = T.held r.link; bytes = r.client.bytes; live = r.client.live; host = r.host; user = r.user; service = r.service } };
+    ghost view = { λ r. record {
+      left = T.left r.link;
+      held = T.held r.link;
+      bytes = r.client.bytes;
+      live = r.client.live;
+      host = r.host;
+      user = r.user;
+      service = r.service;
+    } };
 }
 
 impl<T: Link + Drop> Remote<T> {
@@ -42,7 +50,15 @@ impl<T: Link + Drop> Remote<T> {
         user: Text,
         service: Text,
     ) -> Result<Remote<T>, NoMemory>
-        ensures { IfOk result (λ r. r ≡ record { left = T.left link; held = T.held link; bytes = []; live = true; host = host; user = user; service = service }) }
+        ensures { IfOk result (λ r. r ≡ record {
+          left = T.left link;
+          held = T.held link;
+          bytes = [];
+          live = true;
+          host = host;
+          user = user;
+          service = service;
+        }) }
     {
         match Client::new(alloc) {
             Ok(client) => Ok(Remote {
@@ -63,7 +79,8 @@ impl<T: Link + Drop> Remote<T> {
         path: &str,
         from: Option<Version>,
     ) -> Result<Response, AskFault>
-        ensures { IfOk result (λ r. WasReplied (target (chars path.now) self.old.service from) self.old self.new r) }
+        ensures { IfOk result
+            (λ r. WasReplied (target (chars path.now) self.old.service from) self.old self.new r) }
     {
         if !self.client.is_live() {
             return Err(AskFault::Client(ClientFault::Failed));
@@ -90,7 +107,8 @@ impl<T: Link + Drop> Remote<T> {
         path: &str,
         from: Option<Version>,
     ) -> Result<Option<Seq<u8>>, AskFault>
-        ensures { IfOk result (λ body. WasGiven (chars path.now) self.old from (option_map (λ b. b.items) body) self.new) }
+        ensures { IfOk result (λ body. WasGiven
+            (chars path.now) self.old from (option_map (λ b. b.items) body) self.new) }
     {
         let reply = match self.ask(alloc, path, from) {
             Ok(reply) => reply,

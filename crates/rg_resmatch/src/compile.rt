@@ -33,7 +33,8 @@ fn levels_of(
 }
 
 fn name_at<'a>(levels: &'a [Level], place: usize) -> Option<&'a Text>
-    ensures { option_map (λ t. t.now) result ≡ option_map (λ (l : Level). l.name) (slice_get levels.now place) }
+    ensures { option_map (λ t. t.now) result
+        ≡ option_map (λ (l : Level). l.name) (slice_get levels.now place) }
 {
     match levels.get(place) {
         Some(level) => Some(&level.name),
@@ -49,7 +50,8 @@ fn with_name(
     name: Option<&Text>,
 ) -> Result<Seq<Text>, NoMemory>
     requires { names ≡ listed names.items }
-    ensures { IfOk result (λ longer. longer ≡ listed (names.items ++ option_to_list (option_map (λ t. t.now) name.entry))) }
+    ensures { IfOk result (λ longer. longer
+        ≡ listed (names.items ++ option_to_list (option_map (λ t. t.now) name.entry))) }
 {
     let Some(name) = name else {
         return Ok(names);
@@ -75,7 +77,8 @@ fn names_on_paths(
     paths: &Paths,
     resources: &[PolicyResource],
 ) -> Result<Vec<Seq<Text>>, NoMemory>
-    ensures { IfOk result (λ v. v.items ≡ named_paths paths.now resources.now (map listed (paths_of paths.now))) }
+    ensures { IfOk result
+        (λ v. v.items ≡ named_paths paths.now resources.now (map listed (paths_of paths.now))) }
 {
     let mut named = Vec::new(alloc);
     let all = paths.as_slice();
@@ -94,7 +97,8 @@ fn paths_for(
     resources: &[PolicyResource],
     reach: Reach,
 ) -> Result<Option<Vec<Seq<Text>>>, NoMemory>
-    ensures { IfOk result (λ p. option_map (λ v. v.items) p ≡ paths_for reach def.now.levels.items resources.now) }
+    ensures { IfOk result
+        (λ p. option_map (λ v. v.items) p ≡ paths_for reach def.now.levels.items resources.now) }
 {
     match reach {
         Reach::Exact => Ok(None),

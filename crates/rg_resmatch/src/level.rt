@@ -31,7 +31,13 @@ impl Model for CompiledLevel {
 
     ghost Value = { LevelForm };
 
-    ghost view = { λ l. record { name = l.name; patterns = l.patterns.items; excludes = l.excludes; fold = l.fold; alone = l.alone } };
+    ghost view = { λ l. record {
+      name = l.name;
+      patterns = l.patterns.items;
+      excludes = l.excludes;
+      fold = l.fold;
+      alone = l.alone;
+    } };
 }
 
 fn patterns_at(
@@ -40,7 +46,8 @@ fn patterns_at(
     resource: &PolicyResource,
 ) -> Result<Vec<Pattern>, NoMemory>
     requires { list_all is_name resource.now.values.items ≡ true }
-    ensures { IfOk result (λ v. v.items ≡ patterns_at (option_map (λ l. l.now) level.entry) resource.now) }
+    ensures { IfOk result
+        (λ v. v.items ≡ patterns_at (option_map (λ l. l.now) level.entry) resource.now) }
 {
     let Some(level) = level else {
         return Ok(Vec::new(alloc));
@@ -129,7 +136,8 @@ impl CompiledLevel {
 
     /// Whether the level matches this value of the request, None where the request doesn't name it.
     pub(crate) fn meets(&self, value: Option<&str>, user: &str) -> bool
-        ensures { result ≡ form_meets (chars user.now) self.now (option_map (λ v. chars v.now) value.entry) }
+        ensures { result
+            ≡ form_meets (chars user.now) self.now (option_map (λ v. chars v.now) value.entry) }
     {
         match value {
             Some(value) => self.is_hit(value, user),

@@ -42,7 +42,11 @@ impl Model for CompiledMap {
 
     ghost Value = { MapForm };
 
-    ghost view = { λ m. record { levels = m.levels.items; paths = option_map (λ v. v.items) m.paths; written = m.written.value } };
+    ghost view = { λ m. record {
+      levels = m.levels.items;
+      paths = option_map (λ v. v.items) m.paths;
+      written = m.written.value;
+    } };
 }
 
 /// The value that the request has for this level.
@@ -56,7 +60,8 @@ fn value_at<'a>(elements: &'a [Element], name: &str) -> Option<&'a str>
 }
 
 fn all_met(levels: &[CompiledLevel], elements: &[Element], user: &str) -> bool
-    ensures { result ≡ list_all (λ (l : LevelForm). form_meets (chars user.now) l (value_at elements.now l.name)) levels.now }
+    ensures { result ≡ list_all (λ (l : LevelForm).
+        form_meets (chars user.now) l (value_at elements.now l.name)) levels.now }
 {
     levels.iter().all(|level| level.meets(value_at(elements, level.name()), user))
 }
@@ -78,13 +83,15 @@ fn lie_on(path: &[Text], elements: &[Element]) -> bool
 }
 
 fn on_some_path(paths: &[Seq<Text>], elements: &[Element]) -> bool
-    ensures { result ≡ list_any (λ (names : Listed (List ℕ)). list_all (λ (e : Element). is_among e.level names.items) elements.now) paths.now }
+    ensures { result ≡ list_any (λ (names : Listed (List ℕ)). list_all
+        (λ (e : Element). is_among e.level names.items) elements.now) paths.now }
 {
     paths.iter().any(|path| lie_on(path.as_slice(), elements))
 }
 
 fn tag_value<'a>(name: &str, tag: &'a str) -> Option<&'a str>
-    ensures { option_map (λ v. chars v.now) result ≡ value_at (tag_elements (chars tag.now)) (chars name.now) }
+    ensures { option_map (λ v. chars v.now) result
+        ≡ value_at (tag_elements (chars tag.now)) (chars name.now) }
 {
     if same_text(tag_name(), name) {
         Some(tag)
@@ -94,7 +101,8 @@ fn tag_value<'a>(name: &str, tag: &'a str) -> Option<&'a str>
 }
 
 fn all_met_by_tag(levels: &[CompiledLevel], tag: &str, user: &str) -> bool
-    ensures { result ≡ list_all (λ (l : LevelForm). form_meets (chars user.now) l (value_at (tag_elements (chars tag.now)) l.name)) levels.now }
+    ensures { result ≡ list_all (λ (l : LevelForm). form_meets
+        (chars user.now) l (value_at (tag_elements (chars tag.now)) l.name)) levels.now }
 {
     levels
         .iter()
@@ -102,7 +110,8 @@ fn all_met_by_tag(levels: &[CompiledLevel], tag: &str, user: &str) -> bool
 }
 
 fn has_tag(paths: &[Seq<Text>]) -> bool
-    ensures { result ≡ list_any (λ (names : Listed (List ℕ)). is_among tag_name names.items) paths.now }
+    ensures { result
+        ≡ list_any (λ (names : Listed (List ℕ)). is_among tag_name names.items) paths.now }
 {
     paths
         .iter()

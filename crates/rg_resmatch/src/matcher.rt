@@ -40,7 +40,11 @@ impl Model for Matcher {
 
     ghost Value = { Matching };
 
-    ghost view = { λ m. record { def = m.def.value; maps = written_maps m.maps.items; reach = m.reach.value } };
+    ghost view = { λ m. record {
+      def = m.def.value;
+      maps = written_maps m.maps.items;
+      reach = m.reach.value;
+    } };
 
     ghost invariant = { λ m. Answers m.maps.items m.def.value m.reach.value };
 }
@@ -71,7 +75,8 @@ fn one_map(
     reach: Reach,
 ) -> Result<Vec<CompiledMap>, NoMemory>
     requires values { values_fit def.now resources.now.items ≡ true }
-    ensures { IfOk result (λ v. v.items ≡ map_forms def.now reach (record { levels = resources.now } ∷ [])) }
+    ensures { IfOk result
+        (λ v. v.items ≡ map_forms def.now reach (record { levels = resources.now } ∷ [])) }
 {
     let form = CompiledMap::compile(alloc, def, resources, reach)?;
     let mut compiled = Vec::new(alloc);
@@ -128,7 +133,11 @@ impl Matcher {
     ) -> Result<Matcher, NoMemory>
         requires levels { levels_fit def.now false resources.now.items ≡ true }
         requires values { values_fit def.now resources.now.items ≡ true }
-        ensures { IfOk result (λ m. m ≡ record { def = def.now; maps = record { levels = resources.now } ∷ []; reach = reach }) }
+        ensures { IfOk result (λ m. m ≡ record {
+          def = def.now;
+          maps = record { levels = resources.now } ∷ [];
+          reach = reach;
+        }) }
     {
         let compiled = one_map(alloc, def, resources, reach)?;
         Ok(Matcher::from_compiled(compiled, def, reach))
@@ -143,7 +152,8 @@ impl Matcher {
     ) -> Result<Matcher, NoMemory>
         requires levels { all_levels_fit def.now false (maps_of policy.now) ≡ true }
         requires values { all_values_fit def.now (maps_of policy.now) ≡ true }
-        ensures { IfOk result (λ m. m ≡ record { def = def.now; maps = maps_of policy.now; reach = reach }) }
+        ensures { IfOk result
+            (λ m. m ≡ record { def = def.now; maps = maps_of policy.now; reach = reach }) }
     {
         let first = one_map(alloc, def, &policy.resources, reach)?;
         let compiled = with_maps(alloc, first, def, policy.additional.as_slice(), reach)?;
@@ -152,7 +162,8 @@ impl Matcher {
 
     /// Whether some map lies on the resource of a request of this user. One try is counted. It takes no memory.
     pub fn matches<L: Ledger>(&self, resource: &Resource, user: &str, steps: &mut Steps<L>) -> bool
-        ensures answer { result ≡ some_lies self.now.def self.now.maps self.now.reach resource.now.elements.items (chars user.now) }
+        ensures answer { result ≡ some_lies
+            self.now.def self.now.maps self.now.reach resource.now.elements.items (chars user.now) }
         ensures tries { steps.new ≡ one_try steps.old }
     {
         steps.attempt();
@@ -161,7 +172,8 @@ impl Matcher {
 
     /// As `matches`, for a resource whose one element has the level `tag` and this value.
     pub fn matches_tag<L: Ledger>(&self, tag: &str, user: &str, steps: &mut Steps<L>) -> bool
-        ensures answer { result ≡ some_lies self.now.def self.now.maps self.now.reach (tag_elements (chars tag.now)) (chars user.now) }
+        ensures answer { result ≡ some_lies self.now.def self.now.maps self.now.reach
+            (tag_elements (chars tag.now)) (chars user.now) }
         ensures tries { steps.new ≡ one_try steps.old }
     {
         steps.attempt();

@@ -26,7 +26,8 @@ fn part_levels<'a>(def: &'a ServiceDef, policy: &Policy) -> &'a [Text]
 }
 
 fn all_among(levels: &[Text], resources: &[PolicyResource]) -> bool
-    ensures { result ≡ list_all (λ (r : PolicyResource). is_among r.level levels.now) resources.now }
+    ensures { result
+        ≡ list_all (λ (r : PolicyResource). is_among r.level levels.now) resources.now }
 {
     resources
         .iter()
@@ -44,7 +45,8 @@ fn are_listed(levels: &[Text], resources: &[PolicyResource]) -> bool
 }
 
 fn all_listed(levels: &[Text], maps: &[ResourceMap]) -> bool
-    ensures { result ≡ list_all (λ (m : ResourceMap). are_listed levels.now m.levels.items) maps.now }
+    ensures { result
+        ≡ list_all (λ (m : ResourceMap). are_listed levels.now m.levels.items) maps.now }
 {
     maps.iter()
         .all(|map| are_listed(levels, map.levels.as_slice()))
@@ -60,7 +62,8 @@ fn levels_of_maps_fit(def: &PathedDef, policy: &Policy) -> bool
 
 /// Whether each level of each map is one of these, where there are any.
 fn maps_are_listed(levels: &[Text], policy: &Policy) -> bool
-    ensures { result ≡ list_all (λ (m : ResourceMap). are_listed levels.now m.levels.items) (maps_of policy.now) }
+    ensures { result ≡ list_all (λ (m : ResourceMap). are_listed levels.now m.levels.items)
+        (maps_of policy.now) }
 {
     are_listed(levels, policy.resources.as_slice())
         && all_listed(levels, policy.additional.as_slice())

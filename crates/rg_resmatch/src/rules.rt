@@ -12,7 +12,8 @@ use rg_pattern::value_fits;
 use rg_policy::{PolicyResource, ResourceMap};
 
 fn are_levels(levels: &[Level], resources: &[PolicyResource]) -> bool
-    ensures { result ≡ list_all (λ (r : PolicyResource). has_level levels.now r.level) resources.now }
+    ensures { result
+        ≡ list_all (λ (r : PolicyResource). has_level levels.now r.level) resources.now }
 {
     resources
         .iter()

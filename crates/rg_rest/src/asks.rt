@@ -39,7 +39,8 @@ fn id_of(digits: &str) -> i64
 }
 
 fn put_def(alloc: Global, body: &[u8]) -> Result<Call, WireFault>
-    ensures { Answers result (call_from (λ def. plain (AdminCommand.PutDef def)) (reading service_def_shape service_def_of body.now)) }
+    ensures { Answers result (call_from (λ def. plain (AdminCommand.PutDef def))
+        (reading service_def_shape service_def_of body.now)) }
 {
     match read_def(alloc, body) {
         Ok(def) => Ok(plain(AdminCommand::PutDef { def })),
@@ -48,7 +49,8 @@ fn put_def(alloc: Global, body: &[u8]) -> Result<Call, WireFault>
 }
 
 fn create_service(alloc: Global, body: &[u8]) -> Result<Call, WireFault>
-    ensures { Answers result (call_from (λ service. plain (AdminCommand.CreateService service)) (reading service_shape service_of body.now)) }
+    ensures { Answers result (call_from (λ service. plain (AdminCommand.CreateService service))
+        (reading service_shape service_of body.now)) }
 {
     match read_service(alloc, body) {
         Ok(service) => Ok(plain(AdminCommand::CreateService { service })),
@@ -57,7 +59,8 @@ fn create_service(alloc: Global, body: &[u8]) -> Result<Call, WireFault>
 }
 
 fn create_policy(alloc: Global, body: &[u8]) -> Result<Call, WireFault>
-    ensures { Answers result (call_from (λ policy. plain (AdminCommand.CreatePolicy policy)) (reading policy_shape policy_of body.now)) }
+    ensures { Answers result (call_from (λ policy. plain (AdminCommand.CreatePolicy policy))
+        (reading policy_shape policy_of body.now)) }
 {
     match read_policy(alloc, body) {
         Ok(policy) => Ok(plain(AdminCommand::CreatePolicy { policy })),
@@ -66,7 +69,8 @@ fn create_policy(alloc: Global, body: &[u8]) -> Result<Call, WireFault>
 }
 
 fn put_role(alloc: Global, body: &[u8]) -> Result<Call, WireFault>
-    ensures { Answers result (call_from (λ role. plain (AdminCommand.PutRole role)) (reading role_shape role_of body.now)) }
+    ensures { Answers result (call_from
+        (λ role. plain (AdminCommand.PutRole role)) (reading role_shape role_of body.now)) }
 {
     match read_role(alloc, body) {
         Ok(role) => Ok(plain(AdminCommand::PutRole { role })),
@@ -75,7 +79,8 @@ fn put_role(alloc: Global, body: &[u8]) -> Result<Call, WireFault>
 }
 
 fn put_zone(alloc: Global, body: &[u8]) -> Result<Call, WireFault>
-    ensures { Answers result (call_from (λ zone. plain (AdminCommand.PutZone zone)) (reading zone_shape zone_of body.now)) }
+    ensures { Answers result (call_from
+        (λ zone. plain (AdminCommand.PutZone zone)) (reading zone_shape zone_of body.now)) }
 {
     match read_zone(alloc, body) {
         Ok(zone) => Ok(plain(AdminCommand::PutZone { zone })),
@@ -84,7 +89,8 @@ fn put_zone(alloc: Global, body: &[u8]) -> Result<Call, WireFault>
 }
 
 fn update_service(alloc: Global, end: &str, body: &[u8]) -> Result<Call, WireFault>
-    ensures { Answers result (call_from (update_service end.now) (reading service_shape service_of body.now)) }
+    ensures { Answers result
+        (call_from (update_service end.now) (reading service_shape service_of body.now)) }
 {
     let Ok(name) = Text::copy_of(alloc, end) else {
         return Err(WireFault::NoMemory);
@@ -100,7 +106,8 @@ fn update_service(alloc: Global, end: &str, body: &[u8]) -> Result<Call, WireFau
 
 fn update_policy(alloc: Global, end: &str, body: &[u8]) -> Result<Call, WireFault>
     requires { is_number 18 end.now ≡ true }
-    ensures { Answers result (call_from (update_policy (policy_id end.now)) (reading policy_shape policy_of body.now)) }
+    ensures { Answers result
+        (call_from (update_policy (policy_id end.now)) (reading policy_shape policy_of body.now)) }
 {
     match read_policy(alloc, body) {
         Ok(mut policy) => {
@@ -113,7 +120,8 @@ fn update_policy(alloc: Global, end: &str, body: &[u8]) -> Result<Call, WireFaul
 
 fn put_tags(alloc: Global, end: &str, body: &[u8]) -> Result<Call, WireFault>
     requires { is_number 18 end.now ≡ true }
-    ensures { Answers result (call_from (λ row. plain (AdminCommand.PutTags (id_of end.now) row)) (reading tag_row_shape tag_row_of body.now)) }
+    ensures { Answers result (call_from (λ row. plain (AdminCommand.PutTags (id_of end.now) row))
+        (reading tag_row_shape tag_row_of body.now)) }
 {
     match read_tag_row(alloc, body) {
         Ok(row) => {
@@ -185,7 +193,8 @@ fn delete_user(alloc: Global, end: &str) -> Result<Call, WireFault>
 }
 
 fn decide(alloc: Global, body: &[u8], now: Moment) -> Result<Call, WireFault>
-    ensures { Answers result (call_from Call.Decide (reading request_shape (request_of now) body.now)) }
+    ensures { Answers result
+        (call_from Call.Decide (reading request_shape (request_of now) body.now)) }
 {
     match read_request(alloc, body, now) {
         Ok(request) => Ok(Call::Decide(request)),

@@ -56,7 +56,8 @@ fn fault_json(alloc: Global, path: &Text, kind: WireKind) -> Result<Value, NoMem
 /// What is wrong, and where.
 #[tactic(auto, using(crate::proofs::Plain::faults), unfolding(crate::specs::Bodies::fault_text))]
 pub(crate) fn fault_text(alloc: Global, path: &Text, kind: WireKind) -> Result<Text, NoMemory>
-    ensures { IfOk result (λ t. encode_utf8_all t ≡ fault_text (record { path = path.now; kind = kind })) }
+    ensures { IfOk result
+        (λ t. encode_utf8_all t ≡ fault_text (record { path = path.now; kind = kind })) }
 {
     let value = fault_json(alloc, path, kind)?;
     text_of(alloc, &value)

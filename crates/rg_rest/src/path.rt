@@ -97,7 +97,8 @@ fn is_asked(shared: Route, method: &str, route: Route) -> bool
 
 // The route with the path of another, and this method.
 fn with_method(shared: Route, method: &str) -> Option<Route>
-    ensures { result ≡ find (λ r. same_path shared r && bytes_eq (row_of r).method method.now) all_routes }
+    ensures { result
+        ≡ find (λ r. same_path shared r && bytes_eq (row_of r).method method.now) all_routes }
 {
     Route::all()
         .iter()
@@ -167,7 +168,8 @@ impl Paths {
     // A route that has the path.
     #[tactic(auto, using(crate::proofs::Exclusive::knowing))]
     fn find(&self, plugin: &str, path: &str) -> Option<Route>
-        ensures { MatchOption result (is_known (chars plugin.now) path.now ≡ false) (λ r. fits (chars plugin.now) path.now r ≡ true) }
+        ensures { MatchOption result (is_known (chars plugin.now) path.now ≡ false)
+            (λ r. fits (chars plugin.now) path.now r ≡ true) }
     {
         match self.at(path) {
             None => None,
@@ -184,7 +186,8 @@ impl Paths {
         path: &'a str,
         method: &str,
     ) -> Result<(Route, &'a str), Missing>
-        ensures { MatchResult result (λ f. IsRoute (chars plugin.now) path.now method.now f.0 f.1.now) (Misses (chars plugin.now) path.now method.now) }
+        ensures { MatchResult result (λ f. IsRoute (chars plugin.now)
+            path.now method.now f.0 f.1.now) (Misses (chars plugin.now) path.now method.now) }
     {
         let Some(shared) = self.find(plugin, path) else {
             return Err(Missing::Path);

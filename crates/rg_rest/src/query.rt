@@ -37,7 +37,8 @@ fn version_of(value: &str) -> Option<Version>
 // The first pair, and the others, where there are any.
 #[tactic(auto, using(crate::proofs::Pairs::pairs))]
 fn split_pairs(query: &str) -> (&str, Option<&str>)
-    ensures pairs { MatchOption result.1 (pairs_of query.now ≡ result.0.now ∷ []) (λ others. pairs_of query.now ≡ result.0.now ∷ pairs_of others.now) }
+    ensures pairs { MatchOption result.1 (pairs_of query.now ≡ result.0.now ∷ [])
+        (λ others. pairs_of query.now ≡ result.0.now ∷ pairs_of others.now) }
     ensures shorter { IfSome result.1 (λ others. length others.now < length query.now) }
 {
     match query.split_once('&') {

@@ -94,8 +94,10 @@ pub(crate) fn chart_of(
 ) -> Result<Chart, RoleFault>
     requires indexed { index.now ≡ names_of rows.now }
     requires fits { length rows.now < 2 ^ 32 }
-    ensures ok { IfOk result (λ chart. IsChart rows.now chart × (first_row names_absent rows.now ≡ None)) }
-    ensures err { IfErr result (IsRefusal (option_map RoleFault.Unknown (first_row names_absent rows.now))) }
+    ensures ok { IfOk result (λ chart. IsChart rows.now chart
+        × (first_row names_absent rows.now ≡ None)) }
+    ensures err { IfErr result
+        (IsRefusal (option_map RoleFault.Unknown (first_row names_absent rows.now))) }
 {
     let mut chart = Chart::new(alloc);
     for (place, row) in rows.iter().enumerate() {

@@ -78,7 +78,8 @@ fn never_rises(chart: &Chart, ranks: &[u32]) -> bool
 fn first_on_cycle(alloc: Global, chart: &Chart, ranks: &[u32]) -> Result<Option<u32>, NoMemory>
     requires bounded { AreBounded chart.now }
     requires fits { length chart.now < 2 ^ 32 }
-    ensures { IfOk result (λ o. MatchOption o ((k : ℕ) → k < length chart.now → ¬ (Reaches chart.now k k)) (IsFirstOnCycle chart.now)) }
+    ensures { IfOk result (λ o. MatchOption o ((k : ℕ)
+        → k < length chart.now → ¬ (Reaches chart.now k k)) (IsFirstOnCycle chart.now)) }
 {
     let ranked = never_rises(chart, ranks);
     for place in 0..chart.len() as u32 {
@@ -99,7 +100,8 @@ pub(crate) fn searched(
     index: &NameIndex,
 ) -> Result<(Chart, Search), RoleFault>
     requires indexed { index.now ≡ names_of rows.now }
-    ensures ok { IfOk result (λ p. IsChart rows.now p.0 × (fault_of rows.now ≡ None) × (length rows.now < 2 ^ 32)) }
+    ensures ok { IfOk result (λ p. IsChart rows.now p.0
+        × (fault_of rows.now ≡ None) × (length rows.now < 2 ^ 32)) }
     ensures err { IfErr result (IsRefusal (fault_of rows.now)) }
 {
     if rows.len() > u32::MAX as usize {

@@ -37,7 +37,8 @@ fn asker_at(rows: &[RoleRow], place: usize, user: &str, groups: &[Text]) -> bool
 /// Whether one of the places of the word, which begin there, does.
 fn asker_in_word(rows: &[RoleRow], word: u64, begin: usize, user: &str, groups: &[Text]) -> bool
     requires { begin < 2 ^ 40 }
-    ensures { result ≡ any_below (λ b. nat_eq (bit_at word b) 1 && passes_at (names_asker (chars user.now) groups.now) rows.now (begin + b)) 64 }
+    ensures { result ≡ any_below (λ b. nat_eq (bit_at word b) 1
+        && passes_at (names_asker (chars user.now) groups.now) rows.now (begin + b)) 64 }
 {
     for bit in 0..64 {
         if (word >> bit) & 1 == 1 && asker_at(rows, begin + bit, user, groups) {
@@ -50,7 +51,8 @@ fn asker_in_word(rows: &[RoleRow], word: u64, begin: usize, user: &str, groups: 
 /// Whether one of the places of the set does.
 fn asker_among(rows: &[RoleRow], words: &[u64], user: &str, groups: &[Text]) -> bool
     requires { length words.now < 2 ^ 32 }
-    ensures { result ≡ any_below (λ k. has words.now k && passes_at (names_asker (chars user.now) groups.now) rows.now k) (64 * length words.now) }
+    ensures { result ≡ any_below (λ k. has words.now k && passes_at
+        (names_asker (chars user.now) groups.now) rows.now k) (64 * length words.now) }
 {
     for (at, word) in words.iter().enumerate() {
         if *word != 0 && asker_in_word(rows, *word, 64 * at, user, groups) {
@@ -124,7 +126,8 @@ impl Roles {
     /// names a role that holds the user. False for a role that isn't there. It looks once at each row that the role
     /// reaches, and takes no memory but where the user and such a row have many groups.
     pub fn holds(&self, role: &str, user: &str, groups: &[Text]) -> bool
-        ensures exact { IsTrue result ↔ Holds self.now (chars role.now) (chars user.now) groups.now }
+        ensures exact { IsTrue result
+            ↔ Holds self.now (chars role.now) (chars user.now) groups.now }
         ensures test { result ≡ holds self.now (chars role.now) (chars user.now) groups.now }
     {
         match self.index.place_of(role) {

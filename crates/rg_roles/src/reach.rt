@@ -80,7 +80,8 @@ fn join(words: &mut [u64], chart: &Chart, reach: &Reach, place: u32) -> bool
     requires wide { length words.old ≡ length chart.now / 64 + 1 }
     requires none { (k : ℕ) → has words.old k ≡ false }
     ensures len { length words.new ≡ length words.old }
-    ensures exact { result ≡ true → (k : ℕ) → Decides (has words.new k) (Reaches chart.now place k) }
+    ensures exact { result ≡ true → (k : ℕ)
+        → Decides (has words.new k) (Reaches chart.now place k) }
 {
     for to in chart.at(place) {
         let Some(further) = reach.get(*to) else {
@@ -144,8 +145,10 @@ fn learn(alloc: Global, chart: &Chart, reach: &mut Reach, place: u32) -> Result<
     requires wide { length reach.old ≡ length chart.now }
     ensures known { OnOk result (AreKnown chart.now reach.new) }
     ensures wide { OnOk result (length reach.new ≡ length chart.now) }
-    ensures here { OnOk result (place < length chart.now → IsSome (slice_index_or reach.new place None)) }
-    ensures others { OnOk result ((k : ℕ) → IsSome (slice_index_or reach.old k None) → IsSome (slice_index_or reach.new k None)) }
+    ensures here { OnOk result (place < length chart.now
+        → IsSome (slice_index_or reach.new place None)) }
+    ensures others { OnOk result ((k : ℕ)
+        → IsSome (slice_index_or reach.old k None) → IsSome (slice_index_or reach.new k None)) }
 {
     if place as usize >= chart.len() || reach.get(place).is_some() {
         return Ok(());

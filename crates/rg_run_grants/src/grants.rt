@@ -39,7 +39,8 @@ fn ask_and_print(
     ask: GrantAsk,
     text: &mut String,
 ) -> Result<(), NoMemory>
-    ensures { OnOk result (IsWorked (ask_work (Some granting.old) ask) (Some granting.new) (string_bytes text.old) (string_bytes text.new)) }
+    ensures { OnOk result (IsWorked (ask_work (Some granting.old) ask)
+        (Some granting.new) (string_bytes text.old) (string_bytes text.new)) }
 {
     let reply = granting.ask(alloc, ask)?;
     add_reply(alloc, text, reply)
@@ -64,7 +65,8 @@ impl Grants {
     #[tactic(auto, unfolding(crate::specs::Grants::start_work))]
     fn start(&mut self, alloc: Global, config: Config) -> Result<(), LineFault>
         ensures worked { OnOk result (IsWorked (start_work self.old config) self.new [] []) }
-        ensures bad { result ≡ Err LineFault.Bad → (start_work self.old config ≡ None) × (self.new ≡ self.old) }
+        ensures bad { result ≡ Err LineFault.Bad
+            → (start_work self.old config ≡ None) × (self.new ≡ self.old) }
     {
         if self.granting.is_some() {
             return Err(LineFault::Bad);
@@ -82,9 +84,12 @@ impl Grants {
     /// Asks the administration, and prints its reply.
     #[tactic(auto, unfolding(crate::specs::Grants::ask_work))]
     fn ask(&mut self, alloc: Global, ask: GrantAsk, text: &mut String) -> Result<(), LineFault>
-        ensures worked { OnOk result (IsWorked (ask_work self.old ask) self.new (string_bytes text.old) (string_bytes text.new)) }
-        ensures bad { result ≡ Err LineFault.Bad → (ask_work self.old ask ≡ None) × (self.new ≡ self.old) }
-        ensures unwritten { result ≡ Err LineFault.Bad → string_bytes text.new ≡ string_bytes text.old }
+        ensures worked { OnOk result (IsWorked
+            (ask_work self.old ask) self.new (string_bytes text.old) (string_bytes text.new)) }
+        ensures bad { result ≡ Err LineFault.Bad
+            → (ask_work self.old ask ≡ None) × (self.new ≡ self.old) }
+        ensures unwritten { result ≡ Err LineFault.Bad
+            → string_bytes text.new ≡ string_bytes text.old }
     {
         match &mut self.granting {
             Some(granting) => match ask_and_print(alloc, granting, ask, text) {
@@ -105,10 +110,16 @@ impl Grants {
         hooks: &mut H,
     ) -> Result<(), LineFault>
         ensures same { self.new ≡ self.old }
-        ensures worked { OnOk result (IsWorked (judge_work self.old (H.enrichers hooks.old) request.old) (hooked self.old (H.enrichers hooks.new)) (string_bytes text.old) (string_bytes text.new)) }
-        ensures audited { OnOk result (IsAudited (judge_work self.old (H.enrichers hooks.old) request.old) (hooks_of (H.sinks hooks.old) (H.enrichers hooks.old)) (hooks_of (H.sinks hooks.new) (H.enrichers hooks.new))) }
-        ensures bad { result ≡ Err LineFault.Bad → judge_work self.old (H.enrichers hooks.old) request.old ≡ None }
-        ensures unchanged { result ≡ Err LineFault.Bad → (string_bytes text.new ≡ string_bytes text.old) × (H.enrichers hooks.new ≡ H.enrichers hooks.old) }
+        ensures worked { OnOk result
+            (IsWorked (judge_work self.old (H.enrichers hooks.old) request.old) (hooked self.old
+            (H.enrichers hooks.new)) (string_bytes text.old) (string_bytes text.new)) }
+        ensures audited { OnOk result (IsAudited (judge_work self.old (H.enrichers hooks.old)
+            request.old) (hooks_of (H.sinks hooks.old) (H.enrichers hooks.old))
+            (hooks_of (H.sinks hooks.new) (H.enrichers hooks.new))) }
+        ensures bad { result ≡ Err LineFault.Bad
+            → judge_work self.old (H.enrichers hooks.old) request.old ≡ None }
+        ensures unchanged { result ≡ Err LineFault.Bad → (string_bytes text.new
+            ≡ string_bytes text.old) × (H.enrichers hooks.new ≡ H.enrichers hooks.old) }
         ensures unheard { OnErr result (H.sinks hooks.new ≡ H.sinks hooks.old) }
         ensures in_part { OnErr result (HaveRunOn (H.enrichers hooks.old) (H.enrichers hooks.new)) }
     {

@@ -69,7 +69,8 @@ fn row_line(alloc: Global, change: Change, actor: Text, json: &[u8]) -> Result<G
 
 /// What an actor asks of a row whose name stands before the first space.
 fn change_line(alloc: Global, change: Change, rest: &[u8]) -> Result<GrantLine, LineFault>
-    ensures { Reads result (row_read change (actor_of (front_word rest.now)) (behind_space rest.now)) }
+    ensures { Reads result
+        (row_read change (actor_of (front_word rest.now)) (behind_space rest.now)) }
 {
     let (word, json) = split_word(rest);
     let actor = match actor_of(alloc, word) {

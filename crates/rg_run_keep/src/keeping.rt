@@ -40,7 +40,8 @@ impl<P: Keeper + Drop> Model for Keeping<P> {
 
     ghost view = { λ k. record { config = k.config; desk = k.desk } };
 
-    ghost invariant = { λ k. (start_fault k.config ≡ None) × IsKept (P.kept k.desk.keeper) k.config k.desk.admin };
+    ghost invariant = { λ k. (start_fault k.config ≡ None)
+        × IsKept (P.kept k.desk.keeper) k.config k.desk.admin };
 }
 
 impl<P: Keeper + Drop> Keeping<P> {
@@ -54,7 +55,8 @@ impl<P: Keeper + Drop> Keeping<P> {
         ensures lawful { IfOk result (λ k. start_fault config ≡ None) }
         ensures same { IfOk result (λ k. P.kept k.desk.keeper ≡ P.kept keeper) }
         ensures same_err { IfErr result (λ fault. P.kept fault.keeper ≡ P.kept keeper) }
-        ensures cause { IfErr result (λ fault. IsCause fault.cause (P.kept keeper) config (P.faults keeper) (P.faults fault.keeper)) }
+        ensures cause { IfErr result (λ fault. IsCause fault.cause
+            (P.kept keeper) config (P.faults keeper) (P.faults fault.keeper)) }
         ensures counted { IfOk result (λ k. P.faults keeper ≤ P.faults k.desk.keeper) }
         ensures counted_err { IfErr result (λ fault. P.faults keeper ≤ P.faults fault.keeper) }
     {
@@ -79,12 +81,15 @@ impl<P: Keeper + Drop> Keeping<P> {
     #[tactic(auto, using(crate::proofs::Opening::later))]
     pub fn reopen(self, alloc: Global) -> Result<Keeping<P>, ReopenFault<P>>
         ensures config { IfOk result (λ k. k.config ≡ self.config) }
-        ensures replayed { IfOk result (λ k. IsReplayed (P.kept self.desk.keeper) self.config k.desk.admin) }
+        ensures replayed { IfOk result
+            (λ k. IsReplayed (P.kept self.desk.keeper) self.config k.desk.admin) }
         ensures same { IfOk result (λ k. P.kept k.desk.keeper ≡ P.kept self.desk.keeper) }
         ensures same_err { IfErr result (λ fault. P.kept fault.keeper ≡ P.kept self.desk.keeper) }
-        ensures cause { IfErr result (λ fault. IsLaterCause fault.cause (P.kept self.desk.keeper) (P.faults self.desk.keeper) (P.faults fault.keeper)) }
+        ensures cause { IfErr result (λ fault. IsLaterCause fault.cause
+            (P.kept self.desk.keeper) (P.faults self.desk.keeper) (P.faults fault.keeper)) }
         ensures counted { IfOk result (λ k. P.faults self.desk.keeper ≤ P.faults k.desk.keeper) }
-        ensures counted_err { IfErr result (λ fault. P.faults self.desk.keeper ≤ P.faults fault.keeper) }
+        ensures counted_err { IfErr result
+            (λ fault. P.faults self.desk.keeper ≤ P.faults fault.keeper) }
     {
         let Keeping { config, desk } = self;
         Keeping::open(alloc, config, desk.into_keeper())
@@ -97,11 +102,14 @@ impl<P: Keeper + Drop> Keeping<P> {
         ensures config { IfOk result (λ r. r.0.config ≡ self.config) }
         ensures answer { IfOk result (λ r. IsAnswer self.desk.admin ask r.0.desk.admin r.1) }
         ensures full { IfOk result (λ r. is_full r.1 ≡ is_past self.desk.kept ask) }
-        ensures added { IfOk result (λ r. Adds (P.kept self.desk.keeper) (adds self.desk.kept self.desk.admin ask) (ask_text ask) (P.kept r.0.desk.keeper)) }
-        ensures stopped { IfErr result (λ s. MayTell (P.kept self.desk.keeper) self.desk.admin ask self.desk.kept (P.kept s.keeper)) }
+        ensures added { IfOk result (λ r. Adds (P.kept self.desk.keeper)
+            (adds self.desk.kept self.desk.admin ask) (ask_text ask) (P.kept r.0.desk.keeper)) }
+        ensures stopped { IfErr result (λ s. MayTell
+            (P.kept self.desk.keeper) self.desk.admin ask self.desk.kept (P.kept s.keeper)) }
         ensures counted { IfOk result (λ r. P.faults self.desk.keeper ≤ P.faults r.0.desk.keeper) }
         ensures counted_err { IfErr result (λ s. P.faults self.desk.keeper ≤ P.faults s.keeper) }
-        ensures failed { IfErr result (λ s. s.cause ≡ KeeperFault.Failed → P.faults self.desk.keeper < P.faults s.keeper) }
+        ensures failed { IfErr result (λ s. s.cause ≡ KeeperFault.Failed
+            → P.faults self.desk.keeper < P.faults s.keeper) }
     {
         let Keeping { config, desk } = self;
         match desk.step(alloc, ask) {

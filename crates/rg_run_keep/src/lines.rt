@@ -15,7 +15,8 @@ use std::alloc::Global;
 /// Names the record behind the text.
 #[tactic(auto, unfolding(crate::specs::Custody::bad_record_text))]
 fn name_bad_record(mut text: String, place: u64) -> Result<Worked, NoMemory>
-    ensures { IfOk result (λ worked. (worked.status ≡ Status.BadRecord) × (string_bytes worked.text ≡ string_bytes text ++ bad_record_text place)) }
+    ensures { IfOk result (λ worked. (worked.status ≡ Status.BadRecord)
+        × (string_bytes worked.text ≡ string_bytes text ++ bad_record_text place)) }
 {
     match writeln!(&mut text, "bad record {place}") {
         Ok(()) => Ok(Worked {
@@ -28,7 +29,8 @@ fn name_bad_record(mut text: String, place: u64) -> Result<Worked, NoMemory>
 
 /// What a script printed that stops at this line.
 fn name_stop(text: String, number: u64, stop: KeepStop) -> Result<Worked, NoMemory>
-    ensures { IfOk result (λ w. IsNamed stop number (string_bytes text) (string_bytes w.text) w.status) }
+    ensures { IfOk result
+        (λ w. IsNamed stop number (string_bytes text) (string_bytes w.text) w.status) }
 {
     match stop {
         KeepStop::Bad => name_bad_line(text, number),
@@ -51,11 +53,17 @@ pub(crate) fn follow_kept<P: Keeper + Drop, C: Clock, H: RequestHooks>(
     hooks: &mut H,
 ) -> (P, Result<Worked, NoMemory>)
     requires { length bytes.now < 2 ^ 32 }
-    ensures ended { IfOk result.1 (λ w. Ended (P.kept keeper) (P.kept result.0) (hooks_of (H.sinks hooks.old) (H.enrichers hooks.old)) (hooks_of (H.sinks hooks.new) (H.enrichers hooks.new)) bytes.now (C.given clock.old) (C.given clock.new) (string_bytes w.text) w.status) }
+    ensures ended { IfOk result.1 (λ w. Ended
+        (P.kept keeper) (P.kept result.0) (hooks_of (H.sinks hooks.old) (H.enrichers hooks.old))
+        (hooks_of (H.sinks hooks.new) (H.enrichers hooks.new)) bytes.now
+        (C.given clock.old) (C.given clock.new) (string_bytes w.text) w.status) }
     ensures ends { IfOk result.1 (λ w. CanEnd w.status) }
-    ensures cut_off { OnErr result.1 (CutOff (P.kept keeper) (P.kept result.0) (hooks_of (H.sinks hooks.old) (H.enrichers hooks.old)) (hooks_of (H.sinks hooks.new) (H.enrichers hooks.new)) bytes.now (C.given clock.old) (C.given clock.new)) }
+    ensures cut_off { OnErr result.1 (CutOff (P.kept keeper) (P.kept result.0)
+        (hooks_of (H.sinks hooks.old) (H.enrichers hooks.old)) (hooks_of (H.sinks hooks.new)
+        (H.enrichers hooks.new)) bytes.now (C.given clock.old) (C.given clock.new)) }
     ensures counted { P.faults keeper ≤ P.faults result.0 }
-    ensures failed { IfOk result.1 (λ w. w.status ≡ Status.KeepFault → P.faults keeper < P.faults result.0) }
+    ensures failed { IfOk result.1 (λ w. w.status ≡ Status.KeepFault
+        → P.faults keeper < P.faults result.0) }
 {
     let mut stage = Stage::Closed(keeper);
     let mut text = String::new(alloc);

@@ -22,11 +22,13 @@ pub fn keep_script<P: Keeper + Drop, S: Source, K: Sink, C: Clock, H: RequestHoo
     clock: &mut C,
     hooks: &mut H,
 ) -> (P, Status)
-    ensures run { IsRun (Keeps (shelf (P.kept keeper) (P.faults keeper)) (shelf (P.kept result.0) (P.faults result.0))
+    ensures run { IsRun (Keeps (shelf (P.kept keeper) (P.faults keeper))
+        (shelf (P.kept result.0) (P.faults result.0))
         (hooks_of (H.sinks hooks.old) (H.enrichers hooks.old)) (hooks_of (H.sinks hooks.new) (H.enrichers hooks.new)))
         (ports (S.left source.old) (S.ended source.old) (S.faults source.old) (C.given clock.old) (K.held sink.old) (K.faults sink.old))
         (ports (S.left source.new) (S.ended source.new) (S.faults source.new) (C.given clock.new) (K.held sink.new) (K.faults sink.new)) result.1 }
-    ensures unread { (result.1 ≡ Status.Usage) ⊎ ((result.1 ≡ Status.ReadFault) ⊎ (result.1 ≡ Status.TooLong)) → (clock.new ≡ clock.old) × (hooks.new ≡ hooks.old) }
+    ensures unread { (result.1 ≡ Status.Usage) ⊎ ((result.1 ≡ Status.ReadFault)
+        ⊎ (result.1 ≡ Status.TooLong)) → (clock.new ≡ clock.old) × (hooks.new ≡ hooks.old) }
 {
     let bytes = match read_script(alloc, source, sink) {
         Ok(bytes) => bytes,

@@ -104,10 +104,15 @@ impl<P: Keeper + Drop> Stage<P> {
     /// Opens the administration that the keeper's records make of the configuration, where the script begins with it.
     #[tactic(auto, using(crate::proofs::Staging::starting))]
     fn start(self, alloc: Global, config: Config) -> (Stage<P>, Result<(), KeepStop>)
-        ensures worked { OnOk result.1 (Goes (P.kept (keeper_of self)) (λ records. config_work (opened_of self) records config) (P.kept (keeper_of result.0)) (opened_of result.0) [] []) }
-        ensures stopped { IfErr result.1 (λ stop. Stops stop (P.kept (keeper_of self)) (λ records. config_work (opened_of self) records config) (opened_of self) (P.kept (keeper_of result.0))) }
+        ensures worked { OnOk result.1 (Goes (P.kept (keeper_of self))
+            (λ records. config_work (opened_of self) records config)
+            (P.kept (keeper_of result.0)) (opened_of result.0) [] []) }
+        ensures stopped { IfErr result.1 (λ stop. Stops stop (P.kept (keeper_of self))
+            (λ records. config_work (opened_of self) records config)
+            (opened_of self) (P.kept (keeper_of result.0))) }
         ensures counted { P.faults (keeper_of self) ≤ P.faults (keeper_of result.0) }
-        ensures failed { result.1 ≡ Err KeepStop.Failed → P.faults (keeper_of self) < P.faults (keeper_of result.0) }
+        ensures failed { result.1 ≡ Err KeepStop.Failed
+            → P.faults (keeper_of self) < P.faults (keeper_of result.0) }
     {
         let keeper = match self {
             Stage::Closed(keeper) => keeper,
@@ -126,11 +131,17 @@ impl<P: Keeper + Drop> Stage<P> {
     #[tactic(auto, using(crate::proofs::Staging::asking))]
     fn ask(self, alloc: Global, ask: Ask, text: &mut String) -> (Stage<P>, Result<(), KeepStop>)
         requires { IsInKeyOrder ask }
-        ensures worked { OnOk result.1 (Goes (P.kept (keeper_of self)) (λ records. ask_work (opened_of self) records ask) (P.kept (keeper_of result.0)) (opened_of result.0) (string_bytes text.old) (string_bytes text.new)) }
-        ensures stopped { IfErr result.1 (λ stop. Stops stop (P.kept (keeper_of self)) (λ records. ask_work (opened_of self) records ask) (opened_of self) (P.kept (keeper_of result.0))) }
-        ensures unprinted { IfErr result.1 (λ stop. stop ≢ KeepStop.NoMemory → string_bytes text.new ≡ string_bytes text.old) }
+        ensures worked { OnOk result.1 (Goes (P.kept (keeper_of self))
+            (λ records. ask_work (opened_of self) records ask) (P.kept (keeper_of result.0))
+            (opened_of result.0) (string_bytes text.old) (string_bytes text.new)) }
+        ensures stopped { IfErr result.1 (λ stop. Stops stop (P.kept (keeper_of self))
+            (λ records. ask_work (opened_of self) records ask)
+            (opened_of self) (P.kept (keeper_of result.0))) }
+        ensures unprinted { IfErr result.1
+            (λ stop. stop ≢ KeepStop.NoMemory → string_bytes text.new ≡ string_bytes text.old) }
         ensures counted { P.faults (keeper_of self) ≤ P.faults (keeper_of result.0) }
-        ensures failed { result.1 ≡ Err KeepStop.Failed → P.faults (keeper_of self) < P.faults (keeper_of result.0) }
+        ensures failed { result.1 ≡ Err KeepStop.Failed
+            → P.faults (keeper_of self) < P.faults (keeper_of result.0) }
     {
         let keeping = match self {
             Stage::Opened(keeping) => keeping,
@@ -159,11 +170,16 @@ impl<P: Keeper + Drop> Stage<P> {
     /// Opens the administration again over the keeper's records, and prints how many they are.
     #[tactic(auto, using(crate::proofs::Staging::reopening))]
     fn reopen(self, alloc: Global, text: &mut String) -> (Stage<P>, Result<(), KeepStop>)
-        ensures worked { OnOk result.1 (Goes (P.kept (keeper_of self)) (reopen_work (opened_of self)) (P.kept (keeper_of result.0)) (opened_of result.0) (string_bytes text.old) (string_bytes text.new)) }
-        ensures stopped { IfErr result.1 (λ stop. Stops stop (P.kept (keeper_of self)) (reopen_work (opened_of self)) (opened_of self) (P.kept (keeper_of result.0))) }
-        ensures unprinted { IfErr result.1 (λ stop. stop ≢ KeepStop.NoMemory → string_bytes text.new ≡ string_bytes text.old) }
+        ensures worked { OnOk result.1 (Goes (P.kept (keeper_of self))
+            (reopen_work (opened_of self)) (P.kept (keeper_of result.0))
+            (opened_of result.0) (string_bytes text.old) (string_bytes text.new)) }
+        ensures stopped { IfErr result.1 (λ stop. Stops stop (P.kept (keeper_of self))
+            (reopen_work (opened_of self)) (opened_of self) (P.kept (keeper_of result.0))) }
+        ensures unprinted { IfErr result.1
+            (λ stop. stop ≢ KeepStop.NoMemory → string_bytes text.new ≡ string_bytes text.old) }
         ensures counted { P.faults (keeper_of self) ≤ P.faults (keeper_of result.0) }
-        ensures failed { result.1 ≡ Err KeepStop.Failed → P.faults (keeper_of self) < P.faults (keeper_of result.0) }
+        ensures failed { result.1 ≡ Err KeepStop.Failed
+            → P.faults (keeper_of self) < P.faults (keeper_of result.0) }
     {
         let keeping = match self {
             Stage::Opened(keeping) => keeping,
@@ -192,11 +208,18 @@ impl<P: Keeper + Drop> Stage<P> {
         hooks: &mut H,
     ) -> (Stage<P>, Result<(), KeepStop>)
         ensures same { result.0 ≡ self }
-        ensures worked { OnOk result.1 (GoesOn (P.kept (keeper_of self)) (λ records. judge_work (opened_of self) records (H.enrichers hooks.old) request) (P.kept (keeper_of self)) (opened_of self)
+        ensures worked { OnOk result.1 (GoesOn (P.kept (keeper_of self))
+            (λ records. judge_work (opened_of self) records (H.enrichers hooks.old) request)
+            (P.kept (keeper_of self)) (opened_of self)
             (hooks_of (H.sinks hooks.old) (H.enrichers hooks.old)) (hooks_of (H.sinks hooks.new) (H.enrichers hooks.new)) (string_bytes text.old) (string_bytes text.new)) }
-        ensures stopped { IfErr result.1 (λ stop. StopsAt stop (P.kept (keeper_of self)) (λ records. judge_work (opened_of self) records (H.enrichers hooks.old) request) (opened_of self) (H.enrichers hooks.old) (P.kept (keeper_of self))) }
-        ensures left { IfErr result.1 (λ stop. IsLeft stop (hooks_of (H.sinks hooks.old) (H.enrichers hooks.old)) (hooks_of (H.sinks hooks.new) (H.enrichers hooks.new))) }
-        ensures unprinted { IfErr result.1 (λ stop. stop ≢ KeepStop.NoMemory → string_bytes text.new ≡ string_bytes text.old) }
+        ensures stopped { IfErr result.1 (λ stop. StopsAt stop (P.kept (keeper_of self))
+            (λ records. judge_work (opened_of self) records (H.enrichers hooks.old) request)
+            (opened_of self) (H.enrichers hooks.old) (P.kept (keeper_of self))) }
+        ensures left { IfErr result.1
+            (λ stop. IsLeft stop (hooks_of (H.sinks hooks.old) (H.enrichers hooks.old))
+            (hooks_of (H.sinks hooks.new) (H.enrichers hooks.new))) }
+        ensures unprinted { IfErr result.1
+            (λ stop. stop ≢ KeepStop.NoMemory → string_bytes text.new ≡ string_bytes text.old) }
         ensures unfailed { IfErr result.1 (λ stop. stop ≢ KeepStop.Failed) }
     {
         let mut keeping = match self {
@@ -219,13 +242,21 @@ impl<P: Keeper + Drop> Stage<P> {
         text: &mut String,
         hooks: &mut H,
     ) -> (Stage<P>, Result<(), KeepStop>)
-        ensures worked { OnOk result.1 (GoesOn (P.kept (keeper_of self)) (line_step (opened_of self) (H.enrichers hooks.old) line.now now) (P.kept (keeper_of result.0)) (opened_of result.0)
+        ensures worked { OnOk result.1 (GoesOn (P.kept (keeper_of self))
+            (line_step (opened_of self) (H.enrichers hooks.old) line.now now)
+            (P.kept (keeper_of result.0)) (opened_of result.0)
             (hooks_of (H.sinks hooks.old) (H.enrichers hooks.old)) (hooks_of (H.sinks hooks.new) (H.enrichers hooks.new)) (string_bytes text.old) (string_bytes text.new)) }
-        ensures stopped { IfErr result.1 (λ stop. StopsAt stop (P.kept (keeper_of self)) (line_step (opened_of self) (H.enrichers hooks.old) line.now now) (opened_of self) (H.enrichers hooks.old) (P.kept (keeper_of result.0))) }
-        ensures left { IfErr result.1 (λ stop. IsLeft stop (hooks_of (H.sinks hooks.old) (H.enrichers hooks.old)) (hooks_of (H.sinks hooks.new) (H.enrichers hooks.new))) }
-        ensures unprinted { IfErr result.1 (λ stop. stop ≢ KeepStop.NoMemory → string_bytes text.new ≡ string_bytes text.old) }
+        ensures stopped { IfErr result.1 (λ stop. StopsAt stop (P.kept (keeper_of self))
+            (line_step (opened_of self) (H.enrichers hooks.old) line.now now)
+            (opened_of self) (H.enrichers hooks.old) (P.kept (keeper_of result.0))) }
+        ensures left { IfErr result.1
+            (λ stop. IsLeft stop (hooks_of (H.sinks hooks.old) (H.enrichers hooks.old))
+            (hooks_of (H.sinks hooks.new) (H.enrichers hooks.new))) }
+        ensures unprinted { IfErr result.1
+            (λ stop. stop ≢ KeepStop.NoMemory → string_bytes text.new ≡ string_bytes text.old) }
         ensures counted { P.faults (keeper_of self) ≤ P.faults (keeper_of result.0) }
-        ensures failed { result.1 ≡ Err KeepStop.Failed → P.faults (keeper_of self) < P.faults (keeper_of result.0) }
+        ensures failed { result.1 ≡ Err KeepStop.Failed
+            → P.faults (keeper_of self) < P.faults (keeper_of result.0) }
     {
         match read_keep_line(alloc, line, now) {
             Ok(KeepLine::Blank) => (self, Ok(())),

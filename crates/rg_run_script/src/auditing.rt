@@ -21,7 +21,9 @@ fn audit<H: RequestHooks>(
     request: &AccessRequest,
     decision: &Decision,
 ) -> Result<(), NoMemory>
-    ensures given { OnOk result ((asked : AccessRequest) → AreGiven (audit_lines (decided_as (chars service.now) asked request.now decision.now ∷ [])) (H.sinks hooks.old) (H.sinks hooks.new)) }
+    ensures given { OnOk result ((asked : AccessRequest) → AreGiven
+        (audit_lines (decided_as (chars service.now) asked request.now decision.now ∷ []))
+        (H.sinks hooks.old) (H.sinks hooks.new)) }
     ensures unheard { OnErr result (H.sinks hooks.new ≡ H.sinks hooks.old) }
     ensures kept { H.enrichers hooks.new ≡ H.enrichers hooks.old }
 {
@@ -47,8 +49,11 @@ pub(crate) fn add_audited<H: RequestHooks>(
     request: &AccessRequest,
     decision: &Decision,
 ) -> Result<(), NoMemory>
-    ensures line { OnOk result (string_bytes text.new ≡ string_bytes text.old ++ decision_line decision.now) }
-    ensures given { OnOk result ((asked : AccessRequest) → AreGiven (audit_lines (decided_as (chars service.now) asked request.now decision.now ∷ [])) (H.sinks hooks.old) (H.sinks hooks.new)) }
+    ensures line { OnOk result (string_bytes text.new
+        ≡ string_bytes text.old ++ decision_line decision.now) }
+    ensures given { OnOk result ((asked : AccessRequest) → AreGiven
+        (audit_lines (decided_as (chars service.now) asked request.now decision.now ∷ []))
+        (H.sinks hooks.old) (H.sinks hooks.new)) }
     ensures unheard { OnErr result (H.sinks hooks.new ≡ H.sinks hooks.old) }
     ensures kept { H.enrichers hooks.new ≡ H.enrichers hooks.old }
 {

@@ -22,7 +22,8 @@ pub trait HookedWorker {
     ghost use Rattle.rg_run_script.specs.Hooked.{Hooked};
 
     /// The work of a line in a state and with these enrichers, at its moment; None for a bad line.
-    ghost hooked_step: { Self → List EnricherState → List ℕ → Moment → Option (Work (Hooked Self)) };
+    ghost hooked_step: { Self → List EnricherState
+        → List ℕ → Moment → Option (Work (Hooked Self)) };
 
     /// Works a line, and puts what it prints behind the text. A request is enriched before it is decided, and an audited
     /// decision is given to the sinks once its line is behind the text.
@@ -34,13 +35,21 @@ pub trait HookedWorker {
         text: &mut String,
         hooks: &mut H,
     ) -> Result<(), LineFault>
-        ensures worked { OnOk result (IsWorked (hooked_step self.old (H.enrichers hooks.old) line.now now) (hooked self.new (H.enrichers hooks.new)) (string_bytes text.old) (string_bytes text.new)) }
-        ensures audited { OnOk result (IsAudited (hooked_step self.old (H.enrichers hooks.old) line.now now) (hooks_of (H.sinks hooks.old) (H.enrichers hooks.old)) (hooks_of (H.sinks hooks.new) (H.enrichers hooks.new))) }
-        ensures bad { result ≡ Err LineFault.Bad → hooked_step self.old (H.enrichers hooks.old) line.now now ≡ None }
-        ensures unchanged { result ≡ Err LineFault.Bad → (self.new ≡ self.old) × (string_bytes text.new ≡ string_bytes text.old) }
+        ensures worked { OnOk result
+            (IsWorked (hooked_step self.old (H.enrichers hooks.old) line.now now) (hooked self.new
+            (H.enrichers hooks.new)) (string_bytes text.old) (string_bytes text.new)) }
+        ensures audited { OnOk result (IsAudited (hooked_step self.old (H.enrichers hooks.old)
+            line.now now) (hooks_of (H.sinks hooks.old) (H.enrichers hooks.old))
+            (hooks_of (H.sinks hooks.new) (H.enrichers hooks.new))) }
+        ensures bad { result ≡ Err LineFault.Bad
+            → hooked_step self.old (H.enrichers hooks.old) line.now now ≡ None }
+        ensures unchanged { result ≡ Err LineFault.Bad
+            → (self.new ≡ self.old) × (string_bytes text.new ≡ string_bytes text.old) }
         ensures unheard { OnErr result (H.sinks hooks.new ≡ H.sinks hooks.old) }
-        ensures unenriched { result ≡ Err LineFault.Bad → H.enrichers hooks.new ≡ H.enrichers hooks.old }
-        ensures in_part { OnErr result (HaveRunOn (H.enrichers hooks.old) (H.enrichers hooks.new)) };
+        ensures unenriched { result ≡ Err LineFault.Bad
+            → H.enrichers hooks.new ≡ H.enrichers hooks.old }
+        ensures in_part { OnErr result
+            (HaveRunOn (H.enrichers hooks.old) (H.enrichers hooks.new)) };
 }
 
 /// Works the lines of a script in order, each at the clock's next moment, up to the first bad one, which is named.

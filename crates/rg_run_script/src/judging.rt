@@ -42,7 +42,8 @@ pub fn judge<D: Decider, H: RequestHooks>(
     hooks: &mut H,
 ) -> Result<(), NoMemory>
     ensures same { decider.new ≡ decider.old }
-    ensures judged { OnOk result (IsJudged (D.served decider.old) (D.decides decider.old) request.old
+    ensures judged { OnOk result
+        (IsJudged (D.served decider.old) (D.decides decider.old) request.old
         (hooks_of (H.sinks hooks.old) (H.enrichers hooks.old)) (hooks_of (H.sinks hooks.new) (H.enrichers hooks.new)) (string_bytes text.old) (string_bytes text.new)) }
     ensures unheard { OnErr result (H.sinks hooks.new ≡ H.sinks hooks.old) }
     ensures in_part { OnErr result (HaveRunOn (H.enrichers hooks.old) (H.enrichers hooks.new)) }

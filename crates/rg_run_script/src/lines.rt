@@ -26,9 +26,11 @@ pub trait Worker {
         now: Moment,
         text: &mut String,
     ) -> Result<(), LineFault>
-        ensures worked { OnOk result (IsWorked (step self.old line.now now) self.new (string_bytes text.old) (string_bytes text.new)) }
+        ensures worked { OnOk result (IsWorked (step self.old line.now now) self.new
+            (string_bytes text.old) (string_bytes text.new)) }
         ensures bad { result ≡ Err LineFault.Bad → step self.old line.now now ≡ None }
-        ensures unchanged { result ≡ Err LineFault.Bad → (self.new ≡ self.old) × (string_bytes text.new ≡ string_bytes text.old) };
+        ensures unchanged { result ≡ Err LineFault.Bad
+            → (self.new ≡ self.old) × (string_bytes text.new ≡ string_bytes text.old) };
 }
 
 /// What a script printed, and how it ended.
@@ -41,7 +43,8 @@ pub struct Worked {
 /// Names the line behind the text.
 #[tactic(auto, unfolding(crate::specs::Follow::bad_line_text))]
 pub fn name_bad_line(mut text: String, number: u64) -> Result<Worked, NoMemory>
-    ensures { IfOk result (λ worked. (worked.status ≡ Status.BadLine) × (string_bytes worked.text ≡ string_bytes text ++ bad_line_text number)) }
+    ensures { IfOk result (λ worked. (worked.status ≡ Status.BadLine)
+        × (string_bytes worked.text ≡ string_bytes text ++ bad_line_text number)) }
 {
     match writeln!(&mut text, "bad line {number}") {
         Ok(()) => Ok(Worked {
@@ -60,7 +63,8 @@ pub fn follow<W: Worker, C: Clock>(
     clock: &mut C,
 ) -> Result<Worked, NoMemory>
     requires { length bytes.now < 2 ^ 32 }
-    ensures done { IfOk result (λ w. (decided : List Decided) × Comes _ (worked W.step worker.old 1) bytes.now (C.given clock.old) (C.given clock.new) []
+    ensures done { IfOk result (λ w. (decided : List Decided) × Comes _
+        (worked W.step worker.old 1) bytes.now (C.given clock.old) (C.given clock.new) []
         (record { text = string_bytes w.text; status = w.status; state = worker.new; decided = decided })) }
     ensures ends { IfOk result (λ w. (w.status ≡ Status.Done) ⊎ (w.status ≡ Status.BadLine)) }
     ensures cut_off { OnErr result ((later : List Moment) × (output : Output W)

@@ -14,7 +14,8 @@ use std::alloc::Global;
 /// Adds the decision line.
 #[tactic(auto, unfolding(crate::specs::Printed::decision_line))]
 pub fn add_decision(alloc: Global, text: &mut String, decision: &Decision) -> Result<(), NoMemory>
-    ensures { OnOk result (string_bytes text.new ≡ string_bytes text.old ++ decision_line decision.now) }
+    ensures { OnOk result (string_bytes text.new
+        ≡ string_bytes text.old ++ decision_line decision.now) }
 {
     let printed = print_decision(alloc, decision)?;
     let line = printed.as_str();

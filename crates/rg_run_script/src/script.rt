@@ -22,7 +22,8 @@ pub fn read_script<S: Source, K: Sink>(
     ensures all { IfOk result (λ bytes. IsAll (S.left source.old) bytes.items) }
     ensures within { IfOk result (λ bytes. length bytes.items ≤ limit) }
     ensures short { IfOk result (λ bytes. is_too_long bytes.items ≡ false) }
-    ensures kept { OnOk result ((S.faults source.new ≡ S.faults source.old) × (sink.new ≡ sink.old)) }
+    ensures kept { OnOk result ((S.faults source.new ≡ S.faults source.old)
+        × (sink.new ≡ sink.old)) }
     ensures unread { IfErr result (λ status. (given : Option (List Moment)) → IsRun IsUnread
         (ports (S.left source.old) (S.ended source.old) (S.faults source.old) given (K.held sink.old) (K.faults sink.old))
         (ports (S.left source.new) (S.ended source.new) (S.faults source.new) given (K.held sink.new) (K.faults sink.new)) status) }

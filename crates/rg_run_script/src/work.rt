@@ -25,7 +25,8 @@ pub fn work_script<W: Worker, S: Source, K: Sink, C: Clock>(
     ensures run { IsRun (Stands _ (worked W.step worker.old 1))
         (ports (S.left source.old) (S.ended source.old) (S.faults source.old) (C.given clock.old) (K.held sink.old) (K.faults sink.old))
         (ports (S.left source.new) (S.ended source.new) (S.faults source.new) (C.given clock.new) (K.held sink.new) (K.faults sink.new)) result }
-    ensures clock_stays { (result ≡ Status.ReadFault) ⊎ (result ≡ Status.TooLong) → clock.new ≡ clock.old }
+    ensures clock_stays { (result ≡ Status.ReadFault)
+        ⊎ (result ≡ Status.TooLong) → clock.new ≡ clock.old }
     ensures ends_in { result ≡ Status.Done → EndsIn (worked W.step worker.old 1)
         (ports (S.left source.old) (S.ended source.old) (S.faults source.old) (C.given clock.old) (K.held sink.old) (K.faults sink.old))
         (ports (S.left source.new) (S.ended source.new) (S.faults source.new) (C.given clock.new) (K.held sink.new) (K.faults sink.new)) worker.new }
@@ -52,11 +53,13 @@ pub fn work_script_hooked<W: HookedWorker, S: Source, K: Sink, C: Clock, H: Requ
     clock: &mut C,
     hooks: &mut H,
 ) -> Status
-    ensures run { IsRun (StandsHooked _ (worked (with_enrichers W.hooked_step) (hooked worker.old (H.enrichers hooks.old)) 1)
+    ensures run { IsRun (StandsHooked _
+        (worked (with_enrichers W.hooked_step) (hooked worker.old (H.enrichers hooks.old)) 1)
         (hooks_of (H.sinks hooks.old) (H.enrichers hooks.old)) (hooks_of (H.sinks hooks.new) (H.enrichers hooks.new)))
         (ports (S.left source.old) (S.ended source.old) (S.faults source.old) (C.given clock.old) (K.held sink.old) (K.faults sink.old))
         (ports (S.left source.new) (S.ended source.new) (S.faults source.new) (C.given clock.new) (K.held sink.new) (K.faults sink.new)) result }
-    ensures unread { (result ≡ Status.Usage) ⊎ ((result ≡ Status.ReadFault) ⊎ (result ≡ Status.TooLong)) → (clock.new ≡ clock.old) × (hooks.new ≡ hooks.old) }
+    ensures unread { (result ≡ Status.Usage) ⊎ ((result ≡ Status.ReadFault)
+        ⊎ (result ≡ Status.TooLong)) → (clock.new ≡ clock.old) × (hooks.new ≡ hooks.old) }
 {
     let script = match read_script(alloc, source, sink) {
         Ok(script) => script,

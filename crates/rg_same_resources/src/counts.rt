@@ -34,7 +34,8 @@ fn count_of(counts: &BTreeMap<u64, u32>, print: u64) -> u32
 
 /// Sets the count of the print. Where one is held it takes no memory.
 fn set_at(counts: &mut BTreeMap<u64, u32>, print: u64, count: u32) -> Result<(), NoMemory>
-    ensures ok { OnOk result ((k : ℕ) → count_of counts.new.entries k ≡ (if k == print then count else count_of counts.old.entries k)) }
+    ensures ok { OnOk result ((k : ℕ) → count_of counts.new.entries k
+        ≡ (if k == print then count else count_of counts.old.entries k)) }
     ensures err { OnErr result (IsSame counts.old.entries counts.new.entries) }
     ensures held { 0 < count_of counts.old.entries print → IsOk result }
 {
@@ -45,14 +46,16 @@ fn set_at(counts: &mut BTreeMap<u64, u32>, print: u64, count: u32) -> Result<(),
 }
 
 fn clear_at(counts: &mut BTreeMap<u64, u32>, print: u64)
-    ensures { (k : ℕ) → count_of counts.new.entries k ≡ (if k == print then 0 else count_of counts.old.entries k) }
+    ensures { (k : ℕ) → count_of counts.new.entries k
+        ≡ (if k == print then 0 else count_of counts.old.entries k) }
 {
     counts.remove(&print);
 }
 
 /// One more has the print. More than 2^32 - 1 are want of memory.
 fn raise(counts: &mut BTreeMap<u64, u32>, print: u64) -> Result<(), NoMemory>
-    ensures ok { OnOk result ((k : ℕ) → count_of counts.new.entries k ≡ count_of counts.old.entries k + one_if (k == print)) }
+    ensures ok { OnOk result ((k : ℕ) → count_of counts.new.entries k
+        ≡ count_of counts.old.entries k + one_if (k == print)) }
     ensures err { OnErr result (IsSame counts.old.entries counts.new.entries) }
 {
     match count_of(counts, print).checked_add(1) {
@@ -63,7 +66,8 @@ fn raise(counts: &mut BTreeMap<u64, u32>, print: u64) -> Result<(), NoMemory>
 
 /// One less has the print, which isn't held where none has it.
 fn lower(counts: &mut BTreeMap<u64, u32>, print: u64)
-    ensures { (k : ℕ) → count_of counts.new.entries k ≡ count_of counts.old.entries k - one_if (k == print) }
+    ensures { (k : ℕ) → count_of counts.new.entries k
+        ≡ count_of counts.old.entries k - one_if (k == print) }
 {
     let count = count_of(counts, print);
     if count <= 1 {

@@ -104,7 +104,8 @@ fn take_maps(marks: &mut [u64], maps: &[ResourceMap])
 
 /// The hash of all marks, begun without any.
 fn hash_of_maps(marks: &mut [u64], levels: &Seq<PolicyResource>, additional: &[ResourceMap]) -> u64
-    ensures { result ≡ hash_from 1 (with_maps marks.old (record { levels = levels.now } ∷ additional.now)) }
+    ensures { result
+        ≡ hash_from 1 (with_maps marks.old (record { levels = levels.now } ∷ additional.now)) }
 {
     take_levels(marks, levels.as_slice());
     take_maps(marks, additional);

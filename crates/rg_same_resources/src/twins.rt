@@ -70,7 +70,9 @@ pub fn same_texts(alloc: Global, texts: &[Text], others: &[Text]) -> Result<bool
 
 /// Whether the resources are of one level, with the same flags.
 fn same_flags(resource: &PolicyResource, other: &PolicyResource) -> bool
-    ensures { result ≡ (bytes_eq other.now.level resource.now.level && (same_flag resource.now.excludes other.now.excludes && same_flag resource.now.recursive other.now.recursive)) }
+    ensures { result ≡ (bytes_eq other.now.level resource.now.level
+        && (same_flag resource.now.excludes other.now.excludes
+        && same_flag resource.now.recursive other.now.recursive)) }
 {
     same_text(other.level.as_str(), resource.level.as_str())
         && (same_flag(resource.excludes, other.excludes)

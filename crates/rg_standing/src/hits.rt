@@ -33,7 +33,8 @@ fn value_stands(
     user: &str,
     value: &str,
 ) -> Result<bool, NoMemory>
-    ensures { IfOk result (λ b. b ≡ value_stands level.now recursive (chars user.now) (chars value.now) text.now) }
+    ensures { IfOk result
+        (λ b. b ≡ value_stands level.now recursive (chars user.now) (chars value.now) text.now) }
 {
     let pattern = written(alloc, text, level.wild)?;
     if pattern.matches(value, user, level.fold) {
@@ -54,7 +55,8 @@ fn any_stands(
     user: &str,
     value: &str,
 ) -> Result<bool, NoMemory>
-    ensures { IfOk result (λ b. b ≡ list_any (value_stands level.now recursive (chars user.now) (chars value.now)) values.now) }
+    ensures { IfOk result (λ b. b ≡ list_any
+        (value_stands level.now recursive (chars user.now) (chars value.now)) values.now) }
 {
     for text in values {
         if value_stands(alloc, level, recursive, text, user, value)? {
@@ -73,7 +75,8 @@ fn some_stands(
     user: &str,
     value: &str,
 ) -> Result<bool, NoMemory>
-    ensures { IfOk result (λ b. b ≡ some_stands level.now resource.now (chars user.now) (chars value.now)) }
+    ensures { IfOk result
+        (λ b. b ≡ some_stands level.now resource.now (chars user.now) (chars value.now)) }
 {
     let values = resource.values.as_slice();
     any_stands(alloc, level, resource.recursive, values, user, value)
@@ -100,7 +103,8 @@ fn is_hit(
     user: &str,
     value: &str,
 ) -> Result<bool, NoMemory>
-    ensures { IfOk result (λ b. b ≡ is_hit (level_of def.now resource.now.level) resource.now (chars user.now) (chars value.now)) }
+    ensures { IfOk result (λ b. b ≡ is_hit
+        (level_of def.now resource.now.level) resource.now (chars user.now) (chars value.now)) }
 {
     match level_of(def, resource.level.as_str()) {
         Some(level) => hit(alloc, level, resource, user, value),
@@ -150,7 +154,8 @@ pub(crate) fn meets(
     elements: &[Element],
     resource: &PolicyResource,
 ) -> Result<bool, NoMemory>
-    ensures { IfOk result (λ b. b ≡ meets def.now (chars user.now) resource.now (value_at elements.now resource.now.level)) }
+    ensures { IfOk result (λ b. b ≡ meets def.now
+        (chars user.now) resource.now (value_at elements.now resource.now.level)) }
 {
     match value_at(elements, resource.level.as_str()) {
         Some(value) => is_hit(alloc, def, resource, user, value.as_str()),

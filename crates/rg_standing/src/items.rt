@@ -37,7 +37,8 @@ fn first_set(flags: &[bool]) -> Option<usize>
 impl<'a> Question<'a> {
     /// Whether the condition holds.
     fn condition_holds(&self, alloc: Global, condition: &PolicyCondition) -> Result<bool, NoMemory>
-        ensures { IfOk result (λ b. b ≡ condition_holds (def_asked self.now) condition.now self.now.context.request self.now.context.tag) }
+        ensures { IfOk result (λ b. b ≡ condition_holds
+            (def_asked self.now) condition.now self.now.context.request self.now.context.tag) }
     {
         match compile_condition(alloc, self.def(), condition) {
             Ok(compiled) => Ok(compiled.holds(self.request, self.tag)),
@@ -51,7 +52,8 @@ impl<'a> Question<'a> {
         alloc: Global,
         conditions: &'c [PolicyCondition],
     ) -> Result<Option<&'c PolicyCondition>, NoMemory>
-        ensures { IfOk result (λ o. option_map (λ w. w.now) o ≡ first_failing self.now conditions.now) }
+        ensures { IfOk result
+            (λ o. option_map (λ w. w.now) o ≡ first_failing self.now conditions.now) }
     {
         for condition in conditions {
             if !self.condition_holds(alloc, condition)? {
@@ -64,7 +66,8 @@ impl<'a> Question<'a> {
     /// Whether all conditions hold.
     #[tactic(auto, using(crate::proofs::Tests::all_by_first))]
     fn all_hold(&self, alloc: Global, conditions: &[PolicyCondition]) -> Result<bool, NoMemory>
-        ensures { IfOk result (λ b. b ≡ all_hold self.now.frame self.now.side self.now.context conditions.now) }
+        ensures { IfOk result
+            (λ b. b ≡ all_hold self.now.frame self.now.side self.now.context conditions.now) }
     {
         match self.first_failing(alloc, conditions)? {
             Some(_) => Ok(false),
@@ -90,7 +93,8 @@ impl<'a> Question<'a> {
 
     /// The first subject of the item that is the asker.
     fn subject_of(&self, alloc: Global, item: &Item) -> Result<Option<Subject>, NoMemory>
-        ensures { IfOk result (λ s. s ≡ subject_of self.now.context.roles self.now.context.request item.now) }
+        ensures { IfOk result
+            (λ s. s ≡ subject_of self.now.context.roles self.now.context.request item.now) }
     {
         let users = item.users.as_slice();
         if has_user_word(users) {
@@ -104,7 +108,8 @@ impl<'a> Question<'a> {
 
     /// Whether the item matches.
     fn item_matches(&self, alloc: Global, item: &Item) -> Result<bool, NoMemory>
-        ensures { IfOk result (λ b. b ≡ item_matches self.now.frame self.now.side self.now.context item.now) }
+        ensures { IfOk result
+            (λ b. b ≡ item_matches self.now.frame self.now.side self.now.context item.now) }
     {
         if !any_grants(self.def(), self.access, item.accesses.as_slice()) {
             return Ok(false);
@@ -117,7 +122,8 @@ impl<'a> Question<'a> {
 
     /// Which of the items match.
     fn flags(&self, alloc: Global, items: &[Item]) -> Result<Vec<bool>, NoMemory>
-        ensures { IfOk result (λ v. v.items ≡ map (item_matches self.now.frame self.now.side self.now.context) items.now) }
+        ensures { IfOk result (λ v. v.items
+            ≡ map (item_matches self.now.frame self.now.side self.now.context) items.now) }
     {
         let mut flags = Vec::new(alloc);
         for item in items {
@@ -129,7 +135,8 @@ impl<'a> Question<'a> {
     /// The place of the first item that matches.
     #[tactic(auto, using(crate::proofs::Tests::place_mapped))]
     fn first_item(&self, alloc: Global, items: &[Item]) -> Result<Option<usize>, NoMemory>
-        ensures { IfOk result (λ o. o ≡ first_item self.now.frame self.now.side self.now.context items.now) }
+        ensures { IfOk result
+            (λ o. o ≡ first_item self.now.frame self.now.side self.now.context items.now) }
     {
         let flags = self.flags(alloc, items)?;
         Ok(first_set(&flags))

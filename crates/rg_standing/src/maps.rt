@@ -61,7 +61,8 @@ fn first_unmatched<'a>(
     elements: &[Element],
     resources: &'a [PolicyResource],
 ) -> Result<Option<&'a PolicyResource>, NoMemory>
-    ensures { IfOk result (λ o. option_map (λ r. r.now) o ≡ first_unmatched def.now (chars user.now) elements.now resources.now) }
+    ensures { IfOk result (λ o. option_map (λ r. r.now) o
+        ≡ first_unmatched def.now (chars user.now) elements.now resources.now) }
 {
     for resource in resources {
         if !meets(alloc, def, user, elements, resource)? {
@@ -136,7 +137,8 @@ pub fn resources_lie(
     elements: &[Element],
     user: &str,
 ) -> Result<bool, NoMemory>
-    ensures { IfOk result (λ b. b ≡ lies def.now resources.now reach elements.now (chars user.now)) }
+    ensures { IfOk result
+        (λ b. b ≡ lies def.now resources.now reach elements.now (chars user.now)) }
 {
     if !(is_some_element(elements) && def.paths.both_on_one_path(resources, elements)) {
         return Ok(false);
@@ -152,7 +154,8 @@ pub(crate) fn some_lies(
     elements: &[Element],
     user: &str,
 ) -> Result<bool, NoMemory>
-    ensures { IfOk result (λ b. b ≡ some_lies def.now maps.now Exact elements.now (chars user.now)) }
+    ensures { IfOk result
+        (λ b. b ≡ some_lies def.now maps.now Exact elements.now (chars user.now)) }
 {
     for map in maps {
         let levels = map.levels.as_slice();
@@ -168,7 +171,8 @@ fn miss_by(
     unmatched: Option<&PolicyResource>,
     beyond: Option<&Element>,
 ) -> Result<Miss, NoMemory>
-    ensures { IfOk result (λ m. m ≡ miss_by (option_map (λ r. r.now) unmatched.entry) (option_map (λ e. e.now) beyond.entry)) }
+    ensures { IfOk result (λ m. m ≡ miss_by
+        (option_map (λ r. r.now) unmatched.entry) (option_map (λ e. e.now) beyond.entry)) }
 {
     match (unmatched, beyond) {
         (Some(resource), _) => Ok(Miss::Level(resource.level.try_copy(alloc)?)),
@@ -200,7 +204,8 @@ pub(crate) fn misses(
     elements: &[Element],
     maps: &[ResourceMap],
 ) -> Result<Seq<Miss>, NoMemory>
-    ensures { IfOk result (λ list. list ≡ listed (map (miss_of def.now (chars user.now) elements.now) maps.now)) }
+    ensures { IfOk result
+        (λ list. list ≡ listed (map (miss_of def.now (chars user.now) elements.now) maps.now)) }
 {
     let mut list = Seq::new(alloc);
     for map in maps {

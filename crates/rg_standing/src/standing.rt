@@ -28,7 +28,8 @@ impl<'a> Question<'a> {
     }
 
     fn any_valid(&self, alloc: Global, schedules: &[ScheduleText]) -> Result<bool, NoMemory>
-        ensures { IfOk result (λ b. b ≡ list_any (is_valid self.now.frame self.now.context) schedules.now) }
+        ensures { IfOk result
+            (λ b. b ≡ list_any (is_valid self.now.frame self.now.context) schedules.now) }
     {
         for schedule in schedules {
             if self.is_valid(alloc, schedule)? {
@@ -40,7 +41,8 @@ impl<'a> Question<'a> {
 
     /// Whether there is no schedule, or one that contains the request's moment.
     fn is_scheduled(&self, alloc: Global, schedules: &[ScheduleText]) -> Result<bool, NoMemory>
-        ensures { IfOk result (λ b. b ≡ is_scheduled (is_valid self.now.frame self.now.context) schedules.now) }
+        ensures { IfOk result
+            (λ b. b ≡ is_scheduled (is_valid self.now.frame self.now.context) schedules.now) }
     {
         match schedules {
             [] => Ok(true),

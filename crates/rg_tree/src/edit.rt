@@ -137,7 +137,8 @@ fn forked_with<V: Drop>(
     next: Tree<V>,
 ) -> Result<Tree<V>, NoMemory>
     requires { number < 4 }
-    ensures { IfOk result (λ t. IsForked number (arc_value a.now) (arc_value b.now) (arc_value c.now) (arc_value d.now) next t) }
+    ensures { IfOk result (λ t. IsForked number
+        (arc_value a.now) (arc_value b.now) (arc_value c.now) (arc_value d.now) next t) }
 {
     let next = Arc::new(alloc, next)?;
     let a = share(a)?;

@@ -96,7 +96,8 @@ pub(crate) fn with_between(
     entry: Filed,
     back: &[Pair],
 ) -> Result<Vec<Pair>, NoMemory>
-    ensures { IfOk result (λ v. v.items ≡ front.now ++ (record { key = chars key.now; entry = entry }) ∷ back.now) }
+    ensures { IfOk result
+        (λ v. v.items ≡ front.now ++ (record { key = chars key.now; entry = entry }) ∷ back.now) }
 {
     let room = front.len().saturating_add(back.len()).saturating_add(1);
     let mut pairs = Vec::with_capacity(alloc, room)?;

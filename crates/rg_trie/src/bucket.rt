@@ -52,7 +52,8 @@ impl Bucket {
 
     /// The bucket with this pair; an equal one where it stands there already.
     pub(crate) fn with(&self, alloc: Global, key: &str, entry: Filed) -> Result<Bucket, NoMemory>
-        ensures { IfOk result (λ t. t ≡ with_pair (record { key = chars key.now; entry = entry }) self.now) }
+        ensures { IfOk result
+            (λ t. t ≡ with_pair (record { key = chars key.now; entry = entry }) self.now) }
     {
         let cut = self.cut(key, entry);
         if is_first(cut.back, key, entry) {
@@ -67,7 +68,8 @@ impl Bucket {
 
     /// The bucket without this pair; an equal one where it doesn't stand there.
     pub(crate) fn without(&self, alloc: Global, key: &str, entry: Filed) -> Result<Bucket, NoMemory>
-        ensures { IfOk result (λ t. t ≡ without_pair (record { key = chars key.now; entry = entry }) self.now) }
+        ensures { IfOk result
+            (λ t. t ≡ without_pair (record { key = chars key.now; entry = entry }) self.now) }
     {
         let cut = self.cut(key, entry);
         if !is_first(cut.back, key, entry) {
@@ -99,7 +101,8 @@ impl Bucket {
 
     /// The pairs cut where this one stands or would stand.
     fn cut(&self, key: &str, entry: Filed) -> Cut<'_>
-        ensures { IsCut (record { key = chars key.now; entry = entry }) self.now result.before.now result.front.now result.back.now result.after.now }
+        ensures { IsCut (record { key = chars key.now; entry = entry })
+            self.now result.before.now result.front.now result.back.now result.after.now }
     {
         find(self.blocks.as_slice(), key, false, Mark::At(entry))
     }

@@ -22,7 +22,8 @@ impl Lengths {
 
     /// The lengths with one more.
     pub(crate) fn with(&self, count: usize) -> Lengths
-        ensures { (n : ℕ) → may_occur result.occurs n ≡ false → (may_occur self.now.occurs n ≡ false) × ¬ (n ≡ count) }
+        ensures { (n : ℕ) → may_occur result.occurs n ≡ false
+            → (may_occur self.now.occurs n ≡ false) × ¬ (n ≡ count) }
     {
         let mut occurs = self.occurs;
         if count < LENGTH_LIMIT {

@@ -32,9 +32,13 @@ impl<'a> Model for Prefix<'a> {
 
     ghost Value = { Parted };
 
-    ghost view = { λ p. record { seen = folded p.fold (chars p.seen.now); rest = folded p.fold (chars p.rest.now) } };
+    ghost view = { λ p. record {
+      seen = folded p.fold (chars p.seen.now);
+      rest = folded p.fold (chars p.rest.now);
+    } };
 
-    ghost invariant = { λ p. IsParted p.fold (chars p.value.now) (chars p.seen.now) (chars p.rest.now) p.count p.state };
+    ghost invariant = { λ p. IsParted p.fold
+        (chars p.value.now) (chars p.seen.now) (chars p.rest.now) p.count p.state };
 }
 
 /// How many characters a longer prefix has, as far as lengths are told apart.
@@ -79,7 +83,8 @@ impl<'a> Prefix<'a> {
 
     /// The prefix that is one character longer; None behind the whole value.
     pub(crate) fn next(&self) -> Option<Prefix<'a>>
-        ensures { MatchOption result (self.now.rest ≡ []) (λ p. (c : ℕ) × (self.now.rest ≡ c ∷ p.rest) × (p.seen ≡ self.now.seen ++ c ∷ [])) }
+        ensures { MatchOption result (self.now.rest ≡ [])
+            (λ p. (c : ℕ) × (self.now.rest ≡ c ∷ p.rest) × (p.seen ≡ self.now.seen ++ c ∷ [])) }
     {
         match split_char(self.rest) {
             None => None,

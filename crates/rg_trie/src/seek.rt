@@ -23,8 +23,10 @@ pub(crate) fn ends_before(pairs: &[Pair], text: &str, fold: bool, mark: Mark) ->
 fn block_of(blocks: &[Held], text: &str, fold: bool, mark: Mark) -> usize
     requires { AreInOrder blocks.now }
     ensures bound { result ≤ length blocks.now }
-    ensures passed { All (λ p. before (folded fold (chars text.now)) mark p ≡ true) (pairs_of (take result blocks.now)) }
-    ensures stopped { (d : _) → result < length blocks.now → ends_passing (before (folded fold (chars text.now)) mark) (block_pairs (slice_index_or blocks.now result d)) ≡ false }
+    ensures passed { All (λ p. before (folded fold (chars text.now)) mark p ≡ true)
+        (pairs_of (take result blocks.now)) }
+    ensures stopped { (d : _) → result < length blocks.now → ends_passing (before (folded fold
+        (chars text.now)) mark) (block_pairs (slice_index_or blocks.now result d)) ≡ false }
 {
     blocks.partition_point(|held| ends_before(held.block.pairs.as_slice(), text, fold, mark))
 }
@@ -33,8 +35,10 @@ fn block_of(blocks: &[Held], text: &str, fold: bool, mark: Mark) -> usize
 pub(crate) fn place_of(pairs: &[Pair], text: &str, fold: bool, mark: Mark) -> usize
     requires { IsRising Below pairs.now }
     ensures bound { result ≤ length pairs.now }
-    ensures passed { All (λ p. before (folded fold (chars text.now)) mark p ≡ true) (take result pairs.now) }
-    ensures left { All (λ p. before (folded fold (chars text.now)) mark p ≡ false) (drop result pairs.now) }
+    ensures passed { All (λ p. before (folded fold (chars text.now)) mark p ≡ true)
+        (take result pairs.now) }
+    ensures left { All (λ p. before (folded fold (chars text.now)) mark p ≡ false)
+        (drop result pairs.now) }
 {
     pairs.partition_point(|pair| is_before(pair, text, fold, mark))
 }
@@ -50,10 +54,14 @@ struct Spot {
 fn spot_of(blocks: &[Held], text: &str, fold: bool, mark: Mark) -> Spot
     requires { AreInOrder blocks.now }
     ensures bound { result.block ≤ length blocks.now }
-    ensures inside { (d : _) → result.block < length blocks.now → result.place < length (block_pairs (slice_index_or blocks.now result.block d)) }
+    ensures inside { (d : _) → result.block < length blocks.now
+        → result.place < length (block_pairs (slice_index_or blocks.now result.block d)) }
     ensures end { length blocks.now ≤ result.block → result.place ≡ 0 }
-    ensures passed { All (λ p. before (folded fold (chars text.now)) mark p ≡ true) (pairs_of (take result.block blocks.now) ++ take result.place (pairs_of (drop result.block blocks.now))) }
-    ensures left { All (λ p. before (folded fold (chars text.now)) mark p ≡ false) (drop result.place (pairs_of (drop result.block blocks.now))) }
+    ensures passed { All (λ p. before (folded fold (chars text.now)) mark p ≡ true)
+        (pairs_of (take result.block blocks.now)
+        ++ take result.place (pairs_of (drop result.block blocks.now))) }
+    ensures left { All (λ p. before (folded fold (chars text.now)) mark p ≡ false)
+        (drop result.place (pairs_of (drop result.block blocks.now))) }
 {
     let block = block_of(blocks, text, fold, mark);
     let place = if block < blocks.len() {
@@ -75,12 +83,15 @@ pub(crate) struct Cut<'a> {
 
 /// The blocks cut at a place. The end counts as a place of the last block, so that a pair beyond all others joins that block.
 fn cut_at<'a>(blocks: &'a [Held], spot: Spot) -> Cut<'a>
-    requires inside { (d : _) → spot.block < length blocks.now → spot.place < length (block_pairs (slice_index_or blocks.now spot.block d)) }
+    requires inside { (d : _) → spot.block < length blocks.now
+        → spot.place < length (block_pairs (slice_index_or blocks.now spot.block d)) }
     requires end { length blocks.now ≤ spot.block → spot.place ≡ 0 }
     requires bound { spot.block ≤ length blocks.now }
     requires sized { All IsSized blocks.now }
-    ensures first { pairs_of result.before.now ++ result.front.now ≡ pairs_of (take spot.block blocks.now) ++ take spot.place (pairs_of (drop spot.block blocks.now)) }
-    ensures last { result.back.now ++ pairs_of result.after.now ≡ drop spot.place (pairs_of (drop spot.block blocks.now)) }
+    ensures first { pairs_of result.before.now ++ result.front.now ≡ pairs_of
+        (take spot.block blocks.now) ++ take spot.place (pairs_of (drop spot.block blocks.now)) }
+    ensures last { result.back.now ++ pairs_of result.after.now
+        ≡ drop spot.place (pairs_of (drop spot.block blocks.now)) }
     ensures before { (k : _) × (result.before.now ≡ take k blocks.now) }
     ensures after { (k : _) × (result.after.now ≡ drop k blocks.now) }
     ensures limited { length result.front.now + length result.back.now ≤ block_limit }
@@ -119,9 +130,12 @@ fn cut_at<'a>(blocks: &'a [Held], spot: Spot) -> Cut<'a>
 #[tactic(auto, using(crate::proofs::Rise::cuts))]
 pub(crate) fn find<'a>(blocks: &'a [Held], text: &str, fold: bool, mark: Mark) -> Cut<'a>
     requires { AreInOrder blocks.now }
-    ensures passed { All (λ p. before (folded fold (chars text.now)) mark p ≡ true) (pairs_of result.before.now ++ result.front.now) }
-    ensures left { All (λ p. before (folded fold (chars text.now)) mark p ≡ false) (result.back.now ++ pairs_of result.after.now) }
-    ensures whole { pairs_of blocks.now ≡ (pairs_of result.before.now ++ result.front.now) ++ (result.back.now ++ pairs_of result.after.now) }
+    ensures passed { All (λ p. before (folded fold (chars text.now)) mark p ≡ true)
+        (pairs_of result.before.now ++ result.front.now) }
+    ensures left { All (λ p. before (folded fold (chars text.now)) mark p ≡ false)
+        (result.back.now ++ pairs_of result.after.now) }
+    ensures whole { pairs_of blocks.now ≡ (pairs_of result.before.now ++ result.front.now)
+        ++ (result.back.now ++ pairs_of result.after.now) }
     ensures sized { All IsSized result.before.now × All IsSized result.after.now }
     ensures counted { AreCounted 0 result.after.now }
     ensures limited { length result.front.now + length result.back.now ≤ block_limit }

@@ -66,8 +66,10 @@ impl Trie {
         entry: Filed,
         steps: &mut Steps<L>,
     ) -> Result<Trie, NoMemory>
-        ensures made { IfOk result (λ t. t ≡ with_pair (record { key = chars key.now; entry = entry }) self.now) }
-        ensures holds { IfOk result (λ t. Adds (record { key = chars key.now; entry = entry }) self.now t) }
+        ensures made { IfOk result
+            (λ t. t ≡ with_pair (record { key = chars key.now; entry = entry }) self.now) }
+        ensures holds { IfOk result
+            (λ t. Adds (record { key = chars key.now; entry = entry }) self.now t) }
         ensures counted { steps.new ≡ one_edit steps.old }
     {
         steps.edit();
@@ -83,8 +85,10 @@ impl Trie {
         entry: Filed,
         steps: &mut Steps<L>,
     ) -> Result<Trie, NoMemory>
-        ensures made { IfOk result (λ t. t ≡ without_pair (record { key = chars key.now; entry = entry }) self.now) }
-        ensures holds { IfOk result (λ t. Takes (record { key = chars key.now; entry = entry }) self.now t) }
+        ensures made { IfOk result
+            (λ t. t ≡ without_pair (record { key = chars key.now; entry = entry }) self.now) }
+        ensures holds { IfOk result
+            (λ t. Takes (record { key = chars key.now; entry = entry }) self.now t) }
         ensures counted { steps.new ≡ one_edit steps.old }
     {
         steps.edit();
@@ -95,7 +99,8 @@ impl Trie {
     /// set: shorter keys first, then by id and place, each pair of key and entry once. Keys are compared as they were given.
     pub fn walk<'a>(&'a self, value: &'a str, fold: bool) -> Walk<'a>
         ensures given { result ≡ entries_under (folded fold (chars value.now)) self.now }
-        ensures ordered { AllPairs ShorterFirst (pairs_under (folded fold (chars value.now)) self.now) }
+        ensures ordered { AllPairs ShorterFirst
+            (pairs_under (folded fold (chars value.now)) self.now) }
     {
         Walk::over(&self.tree, &self.lengths, value, fold)
     }
@@ -124,7 +129,8 @@ impl Trie {
     }
 
     fn with(&self, alloc: Global, key: &str, entry: Filed) -> Result<Trie, NoMemory>
-        ensures { IfOk result (λ t. t ≡ with_pair (record { key = chars key.now; entry = entry }) self.now) }
+        ensures { IfOk result
+            (λ t. t ≡ with_pair (record { key = chars key.now; entry = entry }) self.now) }
     {
         let Some(total) = self.total.checked_add(1) else {
             return Err(NoMemory);
@@ -141,7 +147,8 @@ impl Trie {
     }
 
     fn without(&self, alloc: Global, key: &str, entry: Filed) -> Result<Trie, NoMemory>
-        ensures { IfOk result (λ t. t ≡ without_pair (record { key = chars key.now; entry = entry }) self.now) }
+        ensures { IfOk result
+            (λ t. t ≡ without_pair (record { key = chars key.now; entry = entry }) self.now) }
     {
         let hash = hash_of(key, false);
         let bucket = bucket_without(alloc, self.tree.get(hash), key, entry)?;
@@ -162,7 +169,8 @@ fn bucket_with(
     key: &str,
     entry: Filed,
 ) -> Result<Bucket, NoMemory>
-    ensures { IfOk result (λ b. b ≡ with_pair (record { key = chars key.now; entry = entry }) (unwrap_or (option_map (λ b. b.now) bucket.entry) [])) }
+    ensures { IfOk result (λ b. b ≡ with_pair (record { key = chars key.now; entry = entry })
+        (unwrap_or (option_map (λ b. b.now) bucket.entry) [])) }
 {
     match bucket {
         Some(bucket) => bucket.with(alloc, key, entry),
@@ -177,7 +185,10 @@ fn bucket_without(
     key: &str,
     entry: Filed,
 ) -> Result<Option<Bucket>, NoMemory>
-    ensures { IfOk result (λ b. unwrap_or b [] ≡ without_pair (record { key = chars key.now; entry = entry }) (unwrap_or (option_map (λ b. b.now) bucket.entry) [])) }
+    ensures { IfOk result (λ b. unwrap_or b [] ≡ without_pair (record {
+      key = chars key.now;
+      entry = entry;
+    }) (unwrap_or (option_map (λ b. b.now) bucket.entry) [])) }
 {
     let Some(bucket) = bucket else {
         return Ok(None);

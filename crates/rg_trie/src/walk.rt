@@ -55,9 +55,11 @@ pub(crate) fn advance<'a>(
     mark: Mark,
 ) -> Rest<'a>
     requires { IsWalking back.now after.now }
-    ensures passed { (passed : List Pair) × (back.now ++ pairs_of after.now ≡ passed ++ (result.back.now ++ pairs_of result.after.now))
+    ensures passed { (passed : List Pair) × (back.now ++ pairs_of after.now
+        ≡ passed ++ (result.back.now ++ pairs_of result.after.now))
         × All (λ p. before (folded fold (chars text.now)) mark p ≡ true) passed }
-    ensures left { All (λ p. before (folded fold (chars text.now)) mark p ≡ false) (result.back.now ++ pairs_of result.after.now) }
+    ensures left { All (λ p. before (folded fold (chars text.now)) mark p ≡ false)
+        (result.back.now ++ pairs_of result.after.now) }
     ensures walking { IsWalking result.back.now result.after.now }
 {
     if ends_before(back, text, fold, mark) {
@@ -100,7 +102,8 @@ fn is_past(pairs: &[Pair], prefix: &Prefix<'_>) -> bool
 fn from_key<'a>(bucket: &'a Bucket, prefix: &Prefix<'_>) -> Rest<'a>
     ensures from { IsFrom prefix.now.seen result.back.now result.after.now }
     ensures fits { length (result.back.now ++ pairs_of result.after.now) < 2 ^ 64 }
-    ensures same { entries_of_key prefix.now.seen (result.back.now ++ pairs_of result.after.now) ≡ entries_of_key prefix.now.seen bucket.now }
+    ensures same { entries_of_key prefix.now.seen (result.back.now ++ pairs_of result.after.now)
+        ≡ entries_of_key prefix.now.seen bucket.now }
 {
     let blocks = bucket.blocks.as_slice();
     let total = total_of(blocks);
@@ -116,7 +119,8 @@ pub(crate) fn found<'a>(tree: &'a Tree<Bucket>, lengths: &Lengths, prefix: &Pref
     requires { Covers lengths.now.occurs tree.now }
     ensures from { IsFrom prefix.now.seen result.back.now result.after.now }
     ensures fits { length (result.back.now ++ pairs_of result.after.now) < 2 ^ 64 }
-    ensures same { entries_of_key prefix.now.seen (result.back.now ++ pairs_of result.after.now) ≡ entries_at tree.now prefix.now.seen }
+    ensures same { entries_of_key prefix.now.seen (result.back.now ++ pairs_of result.after.now)
+        ≡ entries_at tree.now prefix.now.seen }
 {
     if !lengths.may_occur(prefix.count()) {
         return nothing();
@@ -138,7 +142,9 @@ struct Step<'a> {
 fn first_entry<'a>(back: &'a [Pair], after: &'a [Held], prefix: &Prefix<'_>) -> Step<'a>
     requires { IsFrom prefix.now.seen back.now after.now }
     ensures from { IsFrom prefix.now.seen result.rest.back.now result.rest.after.now }
-    ensures found { MatchOption result.found ((entries_of_key prefix.now.seen (back.now ++ pairs_of after.now) ≡ []) × (entries_of_key prefix.now.seen (result.rest.back.now ++ pairs_of result.rest.after.now) ≡ []))
+    ensures found { MatchOption result.found
+        ((entries_of_key prefix.now.seen (back.now ++ pairs_of after.now) ≡ []) × (entries_of_key
+        prefix.now.seen (result.rest.back.now ++ pairs_of result.rest.after.now) ≡ []))
         (λ e. entries_of_key prefix.now.seen (back.now ++ pairs_of after.now) ≡ e ∷ entries_of_key prefix.now.seen (result.rest.back.now ++ pairs_of result.rest.after.now)) }
 {
     let open = opened(back, after);
@@ -182,7 +188,9 @@ fn first_left<'a>(
     requires covered { Covers lengths.now.occurs tree.now }
     requires from { IsFrom prefix.seen rest.back.now rest.after.now }
     ensures from { IsFrom result.prefix.seen result.rest.back.now result.rest.after.now }
-    ensures found { MatchOption result.found ((entries_left tree.now prefix.entry rest.entry.back.now rest.entry.after.now ≡ []) × (entries_left tree.now result.prefix result.rest.back.now result.rest.after.now ≡ []))
+    ensures found { MatchOption result.found
+        ((entries_left tree.now prefix.entry rest.entry.back.now rest.entry.after.now ≡ [])
+        × (entries_left tree.now result.prefix result.rest.back.now result.rest.after.now ≡ []))
         (λ e. entries_left tree.now prefix.entry rest.entry.back.now rest.entry.after.now ≡ e ∷ entries_left tree.now result.prefix result.rest.back.now result.rest.after.now) }
 {
     let mut prefix = prefix;
@@ -227,7 +235,8 @@ impl<'a> Model for Walk<'a> {
 
     ghost view = { λ w. entries_left w.tree.now w.prefix w.rest.back.now w.rest.after.now };
 
-    ghost invariant = { λ w. IsFrom w.prefix.seen w.rest.back.now w.rest.after.now × Covers w.lengths.now.occurs w.tree.now };
+    ghost invariant = { λ w. IsFrom w.prefix.seen w.rest.back.now w.rest.after.now
+        × Covers w.lengths.now.occurs w.tree.now };
 }
 
 impl<'a> Walk<'a> {

@@ -19,7 +19,8 @@ fn take_machine<M: Machine>(table: &SharedTable<M>, seat: &mut TableSeat<M>) -> 
     requires table { seat.old.table_id ≡ table.now.table_id }
     requires holds { (d : Slot M) × (m : M) × (seat.old.me.1 ≡ (0, d) ∷ []) × (d.machine ≡ Some m) }
     ensures table { (seat.new.table_id ≡ seat.old.table_id) × (seat.new.id ≡ seat.old.id) }
-    ensures machine { (d : Slot M) × (seat.old.me.1 ≡ (0, d) ∷ []) × (d.machine ≡ Some result.0) × (d.entries ≡ result.1) }
+    ensures machine { (d : Slot M) × (seat.old.me.1 ≡ (0, d) ∷ [])
+        × (d.machine ≡ Some result.0) × (d.entries ≡ result.1) }
     ensures rest { (d : Slot M) × (seat.new.me ≡ (seat.old.me.0, (0, d) ∷ [])) }
 {
     let empty = Slot {
@@ -41,7 +42,9 @@ fn return_machine<M: Machine>(
     requires table { (seat.old.table_id ≡ table.now.table_id) × (table.now.table_id.words ≡ 2) }
     requires holds { (d : Slot M) × (seat.old.me.1 ≡ (0, d) ∷ []) }
     requires live { (0 < seat.old.me.0.weight) × (seat.old.me.0.is_served ≡ true) }
-    requires answered { (x : M.State) × (seat.old.me.0.start ≡ Some x) × IsAnswered M.state M.transition (state_after M.transition x seat.old.me.0.history) (length seat.old.me.0.history) (call_of added) (M.state machine) entries }
+    requires answered { (x : M.State) × (seat.old.me.0.start ≡ Some x)
+        × IsAnswered M.state M.transition (state_after M.transition x seat.old.me.0.history)
+        (length seat.old.me.0.history) (call_of added) (M.state machine) entries }
     ensures table { (seat.new.table_id ≡ seat.old.table_id) × (seat.new.id ≡ seat.old.id) }
     ensures passed { seat.new.me ≡ (passed (call_of added) seat.old.me.0, []) }
 {
@@ -61,12 +64,15 @@ pub(crate) fn answer<M: Machine>(
     ask: M::Ask,
 ) -> Result<M::Reply, NoMemory>
     requires table { (seat.old.table_id ≡ table.now.table_id) × (table.now.table_id.words ≡ 2) }
-    requires holds { (d : Slot M) × (x : M.State) × (seat.old.me.1 ≡ (0, d) ∷ []) × (seat.old.me.0.start ≡ Some x) × IsAfter M.state M.transition x seat.old.me.0.history d }
+    requires holds { (d : Slot M) × (x : M.State) × (seat.old.me.1 ≡ (0, d) ∷ [])
+        × (seat.old.me.0.start ≡ Some x) × IsAfter M.state M.transition x seat.old.me.0.history d }
     requires bound { length seat.old.me.0.history < 2 ^ 62 }
     requires live { (0 < seat.old.me.0.weight) × (seat.old.me.0.is_served ≡ true) }
     ensures table { (seat.new.table_id ≡ seat.old.table_id) × (seat.new.id ≡ seat.old.id) }
-    ensures passed { MatchResult result (λ r. seat.new.me ≡ (passed_with ask r seat.old.me.0, [])) (λ _. seat.new.me ≡ (passed_without seat.old.me.0, [])) }
-    ensures reply { IfOk result (λ r. (x : M.State) × (seat.old.me.0.start ≡ Some x) × ((M.transition (state_after M.transition x seat.old.me.0.history) ask).1 ≡ r)) }
+    ensures passed { MatchResult result (λ r. seat.new.me ≡ (passed_with ask r seat.old.me.0, []))
+        (λ _. seat.new.me ≡ (passed_without seat.old.me.0, [])) }
+    ensures reply { IfOk result (λ r. (x : M.State) × (seat.old.me.0.start ≡ Some x)
+        × ((M.transition (state_after M.transition x seat.old.me.0.history) ask).1 ≡ r)) }
 {
     let (mut machine, entries) = take_machine(table, seat);
     let asked = Snapshot::of(&ask);

@@ -27,7 +27,8 @@ impl<M: Machine> Model for Seat<M> {
 
     ghost view = { λ s. seat_value s.seat };
 
-    ghost invariant = { λ s. IsIdle M.transition s.seat × (s.made ≡ length s.seat.me.0.calls) × IsCounted s.seat.me.0 × IsAlone s.seat.me.0 };
+    ghost invariant = { λ s. IsIdle M.transition s.seat
+        × (s.made ≡ length s.seat.me.0.calls) × IsCounted s.seat.me.0 × IsAlone s.seat.me.0 };
 }
 
 impl<M: Machine> Seat<M> {
@@ -60,7 +61,8 @@ pub(crate) fn split_seats<M: Machine>(
     seat: TableSeat<M>,
     seats: u32,
 ) -> Result<Vec<Seat<M>>, NoMemory>
-    requires table { (seat.table_id ≡ table.now.table_id) × (table.now.table_id.words ≡ 2) × (0 < seats) }
+    requires table { (seat.table_id ≡ table.now.table_id)
+        × (table.now.table_id.words ≡ 2) × (0 < seats) }
     requires first { (x : M.State) × (seat.me ≡ (opening_view x seats seats, [])) }
     ensures { IfOk result (λ v. v.items ≡ replicate seats (seat_value seat)) }
 {
@@ -82,7 +84,8 @@ pub(crate) fn join_seats<M: Machine>(
 ) -> TableSeat<M>
     requires table { (seat.table_id ≡ table.now.table_id) × (table.now.table_id.words ≡ 2) }
     requires seats { All (λ s. s.turn.table ≡ table.now.table_id) seats.items }
-    requires idle { (seat.me.1 ≡ []) × (seat.me.0.has_ticket ≡ false) × (seat.me.0.is_served ≡ false) × (0 < seat.me.0.weight) }
+    requires idle { (seat.me.1 ≡ []) × (seat.me.0.has_ticket ≡ false)
+        × (seat.me.0.is_served ≡ false) × (0 < seat.me.0.weight) }
     ensures { HasJoined seat seats.items result }
 {
     let mut kept = seat;

@@ -58,7 +58,8 @@ fn look<M: Machine, T: NamesOpening<M::State>>(
     requires live { (0 < seat.old.me.0.weight) × (seat.old.me.0.is_served ≡ false) }
     requires opening { T.opening ≡ Some (M.state table.now.key.start.value) }
     ensures table { (seat.new.table_id ≡ seat.old.table_id) × (seat.new.id ≡ seat.old.id) }
-    ensures looked { Looked M.state M.transition T.opening (step table.now.table_id.slots 1 0 0 none) seat.old.me result seat.new.me }
+    ensures looked { Looked M.state M.transition T.opening
+        (step table.now.table_id.slots 1 0 0 none) seat.old.me result seat.new.me }
 {
     table.load::<Look<M, T>>(seat, SERVING)
 }
@@ -72,7 +73,9 @@ pub(crate) fn pass_on<M: Machine, T: AddsEntry<M::Ask, M::Reply>>(
     requires table { (seat.old.table_id ≡ table.now.table_id) × (table.now.table_id.words ≡ 2) }
     requires live { (0 < seat.old.me.0.weight) × (seat.old.me.0.is_served ≡ true) }
     requires added { T.added ≡ call_of added.now }
-    requires returned { (x : M.State) × (d : Slot M) × (seat.old.me.0.start ≡ Some x) × (seat.old.me.1 ≡ (0, d) ∷ []) × IsReturned M.state M.transition x seat.old.me.0.history (call_of added.now) d }
+    requires returned { (x : M.State) × (d : Slot M)
+        × (seat.old.me.0.start ≡ Some x) × (seat.old.me.1 ≡ (0, d) ∷ [])
+        × IsReturned M.state M.transition x seat.old.me.0.history (call_of added.now) d }
     ensures table { (seat.new.table_id ≡ seat.old.table_id) × (seat.new.id ≡ seat.old.id) }
     ensures passed { seat.new.me ≡ (passed (call_of added.now) seat.old.me.0, []) }
 {
@@ -113,7 +116,8 @@ pub(crate) fn await_turn<M: Machine, R: Wait>(
     ticket: u64,
 )
     requires table { (seat.old.table_id ≡ table.now.table_id) × (table.now.table_id.words ≡ 2) }
-    requires waits { (seat.old.me.1 ≡ []) × (seat.old.me.0.has_ticket ≡ true) × (seat.old.me.0.ticket ≡ ticket) }
+    requires waits { (seat.old.me.1 ≡ [])
+        × (seat.old.me.0.has_ticket ≡ true) × (seat.old.me.0.ticket ≡ ticket) }
     requires live { (0 < seat.old.me.0.weight) × (seat.old.me.0.is_served ≡ false) }
     ensures table { (seat.new.table_id ≡ seat.old.table_id) × (seat.new.id ≡ seat.old.id) }
     ensures served { IsServed M.state M.transition seat.old.me seat.new.me }

@@ -39,9 +39,19 @@ impl<M: Machine> Model for Turn<M> {
 
     ghost Value = { TurnValue M.State };
 
-    ghost view = { λ t. record { turn = record { table = t.table.shared.table_id; seats = t.table.shared.key.seats; start = Some (M.state t.table.shared.key.start.value) }; seats = t.table.shared.key.seats; start = M.state t.table.shared.key.start.value } };
+    ghost view = { λ t.
+        record {
+          turn = record {
+            table = t.table.shared.table_id;
+            seats = t.table.shared.key.seats;
+            start = Some (M.state t.table.shared.key.start.value);
+          };
+          seats = t.table.shared.key.seats;
+          start = M.state t.table.shared.key.start.value;
+        } };
 
-    ghost invariant = { λ t. (t.table.shared.table_id.words ≡ 2) × (t.table.shared.table_id.slots ≡ 1) × (0 < t.table.shared.key.seats) };
+    ghost invariant = { λ t. (t.table.shared.table_id.words ≡ 2)
+        × (t.table.shared.table_id.slots ≡ 1) × (0 < t.table.shared.key.seats) };
 }
 
 fn only<T: Drop>(alloc: Global, x: T) -> Result<Vec<T>, NoMemory>
@@ -59,9 +69,12 @@ fn open<M: Machine>(
     seats: u64,
 ) -> Result<(MachineTable<M>, TableSeat<M>), NoMemory>
     requires { 0 < seats }
-    ensures counts { IfOk result (λ t. (t.0.shared.table_id.words ≡ 2) × (t.0.shared.table_id.slots ≡ 1)) }
-    ensures key { IfOk result (λ t. (M.state t.0.shared.key.start.value ≡ M.state machine) × (t.0.shared.key.seats ≡ seats)) }
-    ensures seat { IfOk result (λ t. (t.1.table_id ≡ t.0.shared.table_id) × (t.1.me ≡ (opening_view (M.state machine) seats seats, []))) }
+    ensures counts { IfOk result (λ t. (t.0.shared.table_id.words ≡ 2)
+        × (t.0.shared.table_id.slots ≡ 1)) }
+    ensures key { IfOk result (λ t. (M.state t.0.shared.key.start.value ≡ M.state machine)
+        × (t.0.shared.key.seats ≡ seats)) }
+    ensures seat { IfOk result (λ t. (t.1.table_id ≡ t.0.shared.table_id)
+        × (t.1.me ≡ (opening_view (M.state machine) seats seats, []))) }
 {
     let opening = Opening {
         start: Snapshot::of(&machine),
@@ -83,7 +96,8 @@ fn end<M: Machine>(table: MachineTable<M>, seat: TableSeat<M>) -> Slot<M>
     requires table { (seat.table_id ≡ table.shared.table_id) × (table.shared.table_id.slots ≡ 1) }
     requires idle { (seat.me.0.has_ticket ≡ false) × (seat.me.0.is_served ≡ false) }
     requires whole { (0 < seat.me.0.weight) × (seat.me.0.weight ≡ table.shared.key.seats) }
-    ensures { HasEnded M.state M.transition (M.state table.shared.key.start.value) seat.me.0 result }
+    ensures { HasEnded M.state M.transition
+        (M.state table.shared.key.start.value) seat.me.0 result }
 {
     let mut closed = table.close_with(seat);
     let slot = closed.take(0);
@@ -106,7 +120,8 @@ impl<M: Machine> Turn<M> {
     /// What a seat of the turn knows, before any call too: the state in which the machine opened, and a legal history.
     pub fn knows(&self, seat: &Seat<M>)
         requires { seat.now.turn ≡ self.now.turn }
-        ensures opening { (seat.now.turn.start ≡ Some self.now.start) × (seat.now.turn.seats ≡ self.now.seats) }
+        ensures opening { (seat.now.turn.start ≡ Some self.now.start)
+            × (seat.now.turn.seats ≡ self.now.seats) }
         ensures legal { IsLegal M.transition self.now.start seat.now.history }
         ensures bounded { length seat.now.history ≤ 2 ^ 62 }
     {
@@ -129,8 +144,10 @@ impl<M: Machine> Turn<M> {
         ensures begins { IsPrefix seat.old.history seat.new.history }
         ensures bounded { length seat.new.history ≤ 2 ^ 62 }
         ensures each_once { EachOnce seat.new.calls seat.new.history }
-        ensures one_seat { seat.new.turn.seats ≡ 1 → seat.new.calls ≡ positions (length seat.new.history) }
-        ensures call { MatchResult result (λ r. IsCalled seat.old ask r seat.new) (λ _. seat.new.calls ≡ seat.old.calls) }
+        ensures one_seat { seat.new.turn.seats ≡ 1
+            → seat.new.calls ≡ positions (length seat.new.history) }
+        ensures call { MatchResult result
+            (λ r. IsCalled seat.old ask r seat.new) (λ _. seat.new.calls ≡ seat.old.calls) }
     {
         let table = &self.table.shared;
         let own = &mut seat.seat;
@@ -146,10 +163,13 @@ impl<M: Machine> Turn<M> {
         requires turn { All (λ s. s.turn ≡ self.turn) seats.items }
         requires all { length seats.items ≡ self.seats }
         ensures ok { IsOk result }
-        ensures legal { IfOk result (λ t. (t.1.start ≡ Some self.start) × IsLegal M.transition self.start t.1.history) }
-        ensures machine { IfOk result (λ t. M.state t.0 ≡ state_after M.transition self.start t.1.history) }
+        ensures legal { IfOk result (λ t. (t.1.start ≡ Some self.start)
+            × IsLegal M.transition self.start t.1.history) }
+        ensures machine { IfOk result
+            (λ t. M.state t.0 ≡ state_after M.transition self.start t.1.history) }
         ensures begins { IfOk result (λ t. All (λ s. IsPrefix s.history t.1.history) seats.items) }
-        ensures once { IfOk result (λ t. (p : ℕ) → calls_at p seats.items ≡ once_below p (length t.1.history)) }
+        ensures once { IfOk result (λ t. (p : ℕ)
+            → calls_at p seats.items ≡ once_below p (length t.1.history)) }
     {
         let Turn { table } = self;
         let mut seats = seats;

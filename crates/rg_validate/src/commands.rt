@@ -70,7 +70,8 @@ pub fn definition_fault(alloc: Global, def: &ServiceDef) -> Result<Option<Rule>,
 }
 
 fn put_def_fault(alloc: Global, state: &State, def: &ServiceDef) -> Result<Option<Rule>, NoMemory>
-    ensures { IfOk result (λ fault. fault ≡ first_failing (command_rules state.now (PutDef def.now))) }
+    ensures { IfOk result
+        (λ fault. fault ≡ first_failing (command_rules state.now (PutDef def.now))) }
 {
     if let Some(rule) = definition_fault(alloc, def)? {
         return Ok(Some(rule));
@@ -129,7 +130,8 @@ fn create_policy_fault(
 ) -> Result<Option<Rule>, NoMemory>
     requires valid { IsValid state.now }
     requires counted { IsCounted counts.now state.now.policies.items }
-    ensures { IfOk result (λ fault. fault ≡ first_failing (command_rules state.now (CreatePolicy policy.now))) }
+    ensures { IfOk result
+        (λ fault. fault ≡ first_failing (command_rules state.now (CreatePolicy policy.now))) }
 {
     let Some(def) = def_of(state, &policy.service) else {
         return Ok(Some(Rule::E1));
@@ -145,7 +147,8 @@ fn update_policy_fault(
 ) -> Result<Option<Rule>, NoMemory>
     requires valid { IsValid state.now }
     requires counted { IsCounted counts.now state.now.policies.items }
-    ensures { IfOk result (λ fault. fault ≡ first_failing (command_rules state.now (UpdatePolicy policy.now))) }
+    ensures { IfOk result
+        (λ fault. fault ≡ first_failing (command_rules state.now (UpdatePolicy policy.now))) }
 {
     if !policy_exists(state, policy.id) {
         return Ok(Some(Rule::E2));
@@ -183,7 +186,8 @@ fn member_roles_fault(
 
 fn put_role_fault(alloc: Global, state: &State, role: &RoleRow) -> Result<Option<Rule>, NoMemory>
     requires valid { IsValid state.now }
-    ensures { IfOk result (λ fault. fault ≡ first_failing (command_rules state.now (PutRole role.now))) }
+    ensures { IfOk result
+        (λ fault. fault ≡ first_failing (command_rules state.now (PutRole role.now))) }
 {
     if !is_name(role.name.as_str()) {
         return Ok(Some(Rule::O1));
@@ -202,7 +206,8 @@ fn delete_role_fault(state: &State, name: &Text) -> Option<Rule>
 
 fn put_zone_fault(alloc: Global, state: &State, zone: &ZoneRow) -> Result<Option<Rule>, NoMemory>
     requires valid { IsValid state.now }
-    ensures { IfOk result (λ fault. fault ≡ first_failing (command_rules state.now (PutZone zone.now))) }
+    ensures { IfOk result
+        (λ fault. fault ≡ first_failing (command_rules state.now (PutZone zone.now))) }
 {
     if !is_name(zone.name.as_str()) {
         return Ok(Some(Rule::Z1));
@@ -241,7 +246,8 @@ fn put_tags_fault(
     row: &TagRow,
 ) -> Result<Option<Rule>, NoMemory>
     requires valid { IsValid state.now }
-    ensures { IfOk result (λ fault. fault ≡ first_failing (command_rules state.now (PutTags id row.now))) }
+    ensures { IfOk result
+        (λ fault. fault ≡ first_failing (command_rules state.now (PutTags id row.now))) }
 {
     if !service_exists(state, &row.service) {
         return Ok(Some(Rule::E1));

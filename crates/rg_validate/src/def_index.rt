@@ -26,7 +26,8 @@ pub(crate) fn find_indexed<'a, T: Named>(
     name: &str,
 ) -> Option<&'a T>
     requires { index.now ≡ map T.named things.now }
-    ensures { option_map (λ t. t.now) result ≡ find (λ x. bytes_eq (T.named x) (chars name.now)) things.now }
+    ensures { option_map (λ t. t.now) result
+        ≡ find (λ x. bytes_eq (T.named x) (chars name.now)) things.now }
 {
     match index.place_of(name) {
         Some(place) => thing_at(things, place),
@@ -54,7 +55,8 @@ impl<'a> Model for DefIndex<'a> {
 
     ghost view = { λ x. x.state.now };
 
-    ghost invariant = { λ x. ForSome x.services (λ index. index ≡ map (λ (row : ServiceRow). row.name) x.state.now.services.items)
+    ghost invariant = { λ x. ForSome x.services
+        (λ index. index ≡ map (λ (row : ServiceRow). row.name) x.state.now.services.items)
         × ForSome x.defs (λ index. index ≡ map (λ (def : ServiceDef). def.name) x.state.now.defs.items) };
 }
 

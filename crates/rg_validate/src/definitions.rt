@@ -48,14 +48,16 @@ pub(crate) fn policy_suits(def: &PathedDef, policy: &Policy) -> bool
 }
 
 fn policies_suit(def: &PathedDef, services: &NameIndex, policies: &[Shared<Policy>]) -> bool
-    ensures { result ≡ list_all (λ (p : Policy). not (is_among p.service services.now) || policy_suits def.now p) policies.now }
+    ensures { result ≡ list_all (λ (p : Policy). not (is_among p.service services.now)
+        || policy_suits def.now p) policies.now }
 {
     policies.iter().all(|policy| !services.contains(policy.service.as_str())
         || policy_suits(def, policy))
 }
 
 fn tag_rows_suit(def: &PathedDef, services: &NameIndex, rows: &[TagRow]) -> bool
-    ensures { result ≡ list_all (λ (row : TagRow). not (is_among row.service services.now) || tagged_fit def.now row.resources.items) rows.now }
+    ensures { result ≡ list_all (λ (row : TagRow). not (is_among row.service services.now)
+        || tagged_fit def.now row.resources.items) rows.now }
 {
     rows.iter().all(|row| !services.contains(row.service.as_str())
         || tagged_fit(def, row.resources.as_slice()))

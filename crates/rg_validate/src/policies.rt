@@ -40,7 +40,8 @@ fn is_namesake(policy: &Policy, other: &Policy) -> bool
 }
 
 fn some_namesake(policies: &[Shared<Policy>], updated: Option<PolicyId>, policy: &Policy) -> bool
-    ensures { result ≡ list_any (λ (q : Policy). is_other updated q && is_namesake policy.now q) policies.now }
+    ensures { result
+        ≡ list_any (λ (q : Policy). is_other updated q && is_namesake policy.now q) policies.now }
 {
     policies.iter().any(|other| is_other(updated, other) && is_namesake(policy, other))
 }
@@ -59,7 +60,8 @@ fn own_count(old: Option<&Policy>, print: u64) -> u32
 fn is_alone(state: &State, counts: &PrintCounts, updated: Option<PolicyId>, print: u64) -> bool
     requires valid { IsValid state.now }
     requires counted { IsCounted counts.now state.now.policies.items }
-    ensures { (test : Policy → Bool) → ((q : Policy) → test q ≡ true → 1 ≤ has_print print q) → result ≡ true
+    ensures { (test : Policy → Bool) → ((q : Policy) → test q ≡ true → 1 ≤ has_print print q)
+        → result ≡ true
         → list_any (λ (q : Policy). is_other updated q && test q) state.now.policies.items ≡ false }
 {
     counts.count_of(print) <= own_count(old_form(state, updated), print)
@@ -118,7 +120,8 @@ fn some_twin(
     updated: Option<PolicyId>,
     policy: &Policy,
 ) -> Result<bool, NoMemory>
-    ensures { IfOk result (λ some. some ≡ list_any (λ (q : Policy). is_other updated q && is_twin policy.now q) policies.now) }
+    ensures { IfOk result (λ some. some
+        ≡ list_any (λ (q : Policy). is_other updated q && is_twin policy.now q) policies.now) }
 {
     for other in policies {
         if is_other(updated, other) && is_twin(alloc, policy, other)? {
@@ -252,7 +255,8 @@ fn setting_fault(
 ) -> Result<Option<Rule>, NoMemory>
     requires valid { IsValid state.now }
     requires counted { IsCounted counts.now state.now.policies.items }
-    ensures { IfOk result (λ fault. fault ≡ first_failing (setting_rules state.now updated policy.now def.now)) }
+    ensures { IfOk result
+        (λ fault. fault ≡ first_failing (setting_rules state.now updated policy.now def.now)) }
 {
     if !policy_subjects_fit(alloc, state, policy)? {
         return Ok(Some(Rule::V10));
@@ -284,7 +288,8 @@ pub fn policy_fault(
 ) -> Result<Option<Rule>, NoMemory>
     requires valid { IsValid state.now }
     requires counted { IsCounted counts.now state.now.policies.items }
-    ensures { IfOk result (λ fault. fault ≡ first_failing (policy_rules state.now updated policy.now def.now)) }
+    ensures { IfOk result
+        (λ fault. fault ≡ first_failing (policy_rules state.now updated policy.now def.now)) }
 {
     if let Some(rule) = name_fault(state, counts, updated, policy, def) {
         return Ok(Some(rule));

@@ -28,7 +28,8 @@ fn is_role(row: &RoleRow, name: &Text) -> bool
 
 /// A copy of the new row where it has the old one's name, else of the old one.
 fn kept_row(alloc: Global, old: &RoleRow, new: &RoleRow) -> Result<RoleRow, NoMemory>
-    ensures { IfOk result (λ row. row ≡ (if is_role new.now.name old.now then new.now else old.now)) }
+    ensures { IfOk result
+        (λ row. row ≡ (if is_role new.now.name old.now then new.now else old.now)) }
 {
     if is_role(old, &new.name) {
         new.try_copy(alloc)
@@ -38,7 +39,8 @@ fn kept_row(alloc: Global, old: &RoleRow, new: &RoleRow) -> Result<RoleRow, NoMe
 }
 
 fn kept_rows(alloc: Global, rows: &[RoleRow], new: &RoleRow) -> Result<Vec<RoleRow>, NoMemory>
-    ensures { IfOk result (λ kept. kept.items ≡ map (λ (old : RoleRow). if is_role new.now.name old then new.now else old) rows.now) }
+    ensures { IfOk result (λ kept. kept.items
+        ≡ map (λ (old : RoleRow). if is_role new.now.name old then new.now else old) rows.now) }
 {
     let mut kept = Vec::new(alloc);
     for row in rows {
@@ -69,7 +71,8 @@ pub(crate) fn member_roles_exist(
     rows: &[RoleRow],
     role: &RoleRow,
 ) -> Result<bool, NoMemory>
-    ensures { IfOk result (λ exist. exist ≡ list_all (λ name. is_among name (names_of rows.now)) role.now.roles.items) }
+    ensures { IfOk result (λ exist. exist
+        ≡ list_all (λ name. is_among name (names_of rows.now)) role.now.roles.items) }
 {
     let names = NameIndex::build(alloc, rows)?;
     Ok(all_among(&names, role.roles.as_slice()))
@@ -116,7 +119,8 @@ fn some_item_names(items: &[Item], name: &Text) -> bool
 }
 
 fn some_list_names(lists: &[&[Item]], name: &Text) -> bool
-    ensures { result ≡ list_any (λ list. list_any (λ (i : Item). is_among name.now i.roles.items) list.now) lists.now }
+    ensures { result ≡ list_any
+        (λ list. list_any (λ (i : Item). is_among name.now i.roles.items) list.now) lists.now }
 {
     lists.iter().any(|items| some_item_names(items, name))
 }

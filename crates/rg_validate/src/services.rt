@@ -62,7 +62,8 @@ fn some_zone_names(zones: &[ZoneRow], service: &Text) -> bool
 }
 
 fn some_service_uses(services: &[ServiceRow], name: &Text) -> bool
-    ensures { result ≡ list_any (λ (row : ServiceRow). bytes_eq row.tag_service name.now) services.now }
+    ensures { result
+        ≡ list_any (λ (row : ServiceRow). bytes_eq row.tag_service name.now) services.now }
 {
     services
         .iter()

@@ -67,7 +67,8 @@ fn services_valid(state: &State) -> bool
 
 /// Whether the policy passes V3, V5 to V9 and V11 under the definition of its service.
 fn suits_service(alloc: Global, state: &State, policy: &Policy) -> Result<bool, NoMemory>
-    ensures { IfOk result (λ suits. suits ≡ under (def_of state.now policy.now.service) (λ def. policy_suits def policy.now)) }
+    ensures { IfOk result (λ suits. suits
+        ≡ under (def_of state.now policy.now.service) (λ def. policy_suits def policy.now)) }
 {
     let Some(def) = def_of(state, &policy.service) else {
         return Ok(false);
@@ -92,7 +93,8 @@ fn policy_valid(alloc: Global, state: &State, policy: &Policy) -> Result<bool, N
 
 fn policies_valid(alloc: Global, state: &State) -> Result<bool, NoMemory>
     requires zones { time_zones_read state.now ≡ true }
-    ensures { IfOk result (λ valid. valid ≡ list_all (policy_valid state.now) state.now.policies.items) }
+    ensures { IfOk result
+        (λ valid. valid ≡ list_all (policy_valid state.now) state.now.policies.items) }
 {
     for policy in state.policies.as_slice() {
         if !policy_valid(alloc, state, policy)? {
@@ -126,7 +128,8 @@ fn zones_valid(alloc: Global, state: &State) -> Result<bool, NoMemory>
 #[tactic(auto, unfolding(crate::specs::Zones::are_apart_for), using(crate::proofs::Apart::all_maps_fit_at))]
 fn are_apart_for(alloc: Global, state: &State, service: &Text) -> Result<bool, NoMemory>
     requires zones { list_all (zone_valid state.now) state.now.zones.items ≡ true }
-    ensures { IfOk result (λ apart. apart ≡ are_apart_for state.now state.now.zones.items service.now) }
+    ensures { IfOk result
+        (λ apart. apart ≡ are_apart_for state.now state.now.zones.items service.now) }
 {
     let Some(def) = def_of(state, service) else {
         return Ok(false);
@@ -158,7 +161,8 @@ fn tag_row_valid(alloc: Global, state: &State, row: &TagRow) -> Result<bool, NoM
 }
 
 fn tag_rows_valid(alloc: Global, state: &State) -> Result<bool, NoMemory>
-    ensures { IfOk result (λ valid. valid ≡ list_all (tag_row_valid state.now) state.now.tag_rows.items) }
+    ensures { IfOk result
+        (λ valid. valid ≡ list_all (tag_row_valid state.now) state.now.tag_rows.items) }
 {
     for row in state.tag_rows.as_slice() {
         if !tag_row_valid(alloc, state, row)? {

@@ -25,7 +25,8 @@ fn meets_at(
 ) -> Result<bool, NoMemory>
     requires values { entry_values_fit entry.now ≡ true }
     requires other_values { entry_values_fit other.now ≡ true }
-    ensures { IfOk result (λ meets. meets ≡ under (def_of defs.now other.now.service) (λ def. entries_overlap def entry.now other.now)) }
+    ensures { IfOk result (λ meets. meets ≡ under (def_of defs.now other.now.service)
+        (λ def. entries_overlap def entry.now other.now)) }
 {
     let Some(def) = defs.def_of(&other.service) else {
         return Ok(false);

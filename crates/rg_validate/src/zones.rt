@@ -63,7 +63,8 @@ pub fn zone_services_fit(alloc: Global, state: &State, zone: &ZoneRow) -> Result
 }
 
 fn entry_levels_suit(alloc: Global, defs: &DefIndex, entry: &ZoneService) -> Result<bool, NoMemory>
-    ensures { IfOk result (λ suit. suit ≡ under (def_of defs.now entry.now.service) (λ def. entry_levels_fit def entry.now)) }
+    ensures { IfOk result (λ suit. suit
+        ≡ under (def_of defs.now entry.now.service) (λ def. entry_levels_fit def entry.now)) }
 {
     let Some(def) = defs.def_of(&entry.service) else {
         return Ok(false);

@@ -19,7 +19,8 @@ fn write_audit(
     request: &AccessRequest,
     decision: &Decision,
 ) -> Result<(), NoMemory>
-    ensures { OnOk result (Adds out.old out.new (tokens_of (audit_data (chars service.now) request.now decision.now))) }
+    ensures { OnOk result (Adds out.old out.new
+        (tokens_of (audit_data (chars service.now) request.now decision.now))) }
 {
     begin(out)?;
     member(out, Key::Access, &request.access)?;
@@ -43,8 +44,10 @@ pub fn print_audit(
     request: &AccessRequest,
     decision: &Decision,
 ) -> Result<Text, NoMemory>
-    ensures text { IfOk result (λ t. t ≡ chars (audit_line (chars service.now) request.now decision.now)) }
-    ensures bytes { IfOk result (λ t. encode_utf8_all t ≡ audit_line (chars service.now) request.now decision.now) }
+    ensures text { IfOk result
+        (λ t. t ≡ chars (audit_line (chars service.now) request.now decision.now)) }
+    ensures bytes { IfOk result
+        (λ t. encode_utf8_all t ≡ audit_line (chars service.now) request.now decision.now) }
 {
     let mut out = Writer::new(Vec::with_capacity(alloc, LINE_ROOM)?);
     write_audit(&mut out, service, request, decision)?;

@@ -100,7 +100,8 @@ fn inner_text(
     outer: Key,
     inner: Key,
 ) -> Result<Option<Text>, NoMemory>
-    ensures reads { IfOk result (λ o. o ≡ optional_at text_of inner (within outer (view value.now))) }
+    ensures reads { IfOk result
+        (λ o. o ≡ optional_at text_of inner (within outer (view value.now))) }
     ensures owned { IfOk result (λ o. OwnOption IsText o) }
 {
     match find(value, outer) {

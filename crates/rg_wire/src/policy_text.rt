@@ -222,7 +222,8 @@ impl ToJson<Key> for Policy {
 pub fn print_policy(alloc: Global, policy: &Policy) -> Result<Text, NoMemory>
     ensures text { IfOk result (λ t. t ≡ chars (policy_text policy.now)) }
     ensures bytes { IfOk result (λ t. encode_utf8_all t ≡ policy_text policy.now) }
-    ensures again { IfOk result (λ t. IsPolicy policy.now → reading policy_shape policy_of (policy_text policy.now) ≡ Ok policy.now) }
+    ensures again { IfOk result (λ t. IsPolicy policy.now
+        → reading policy_shape policy_of (policy_text policy.now) ≡ Ok policy.now) }
 {
     let value = policy.json(alloc)?;
     text_of(alloc, &value)

@@ -130,7 +130,8 @@ fn are_levels(known: &[Level], levels: &[ZoneLevel]) -> bool
 /// Whether these are distinct levels of the definition on one path. That they are its levels is asked first, so that
 /// the work isn't quadratic in their number.
 fn lie_on_a_path(def: &PathedDef, levels: &[ZoneLevel]) -> bool
-    ensures { result ≡ (list_all (λ (l : ZoneLevel). has_level def.now.levels.items l.level) levels.now
+    ensures { result
+        ≡ (list_all (λ (l : ZoneLevel). has_level def.now.levels.items l.level) levels.now
         && all_distinct (λ (l m : ZoneLevel). bytes_eq m.level l.level) levels.now
         && on_one_path def.now.levels.items (map (λ (l : ZoneLevel). l.level) levels.now)) }
 {

@@ -7,11 +7,6 @@ use Rattle.rg_pattern.specs.declared.atoms.Atom.TheVariants.{Character, One, Any
 use Rattle.rg_pattern.specs.Atoms.{literal_prefix}
 use Rattle.rg_base.specs.Folding.{folded_char}
 use Rattle.rg_pattern.specs.Tests.{overlaps}
-use Rattle.rg_trie.specs.Pairs.{folded as trie_folded}
-
-pub unfolded : (t : List ℕ) → trie_folded false t ≡ t
-unfolded [] = refl
-unfolded (c ∷ t) = ap (λ rest. c ∷ rest) (unfolded t)
 
 -- one of the texts begins with the other
 abbrev pub Related : List ℕ → List ℕ → Type 0

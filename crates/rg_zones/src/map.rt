@@ -68,7 +68,11 @@ impl Model for ZoneMap {
 
     ghost Value = { Zoning };
 
-    ghost view = { λ m. record { zones = rows_of m.zones.items; service = m.service; def = m.def.value } };
+    ghost view = { λ m. record {
+      zones = rows_of m.zones.items;
+      service = m.service;
+      def = m.def.value;
+    } };
 
     ghost invariant = { λ m. (length m.zones.items ≤ 4294967296)
         × AreMatched m.service m.def.value m.zones.items
@@ -83,7 +87,8 @@ fn compile_zone(
 ) -> Result<MatchedZone, NoMemory>
     requires fit { maps_fit (chars service.now) def.now zone.now ≡ true }
     ensures row { IfOk result (λ m. m.row ≡ zone.now) }
-    ensures matched { IfOk result (λ m. (elements : List Element) → is_matched elements m ≡ in_zone (chars service.now) def.now elements zone.now) }
+    ensures matched { IfOk result (λ m. (elements : List Element)
+        → is_matched elements m ≡ in_zone (chars service.now) def.now elements zone.now) }
 {
     let maps = zone_maps(alloc, def, service, zone)?;
     let matcher = Matcher::compile(alloc, def, maps.as_slice(), Reach::Down)?;
@@ -153,7 +158,8 @@ fn least_place(
     resource: &Resource,
     candidates: Candidates<'_>,
 ) -> Option<usize>
-    ensures { result ≡ least_place (is_matched resource.now.elements.items) zones.now candidates.entry }
+    ensures { result
+        ≡ least_place (is_matched resource.now.elements.items) zones.now candidates.entry }
 {
     let mut candidates = candidates;
     let mut least = None;
@@ -185,7 +191,10 @@ fn index_of(
 ) -> Result<Index, NoMemory>
     requires lawful { def_fault def.now ≡ None }
     requires fit { all_maps_fit (chars service.now) def.now zones.now ≡ true }
-    ensures { IfOk result (λ x. x ≡ record { def = def.now; forms = zone_forms (chars service.now) def.now 0 zones.now }) }
+    ensures { IfOk result (λ x. x ≡ record {
+      def = def.now;
+      forms = zone_forms (chars service.now) def.now 0 zones.now;
+    }) }
 {
     let forms = zone_forms(alloc, def, service, zones)?;
     let mut steps = Steps::silent();
@@ -204,7 +213,8 @@ impl ZoneMap {
     ) -> Result<ZoneMap, NoMemory>
         requires lawful { def_fault def.now ≡ None }
         requires fit { all_maps_fit (chars service.now) def.now zones.now ≡ true }
-        ensures { IfOk result (λ m. m ≡ record { zones = zones.now; service = chars service.now; def = def.now }) }
+        ensures { IfOk result
+            (λ m. m ≡ record { zones = zones.now; service = chars service.now; def = def.now }) }
     {
         if MOST_ZONES < zones.len() {
             return Err(NoMemory);
@@ -222,7 +232,8 @@ impl ZoneMap {
 
     /// The least place of a zone in which the resource lies, None where it lies in none. It takes no memory.
     pub fn zone_of(&self, resource: &Resource) -> Option<u32>
-        ensures { result ≡ zone_of self.now.service self.now.def self.now.zones resource.now.elements.items }
+        ensures { result
+            ≡ zone_of self.now.service self.now.def self.now.zones resource.now.elements.items }
     {
         let place = first_place(&self.zones, resource, self.index.candidates(resource))?;
         Some(place as u32)

@@ -111,13 +111,15 @@ fn reaches(paths: &Paths, map: &CompiledMap, level: &Level) -> bool
 }
 
 fn both_reach(paths: &Paths, map: &CompiledMap, other: &CompiledMap, level: &Level) -> bool
-    ensures { result ≡ (reaches paths.now map.now (level.now.name ∷ []) && reaches paths.now other.now (level.now.name ∷ [])) }
+    ensures { result ≡ (reaches paths.now map.now (level.now.name ∷ [])
+        && reaches paths.now other.now (level.now.name ∷ [])) }
 {
     reaches(paths, map, level) && reaches(paths, other, level)
 }
 
 fn share_one(levels: &[Level], paths: &Paths, map: &CompiledMap, other: &CompiledMap) -> bool
-    ensures { result ≡ list_any (λ (l : Level). reaches paths.now map.now (l.name ∷ []) && reaches paths.now other.now (l.name ∷ [])) levels.now }
+    ensures { result ≡ list_any (λ (l : Level). reaches paths.now map.now (l.name ∷ [])
+        && reaches paths.now other.now (l.name ∷ [])) levels.now }
 {
     levels
         .iter()

@@ -87,7 +87,8 @@ fn across(
     first: usize,
     second: usize,
 ) -> Result<Option<(usize, usize)>, NoMemory>
-    ensures { IfOk result (λ o. o ≡ across (meet_at paths.now zones.now) zones.now best (first, second)) }
+    ensures { IfOk result
+        (λ o. o ≡ across (meet_at paths.now zones.now) zones.now best (first, second)) }
 {
     if same_anchor_at(zones, first, second) {
         return Ok(best);
@@ -104,7 +105,8 @@ fn across_from(
     first: usize,
 ) -> Result<Option<(usize, usize)>, NoMemory>
     requires { first < length zones.now }
-    ensures { IfOk result (λ o. o ≡ fold (across (meet_at paths.now zones.now) zones.now) best (pairs_from (length zones.now) first)) }
+    ensures { IfOk result (λ o. o ≡ fold (across (meet_at paths.now zones.now) zones.now) best
+        (pairs_from (length zones.now) first)) }
 {
     for second in first + 1..zones.len() {
         best = across(alloc, paths, zones, best, first, second)?;
@@ -119,7 +121,8 @@ fn all_across(
     paths: &Paths,
     zones: &[FiledZone],
 ) -> Result<Option<(usize, usize)>, NoMemory>
-    ensures { IfOk result (λ o. o ≡ fold (across (meet_at paths.now zones.now) zones.now) None (place_pairs (length zones.now))) }
+    ensures { IfOk result (λ o. o ≡ fold (across (meet_at paths.now zones.now) zones.now) None
+        (place_pairs (length zones.now))) }
 {
     let mut best = None;
     for first in 0..zones.len() {
@@ -155,7 +158,7 @@ fn beside(
     better(alloc, paths, zones, best, ordered(place, other))
 }
 
-#[tactic(auto, using(crate::proofs::Keys::unfolded))]
+#[tactic(auto, using(rg_trie::proofs::Orders::folded_off))]
 fn beside_found(
     alloc: Global,
     paths: &Paths,
@@ -165,7 +168,8 @@ fn beside_found(
     place: usize,
     key: &Text,
 ) -> Result<Option<(usize, usize)>, NoMemory>
-    ensures { IfOk result (λ o. o ≡ fold (beside (meet_at paths.now zones.now) place) best (entries_under key.now trie.now)) }
+    ensures { IfOk result (λ o. o ≡ fold
+        (beside (meet_at paths.now zones.now) place) best (entries_under key.now trie.now)) }
 {
     let mut walk = trie.walk(key.as_str(), false);
     while let Some(found) = walk.next() {
@@ -183,7 +187,8 @@ fn beside_keys(
     place: usize,
     keys: &[Text],
 ) -> Result<Option<(usize, usize)>, NoMemory>
-    ensures { IfOk result (λ o. o ≡ fold (beside (meet_at paths.now zones.now) place) best (found_under trie.now keys.now)) }
+    ensures { IfOk result (λ o. o ≡ fold
+        (beside (meet_at paths.now zones.now) place) best (found_under trie.now keys.now)) }
 {
     for key in keys {
         best = beside_found(alloc, paths, zones, trie, best, place, key)?;
@@ -200,7 +205,8 @@ fn beside_all(
     best: Option<(usize, usize)>,
     place: usize,
 ) -> Result<Option<(usize, usize)>, NoMemory>
-    ensures { IfOk result (λ o. o ≡ beside_all (meet_at paths.now zones.now) trie.now zones.now best place) }
+    ensures { IfOk result
+        (λ o. o ≡ beside_all (meet_at paths.now zones.now) trie.now zones.now best place) }
 {
     match zones.get(place) {
         Some(zone) => beside_keys(alloc, paths, zones, trie, best, place, &zone.keys),
@@ -216,7 +222,8 @@ fn all_beside(
     trie: &Trie,
     mut best: Option<(usize, usize)>,
 ) -> Result<Option<(usize, usize)>, NoMemory>
-    ensures { IfOk result (λ o. o ≡ fold (beside_all (meet_at paths.now zones.now) trie.now zones.now) best (range_with_len 0 (length zones.now))) }
+    ensures { IfOk result (λ o. o ≡ fold (beside_all (meet_at paths.now zones.now)
+        trie.now zones.now) best (range_with_len 0 (length zones.now))) }
 {
     for place in 0..zones.len() {
         best = beside_all(alloc, paths, zones, trie, best, place)?;
@@ -227,7 +234,8 @@ fn all_beside(
 /// The trie with the zone at the place under each of the keys.
 fn with_keys(alloc: Global, mut trie: Trie, keys: &[Text], place: u32) -> Result<Trie, NoMemory>
     ensures kept { IfOk result (λ t. (p : Pair) → Contains trie p → Contains t p) }
-    ensures filed { IfOk result (λ t. (key : List ℕ) → Contains keys.now key → Contains t (filed_as key place)) }
+    ensures filed { IfOk result (λ t. (key : List ℕ)
+        → Contains keys.now key → Contains t (filed_as key place)) }
 {
     let mut steps = Steps::silent();
     for key in keys {
@@ -259,7 +267,8 @@ fn file_zones(
     zones: &[ZoneRow],
 ) -> Result<Vec<FiledZone>, NoMemory>
     requires { all_maps_fit (chars service.now) def.now zones.now ≡ true }
-    ensures exact { IfOk result (λ v. maps_of v.items ≡ map (zone_patterns (chars service.now) def.now) zones.now) }
+    ensures exact { IfOk result
+        (λ v. maps_of v.items ≡ map (zone_patterns (chars service.now) def.now) zones.now) }
     ensures scalars { IfOk result (λ v. list_all zone_scalars (maps_of v.items) ≡ true) }
     ensures filed { IfOk result (λ v. AreFiled paths.now v.items) }
 {
@@ -294,7 +303,8 @@ fn first_overlap(
 ) -> Result<Option<(u32, u32)>, NoMemory>
     requires fit { all_maps_fit (chars service.now) def.now zones.now ≡ true }
     ensures test { IfOk result (λ o. o ≡ first_overlap (chars service.now) def.now zones.now) }
-    ensures scalars { IfOk result (λ o. list_all zone_scalars (map (zone_patterns (chars service.now) def.now) zones.now) ≡ true) }
+    ensures scalars { IfOk result (λ o. list_all zone_scalars
+        (map (zone_patterns (chars service.now) def.now) zones.now) ≡ true) }
 {
     let paths = Paths::of(alloc, def)?;
     let filed = file_zones(alloc, service, def, &paths, zones)?;
@@ -334,7 +344,8 @@ fn meets(
     def: &ServiceDef,
 ) -> Result<bool, NoMemory>
     requires { maps_fit (chars service.now) def.now other.now ≡ true }
-    ensures { IfOk result (λ b. b ≡ some_meet paths.now zone.now (zone_patterns (chars service.now) def.now other.now)) }
+    ensures { IfOk result (λ b. b
+        ≡ some_meet paths.now zone.now (zone_patterns (chars service.now) def.now other.now)) }
 {
     let other = CompiledZone::compile(alloc, service, def, other)?;
     some_meet(alloc, paths, &zone.maps, &other.maps)
@@ -350,7 +361,8 @@ fn meets_any(
     def: &ServiceDef,
 ) -> Result<bool, NoMemory>
     requires { all_maps_fit (chars service.now) def.now others.now ≡ true }
-    ensures { IfOk result (λ b. b ≡ list_any (λ (other : ZoneRow). some_meet paths.now zone.now (zone_patterns (chars service.now) def.now other)) others.now) }
+    ensures { IfOk result (λ b. b ≡ list_any (λ (other : ZoneRow). some_meet paths.now zone.now
+        (zone_patterns (chars service.now) def.now other)) others.now) }
 {
     for other in others {
         if meets(alloc, paths, zone, other, service, def)? {
@@ -371,7 +383,8 @@ pub fn overlaps_any(
 ) -> Result<bool, NoMemory>
     requires fit { maps_fit (chars service.now) def.now zone.now ≡ true }
     requires all_fit { all_maps_fit (chars service.now) def.now others.now ≡ true }
-    ensures { IfOk result (λ b. b ≡ list_any (zones_overlap (chars service.now) def.now zone.now) others.now) }
+    ensures { IfOk result
+        (λ b. b ≡ list_any (zones_overlap (chars service.now) def.now zone.now) others.now) }
 {
     let paths = Paths::of(alloc, def)?;
     let zone = CompiledZone::compile(alloc, service, def, zone)?;

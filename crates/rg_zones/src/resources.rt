@@ -72,7 +72,8 @@ fn with_entry(
     maps: Vec<ResourceMap>,
     entry: &ZoneService,
 ) -> Result<Vec<ResourceMap>, NoMemory>
-    ensures { IfOk result (λ v. v.items ≡ maps.items ++ map (resource_map def.now) (entry_maps (chars service.now) entry.now)) }
+    ensures { IfOk result (λ v. v.items
+        ≡ maps.items ++ map (resource_map def.now) (entry_maps (chars service.now) entry.now)) }
 {
     if !is_for(service, entry) {
         return Ok(maps);

@@ -93,7 +93,12 @@ impl Model for CompiledLevel {
 
     ghost Value = { LevelPatterns };
 
-    ghost view = { λ l. record { name = l.name; patterns = l.patterns.items; fold = l.fold; lists_star = l.lists_star } };
+    ghost view = { λ l. record {
+      name = l.name;
+      patterns = l.patterns.items;
+      fold = l.fold;
+      lists_star = l.lists_star;
+    } };
 }
 
 impl Named for CompiledLevel {
@@ -166,8 +171,10 @@ fn with_value(
     recursive: bool,
 ) -> Result<Vec<PlainPattern>, NoMemory>
     requires { value_fits (chars text.now) ≡ true }
-    ensures exact { IfOk result (λ v. v.items ≡ patterns.items ++ with_twin recursive (atoms_of wild (chars text.now))) }
-    ensures scalars { IfOk result (λ v. list_all are_scalars v.items ≡ list_all are_scalars patterns.items) }
+    ensures exact { IfOk result
+        (λ v. v.items ≡ patterns.items ++ with_twin recursive (atoms_of wild (chars text.now))) }
+    ensures scalars { IfOk result
+        (λ v. list_all are_scalars v.items ≡ list_all are_scalars patterns.items) }
 {
     let pattern = PlainPattern::parse(alloc, text, wild)?;
     if recursive {
@@ -185,7 +192,8 @@ fn with_two(
     twin: PlainPattern,
 ) -> Result<Vec<PlainPattern>, NoMemory>
     ensures exact { IfOk result (λ v. v.items ≡ patterns.items ++ pattern ∷ twin ∷ []) }
-    ensures scalars { IfOk result (λ v. list_all are_scalars v.items ≡ list_all are_scalars patterns.items) }
+    ensures scalars { IfOk result
+        (λ v. list_all are_scalars v.items ≡ list_all are_scalars patterns.items) }
 {
     patterns.push(pattern)?;
     patterns.push(twin)?;
@@ -199,7 +207,8 @@ fn patterns(
     recursive: bool,
 ) -> Result<Vec<PlainPattern>, NoMemory>
     requires { list_all value_fits texts.now ≡ true }
-    ensures exact { IfOk result (λ v. v.items ≡ flat_map (λ t. with_twin recursive (atoms_of wild t)) texts.now) }
+    ensures exact { IfOk result
+        (λ v. v.items ≡ flat_map (λ t. with_twin recursive (atoms_of wild t)) texts.now) }
     ensures scalars { IfOk result (λ v. list_all are_scalars v.items ≡ true) }
 {
     let mut read = Vec::new(alloc);
@@ -241,7 +250,8 @@ fn with_level(
     written: &ZoneLevel,
 ) -> Result<Vec<CompiledLevel>, NoMemory>
     requires { level_values_fit written.now ≡ true }
-    ensures exact { IfOk result (λ v. v.items ≡ levels.items ++ level_patterns def.now written.now ∷ []) }
+    ensures exact { IfOk result
+        (λ v. v.items ≡ levels.items ++ level_patterns def.now written.now ∷ []) }
     ensures scalars { IfOk result (λ v. form_scalars v.items ≡ form_scalars levels.items) }
 {
     let level = CompiledLevel::compile(alloc, def, written)?;
@@ -302,7 +312,8 @@ fn with_entry(
     entry: &[Seq<ZoneLevel>],
 ) -> Result<Vec<CompiledMap>, NoMemory>
     requires { list_all map_values_fit entry.now ≡ true }
-    ensures exact { IfOk result (λ v. v.items ≡ maps.items ++ map (map_patterns def.now) entry.now) }
+    ensures exact { IfOk result
+        (λ v. v.items ≡ maps.items ++ map (map_patterns def.now) entry.now) }
     ensures scalars { IfOk result (λ v. zone_scalars v.items ≡ zone_scalars maps.items) }
 {
     for map in entry {
@@ -321,7 +332,8 @@ fn with_entry_for(
     entry: &ZoneService,
 ) -> Result<Vec<CompiledMap>, NoMemory>
     requires { (not (is_for (chars service.now) entry.now) || entry_values_fit entry.now) ≡ true }
-    ensures exact { IfOk result (λ v. v.items ≡ maps.items ++ map (map_patterns def.now) (entry_maps (chars service.now) entry.now)) }
+    ensures exact { IfOk result (λ v. v.items
+        ≡ maps.items ++ map (map_patterns def.now) (entry_maps (chars service.now) entry.now)) }
     ensures scalars { IfOk result (λ v. zone_scalars v.items ≡ zone_scalars maps.items) }
 {
     if !is_for(service, entry) {

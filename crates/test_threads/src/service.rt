@@ -31,7 +31,8 @@ impl<R: Wait + Drop> Model for OpenService<R> {
 
     ghost view = { λ s. s.refresher.publisher };
 
-    ghost invariant = { λ s. IsOpen s.turn s.seat s.other_seat s.refresher.service s.refresher.publisher };
+    ghost invariant = { λ s.
+        IsOpen s.turn s.seat s.other_seat s.refresher.service s.refresher.publisher };
 }
 
 impl<R: Wait + Drop> OpenService<R> {
