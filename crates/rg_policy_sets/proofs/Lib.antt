@@ -2,12 +2,15 @@ mod Building
 mod Counting
 mod Leaving
 mod Marking
+mod Moves
+mod Paged
 mod Passing
 mod Planning
 mod Refiled
 mod Renumbered
 mod Reshelved
 mod Rising
+mod Saying
 pub mod Sent
 mod Sets
 mod Settled

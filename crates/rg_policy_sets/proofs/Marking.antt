@@ -1,5 +1,5 @@
 -- A policy that lies on a resource has marks with which the values of the resource agree.
-use Rattle.std.proofs.Common.{◌≡◌, ◌⊎◌, ◌&&◌, ◌||◌, ◌==◌, ℕ, Bool, true, false, not, cond, if◌then◌else◌, List, [], ◌∷◌, Option, Some, None, Contains, IsTrue, filter, find, length, map, nat_eq, slice_get, take, refl, sym, ap, ◌∙◌, inl, inr, arith}
+use Rattle.std.proofs.Common.{◌≡◌, ◌⊎◌, ◌&&◌, ◌||◌, ◌==◌, ℕ, Bool, true, false, not, cond, if◌then◌else◌, List, [], ◌∷◌, Option, Some, None, Contains, find, length, map, nat_eq, slice_get, take, refl, sym, ap, ◌∙◌, inl, inr, arith}
 use Rattle.std.proofs.lemmas.Bool.{and_parts, false≢true, not-true, or_cases}
 use Rattle.std.proofs.lemmas.List.{take-map}
 use Rattle.std.proofs.lemmas.Slice.Eq.{bytes_eq-Decides}
@@ -13,10 +13,8 @@ use Rattle.rg_defs.specs.declared.service_def.ServiceDef.{ServiceDef}
 use Rattle.rg_defs.specs.Paths.{level_of}
 use Rattle.rg_defs.specs.PathTests.{on_one_path}
 use Rattle.rg_defs.specs.Rules.{def_fault, has_from_to}
-use Rattle.rg_pattern.specs.declared.atoms.Atom.{Atom}
-use Rattle.rg_pattern.specs.Atoms.{literal_prefix, twin}
+use Rattle.rg_pattern.specs.Atoms.{twin}
 use Rattle.rg_pattern.specs.Reading.{atoms_of}
-use Rattle.rg_pattern.specs.Standing.{Stands}
 use Rattle.rg_pattern.specs.Tests.{stands}
 use Rattle.rg_policy.specs.Maps.{maps_of}
 use Rattle.rg_policy.specs.declared.policy.Policy.{Policy}
@@ -24,7 +22,7 @@ use Rattle.rg_policy.specs.declared.policy.PolicyResource.{PolicyResource}
 use Rattle.rg_policy.specs.declared.policy.ResourceMap.{ResourceMap}
 use Rattle.rg_policy.specs.declared.request.Element.{Element}
 use Rattle.rg_resmatch.specs.Rules.{are_written, is_some_text, supports, values_fit_level}
-use Rattle.rg_resmatch.specs.Tests.{any_stands, hit, is_hit, is_some_element, levels_of, lies, may_name, meets, patterns_of, some_lies, some_stands, value_at}
+use Rattle.rg_resmatch.specs.Tests.{any_stands, hit, is_hit, is_some_element, levels_of, lies, may_name, meets, some_lies, some_stands, value_at}
 use Rattle.rg_resmatch.specs.declared.reach.Reach.TheVariants.{Exact}
 use Rattle.rg_tree.specs.Hashes.{hash_of, hash_of_state, state_after, step}
 use Rattle.rg_evalr.specs.Compiling.{policy_fault}
@@ -34,7 +32,7 @@ use Rattle.rg_evalr.specs.declared.frame.Frame.{Frame}
 use Rattle.rg_evalr.specs.declared.frame.Side.{Side}
 use Rattle.rg_defs.proofs.Few.{levels_hold}
 use Rattle.rg_index.proofs.PatternLaws.{PrefixLaw, StandsLaw, TwinLaw}
-use Rattle.rg_policy_sets.specs.Marks.{Asked, admits, agrees, asked_at, found_key, key_beside, mark_at, mark_of, named_key, only_key, policy_key, resource_key, source_mark, unasked, value_agrees}
+use Rattle.rg_policy_sets.specs.Marks.{Asked, admits, agrees, asked_at, found_key, key_beside, mark_at, mark_of, only_key, policy_key, resource_key, source_mark, unasked, value_agrees}
 use Rattle.rg_policy_sets.specs.Seen.{source}
 use Rattle.rg_policy_sets.proofs.Passing.{values_pass}
 

@@ -1,21 +1,20 @@
 -- Slots that move with a plan: their order, what they hold, and how much of it is filed anew.
-use Rattle.std.proofs.Common.{◌≡◌, ◌&&◌, ◌||◌, ◌<◌, ◌+◌, ◌++◌, ℕ, ℤ, pos, ◌+ℤ◌, int_lt, Bool, true, false, cond, List, [], ◌∷◌, map, drop, length, get_or, Option, Some, None, option_to_list, refl, sym, ap, subst, ◌∙◌, arith, append-nil, append_assoc, Contains}
+use Rattle.std.proofs.Common.{◌≡◌, ◌&&◌, ◌||◌, ◌<◌, ◌+◌, ◌++◌, ℕ, ℤ, pos, ◌+ℤ◌, int_lt, Bool, true, false, List, [], ◌∷◌, map, drop, length, get_or, Option, Some, None, refl, sym, ap, subst, ◌∙◌, arith, append-nil, append_assoc}
 use Rattle.std.proofs.lemmas.Bool.{and_parts}
 use Rattle.std.proofs.lemmas.Int.{ints}
-use Rattle.std.proofs.lemmas.List.{drop_all, map-append}
-use Rattle.std.proofs.lemmas.List.Elements.{Contains-append_right}
+use Rattle.std.proofs.lemmas.List.{drop_all}
 use Rattle.std.proofs.lemmas.List.Sums.{sum_by-append, sum_by-cons}
 use Rattle.std.specs.List.{cons_option, list_all, list_any, sum_by}
 use Rattle.rg_base.specs.Counts.{Counts}
-use Rattle.rg_base.proofs.Lists.{Contains-first, drop_next}
+use Rattle.rg_base.proofs.Lists.{drop_next}
 use Rattle.rg_defs.specs.declared.service_def.ServiceDef.{ServiceDef}
 use Rattle.rg_index.specs.Changes.{form_fits, same_id}
 use Rattle.rg_index.specs.Filing.{EditsWithin}
 use Rattle.rg_index.specs.declared.form.Form.{Form}
 use Rattle.rg_policy_sets.specs.Bounds.{WorkWithin}
-use Rattle.rg_policy_sets.specs.Kept.{Placed, are_rising, held_in, rise_above, slot_form, slot_forms}
+use Rattle.rg_policy_sets.specs.Kept.{Placed, are_rising, held_in, rise_above, slot_forms}
 use Rattle.rg_policy_sets.specs.Moved.{WorkLeft, are_below, is_compiled, moved_slot, moved_slots}
-use Rattle.rg_policy_sets.specs.Plan.{Planned, is_kept, left_of, lost, made_in, put_at, put_there, stood}
+use Rattle.rg_policy_sets.specs.Plan.{Planned, left_of, lost, made_in, put_at, stood}
 use Rattle.rg_policy_sets.specs.declared.plan.Fate.{Fate}
 use Rattle.rg_policy_sets.specs.declared.plan.Fate.TheVariants.{Stays, Goes, Becomes}
 use Rattle.rg_policy_sets.specs.declared.plan.Place.{Place}
@@ -23,9 +22,6 @@ use Rattle.rg_policy_sets.proofs.Counting.{more_allowed}
 use Rattle.rg_policy_sets.proofs.Rising.{below_not_same, less_trans}
 
 -- ---- numbers
-
-below_next : (a b : ℤ) → int_lt a b ≡ true → int_lt a (b +ℤ pos 1) ≡ true
-below_next a b h = grind (arith, ints)
 
 pub own_next : (a : ℤ) → int_lt a (a +ℤ pos 1) ≡ true
 own_next a = grind (arith, ints)
@@ -42,11 +38,11 @@ above_trans None m n above less = tt
 above_trans (Some l) m n above less = less_trans l m n above less
 
 module _ {H : Type 0} where
-  up_parts : (least : Option ℤ) (s : Placed H) (slots : List (Placed H)) → rise_above least (s ∷ slots) ≡ true → Above least s.ordinal × (rise_above (Some s.ordinal) slots ≡ true)
+  pub up_parts : (least : Option ℤ) (s : Placed H) (slots : List (Placed H)) → rise_above least (s ∷ slots) ≡ true → Above least s.ordinal × (rise_above (Some s.ordinal) slots ≡ true)
   up_parts None s slots up = (tt, up)
   up_parts (Some m) s slots up = and_parts (int_lt m s.ordinal) (rise_above (Some s.ordinal) slots) up
 
-  up_joined : (least : Option ℤ) (s : Placed H) (slots : List (Placed H)) → Above least s.ordinal → rise_above (Some s.ordinal) slots ≡ true → rise_above least (s ∷ slots) ≡ true
+  pub up_joined : (least : Option ℤ) (s : Placed H) (slots : List (Placed H)) → Above least s.ordinal → rise_above (Some s.ordinal) slots ≡ true → rise_above least (s ∷ slots) ≡ true
   up_joined None s slots above up = up
   up_joined (Some m) s slots above up = λ i. above i && up i
 
@@ -68,23 +64,6 @@ module _ {H : Type 0} where
 
   pub rises_more : (slots : List (Placed H)) (s : Placed H) → are_rising slots ≡ true → are_below s.ordinal slots ≡ true → are_rising (slots ++ s ∷ []) ≡ true
   rises_more slots s up below = rises_on None slots s tt up below
-
-  last_above : (n : ℤ) (slots : List (Placed H)) (s : Placed H) → rise_above (Some n) (slots ++ s ∷ []) ≡ true → int_lt n s.ordinal ≡ true
-  last_above n [] s up = (and_parts (int_lt n s.ordinal) true up).0
-  last_above n (t ∷ slots) s up =
-      let parts = and_parts (int_lt n t.ordinal) (rise_above (Some t.ordinal) (slots ++ s ∷ [])) up in
-      less_trans n t.ordinal s.ordinal parts.0 (last_above t.ordinal slots s parts.1)
-
-  -- all are below the ordinal after that of the last one
-  pub below_last : (least : Option ℤ) (slots : List (Placed H)) (s : Placed H) → rise_above least (slots ++ s ∷ []) ≡ true → are_below (s.ordinal +ℤ pos 1) (slots ++ s ∷ []) ≡ true
-  below_last least [] s up = ap (λ b. b && true) (own_next s.ordinal)
-  below_last least (t ∷ slots) s up =
-      let parts = up_parts least t (slots ++ s ∷ []) up in
-      λ i. below_next t.ordinal s.ordinal (last_above t.ordinal slots s parts.1) i && below_last (Some t.ordinal) slots s parts.1 i
-
-  pub next_below : (slots rest : List (Placed H)) (last : Placed H) → slots ≡ rest ++ last ∷ [] → are_rising slots ≡ true → are_below (last.ordinal +ℤ pos 1) slots ≡ true
-  next_below slots rest last is up =
-      subst (λ (l : List (Placed H)). are_below (last.ordinal +ℤ pos 1) l ≡ true) (sym is) (below_last None rest last (subst (λ (l : List (Placed H)). are_rising l ≡ true) is up))
 
   -- no form of the slots has an ordinal above them
   pub none_named : (form : H → Form) (new : Form) (slots : List (Placed H)) → are_below new.id slots ≡ true → list_any (same_id new) (slot_forms form slots) ≡ false
@@ -123,66 +102,6 @@ module _ {X H : Type 0} (hold : X → H) where
     at (Becomes y) same rest = ap (λ l. hold y ∷ l) rest
 
 -- ---- one slot after the other
-
-option_added : {A : Type 0} (ms : List A) (o : Option A) (rest : List A) → (ms ++ option_to_list o) ++ rest ≡ ms ++ cons_option o rest
-option_added ms None rest = ap (λ l. l ++ rest) (append-nil ms)
-option_added ms (Some a) rest = append_assoc ms (a ∷ []) rest
-
-option_sum : {A : Type 0} (w : A → ℕ) (o : Option A) (rest : List A) → sum_by w (cons_option o rest) ≡ sum_by w (option_to_list o) + sum_by w rest
-option_sum w None rest = omega arith
-option_sum w (Some a) rest = let all = sum_by-cons w a rest in let one = sum_by-cons w a [] in omega (arith, all, one)
-
-option_all : {A : Type 0} (q : A → Bool) (o : Option A) (rest : List A) → list_all q (cons_option o rest) ≡ true → (list_all q (option_to_list o) ≡ true) × (list_all q rest ≡ true)
-option_all q None rest h = (refl, h)
-option_all q (Some a) rest h = let parts = and_parts (q a) (list_all q rest) h in (ap (λ b. b && true) parts.0, parts.1)
-
-module _ {X H : Type 0} (ps : List (Place X)) (slots : List (Placed H)) (n : ℕ) (p : Place X) (s : Placed H)
-    (places_on : n < length ps) (slots_on : n < length slots) (is_p : p ≡ get_or ps n p) (is_s : s ≡ get_or slots n s) where
-  left_places : drop n ps ≡ p ∷ drop (n + 1) ps
-  left_places = drop_next n ps p places_on is_p
-
-  left_slots : drop n slots ≡ s ∷ drop (n + 1) slots
-  left_slots = drop_next n slots s slots_on is_s
-
-  pub moved_on : (hold : X → H) (ms new : List (Placed H)) → new ≡ ms ++ option_to_list (moved_slot hold p.fate s)
-      → ms ++ moved_slots hold (drop n ps) (drop n slots) ≡ moved_slots hold ps slots → new ++ moved_slots hold (drop (n + 1) ps) (drop (n + 1) slots) ≡ moved_slots hold ps slots
-  moved_on hold ms new is so_far =
-      ap (λ l. l ++ moved_slots hold (drop (n + 1) ps) (drop (n + 1) slots)) is
-      ∙ option_added ms (moved_slot hold p.fate s) (moved_slots hold (drop (n + 1) ps) (drop (n + 1) slots))
-      ∙ sym (λ i. ms ++ moved_slots hold (left_places i) (left_slots i))
-      ∙ so_far
-
-  -- the form of the slot stands between those of the others
-  pub forms_at : (form : H → Form) (ms : List (Placed H)) (forms : List Form) → forms ≡ slot_forms form ms ++ slot_forms form (drop n slots)
-      → forms ≡ slot_forms form ms ++ slot_form form s ∷ slot_forms form (drop (n + 1) slots)
-  forms_at form ms forms is = is ∙ ap (λ l. slot_forms form ms ++ slot_forms form l) left_slots
-
-  pub form_among : (form : H → Form) (ms : List (Placed H)) (forms : List Form) → forms ≡ slot_forms form ms ++ slot_forms form (drop n slots) → Contains forms (slot_form form s)
-  form_among form ms forms is =
-      subst (λ l. Contains l (slot_form form s)) (sym (forms_at form ms forms is))
-      (Contains-append_right (slot_forms form ms) (slot_form form s ∷ slot_forms form (drop (n + 1) slots)) (slot_form form s) (Contains-first (slot_form form s) (slot_forms form (drop (n + 1) slots))))
-
-  pub forms_on : (hold : X → H) (form : H → Form) (ms new : List (Placed H)) (forms : List Form) → new ≡ ms ++ option_to_list (moved_slot hold p.fate s)
-      → forms ≡ slot_forms form ms ++ (slot_forms form (option_to_list (moved_slot hold p.fate s)) ++ slot_forms form (drop (n + 1) slots))
-      → forms ≡ slot_forms form new ++ slot_forms form (drop (n + 1) slots)
-  forms_on hold form ms new forms is so =
-      so
-      ∙ sym (append_assoc (slot_forms form ms) (slot_forms form (option_to_list (moved_slot hold p.fate s))) (slot_forms form (drop (n + 1) slots)))
-      ∙ ap (λ l. l ++ slot_forms form (drop (n + 1) slots)) (sym (map-append (slot_form form) ms (option_to_list (moved_slot hold p.fate s))))
-      ∙ ap (λ l. slot_forms form l ++ slot_forms form (drop (n + 1) slots)) (sym is)
-
-  pub fit_parts : (q : X → Bool) → list_all q (put_at (drop n ps)) ≡ true → (list_all q (option_to_list (put_there p.fate)) ≡ true) × (list_all q (put_at (drop (n + 1) ps)) ≡ true)
-  fit_parts q h = option_all q (put_there p.fate) (put_at (drop (n + 1) ps)) (ap (λ l. list_all q (put_at l)) (sym left_places) ∙ h)
-
-  pub put_on : (w : X → ℕ) → sum_by w (put_at (drop n ps)) ≡ sum_by w (option_to_list (put_there p.fate)) + sum_by w (put_at (drop (n + 1) ps))
-  put_on w = ap (λ l. sum_by w (put_at l)) left_places ∙ option_sum w (put_there p.fate) (put_at (drop (n + 1) ps))
-
-  pub lost_on : (w : Placed H → ℕ) → lost w (drop n ps) (drop n slots) ≡ cond (is_kept p.fate) 0 (w s) + lost w (drop (n + 1) ps) (drop (n + 1) slots)
-  lost_on w = λ i. lost w (left_places i) (left_slots i)
-
-  pub edits_on : (u : Placed H → ℕ) (v : X → ℕ) → lost u (drop n ps) (drop n slots) + sum_by v (put_at (drop n ps))
-      ≡ (cond (is_kept p.fate) 0 (u s) + sum_by v (option_to_list (put_there p.fate))) + (lost u (drop (n + 1) ps) (drop (n + 1) slots) + sum_by v (put_at (drop (n + 1) ps)))
-  edits_on u v = let gone = lost_on u in let put = put_on v in omega (arith, gone, put)
 
 pub work_first : (n m : ℕ) (c : Counts) → WorkLeft n m n m c c
 work_first n m c = record { compiled = omega arith; edited = omega arith; tries = refl }
@@ -223,18 +142,6 @@ module _ {X H : Type 0} (passes : X → Bool) (def : ServiceDef) (form : H → F
 
   pub one_of_list : list_all (is_compiled passes def form hold) (x ∷ []) ≡ true → is_compiled passes def form hold x ≡ true
   one_of_list h = (and_parts (is_compiled passes def form hold x) true h).0
-
--- ---- all slots have moved
-
-module _ {X H : Type 0} (ps : List (Place X)) (slots : List (Placed H)) (n : ℕ) (all_slots : n ≡ length slots) where
-  pub all_moved : (hold : X → H) (ms : List (Placed H)) → ms ++ moved_slots hold (drop n ps) (drop n slots) ≡ moved_slots hold ps slots → ms ≡ moved_slots hold ps slots
-  all_moved hold ms so_far = sym (append-nil ms) ∙ ap (λ l. ms ++ l) (sym (none_moved hold (drop n ps)) ∙ ap (moved_slots hold (drop n ps)) (sym (drop_all n slots (omega (arith, all_slots))))) ∙ so_far where
-    none_moved : (hold : X → H) (rest : List (Place X)) → moved_slots {H = H} hold rest [] ≡ []
-    none_moved hold [] = refl
-    none_moved hold (p ∷ rest) = refl
-
-  pub all_filed : (form : H → Form) (ms : List (Placed H)) (forms : List Form) → forms ≡ slot_forms form ms ++ slot_forms form (drop n slots) → forms ≡ slot_forms form ms
-  all_filed form ms forms is = is ∙ ap (λ l. slot_forms form ms ++ slot_forms form l) (drop_all n slots (omega (arith, all_slots))) ∙ append-nil (slot_forms form ms)
 
 -- ---- one thing after the other at the end
 

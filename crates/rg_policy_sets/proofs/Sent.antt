@@ -15,10 +15,15 @@ use Rattle.rg_policy_sets.specs.contracts.policies.PolicySet as S
 use Rattle.rg_policy_sets.specs.contracts.policies.PolicySet.TheInside as SI
 use Rattle.rg_policy_sets.specs.contracts.rows.RowSet as W
 use Rattle.rg_policy_sets.specs.contracts.rows.RowSet.TheInside as WI
+use Rattle.rg_policy_sets.specs.contracts.slots.Slot as T
+use Rattle.rg_policy_sets.specs.contracts.slots.Slot.TheInside as TI
+use Rattle.rg_policy_sets.specs.contracts.pages.Page as G
+use Rattle.rg_policy_sets.specs.contracts.pages.Page.TheInside as GI
+use Rattle.rg_policy_sets.specs.contracts.pages.Slots as L
+use Rattle.rg_policy_sets.specs.contracts.pages.Slots.TheInside as LI
 use Rattle.rg_policy_sets.specs.contracts.shelf.Shelf as F
 use Rattle.rg_policy_sets.specs.contracts.shelf.Shelf.TheInside as FI
 use Rattle.rg_policy_sets.specs.declared.held.Fileable.{Ghosts}
-use Rattle.rg_policy_sets.proofs.slots.Slot.TheSendSync as slot
 use Rattle.rg_index.proofs.Sent.{index_send, index_sync}
 use Rattle.rg_base.proofs.seq.Seq.TheSendSync as seq
 use Rattle.rg_cond.proofs.spans.Span.TheSendSync as span
@@ -80,11 +85,47 @@ pub held_row_sync : IsSync R.the_row
 held_row_sync = search (sendable, row_inside_sync) depth 20
 
 module _ (H : RattleType) (g : Ghosts H.Denot) (s : IsSend H) (y : IsSync H) where
+  slot_inside_send : IsSend (TI.the_row H g)
+  slot_inside_send = declared_send (TI.the_type H g) (search (sendable) depth 20, (search (sendable) depth 20, (search (crosses, sendable, s, y) depth 40, tt)))
+
+  slot_inside_sync : IsSync (TI.the_row H g)
+  slot_inside_sync = declared_sync (TI.the_type H g) (search (sendable) depth 20, (search (sendable) depth 20, (search (crosses, sendable, s, y) depth 40, tt)))
+
+  slot_send : IsSend (T.the_row H g)
+  slot_send = search (sendable, slot_inside_send) depth 20
+
+  slot_sync : IsSync (T.the_row H g)
+  slot_sync = search (sendable, slot_inside_sync) depth 20
+
+  page_inside_send : IsSend (GI.the_row H g)
+  page_inside_send = declared_send (GI.the_type H g) (search (crosses, sendable, slot_send, slot_sync) depth 40, tt)
+
+  page_inside_sync : IsSync (GI.the_row H g)
+  page_inside_sync = declared_sync (GI.the_type H g) (search (crosses, sendable, slot_send, slot_sync) depth 40, tt)
+
+  page_send : IsSend (G.the_row H g)
+  page_send = search (sendable, page_inside_send) depth 20
+
+  page_sync : IsSync (G.the_row H g)
+  page_sync = search (sendable, page_inside_sync) depth 20
+
+  slots_inside_send : IsSend (LI.the_row H g)
+  slots_inside_send = declared_send (LI.the_type H g) (search (crosses, sendable, page_send) depth 40, tt)
+
+  slots_inside_sync : IsSync (LI.the_row H g)
+  slots_inside_sync = declared_sync (LI.the_type H g) (search (crosses, sendable, page_sync) depth 40, tt)
+
+  slots_send : IsSend (L.the_row H g)
+  slots_send = search (sendable, slots_inside_send) depth 20
+
+  slots_sync : IsSync (L.the_row H g)
+  slots_sync = search (sendable, slots_inside_sync) depth 20
+
   shelf_inside_send : IsSend (FI.the_row H g)
-  shelf_inside_send = declared_send (FI.the_type H g) (search (crosses, sendable, slot.the_send H s y) depth 40, (search (sendable, index_send) depth 20, tt))
+  shelf_inside_send = declared_send (FI.the_type H g) (search (sendable, slots_send) depth 20, (search (sendable, index_send) depth 20, tt))
 
   shelf_inside_sync : IsSync (FI.the_row H g)
-  shelf_inside_sync = declared_sync (FI.the_type H g) (search (crosses, sendable, slot.the_sync H s y) depth 40, (search (sendable, index_sync) depth 20, tt))
+  shelf_inside_sync = declared_sync (FI.the_type H g) (search (sendable, slots_sync) depth 20, (search (sendable, index_sync) depth 20, tt))
 
   shelf_send : IsSend (F.the_row H g)
   shelf_send = search (sendable, shelf_inside_send) depth 20

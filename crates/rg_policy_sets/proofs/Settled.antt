@@ -1,7 +1,6 @@
 -- Sets after a plan of changes.
-use Rattle.std.proofs.Common.{◌≡◌, ◌&&◌, ◌+◌, ℕ, ℤ, Bool, true, not, cond, List, [], ◌∷◌, map, fold, length, refl, sym, ap, subst, ◌∙◌, arith}
+use Rattle.std.proofs.Common.{◌≡◌, ◌&&◌, ◌+◌, ℕ, ℤ, Bool, true, not, cond, List, [], ◌∷◌, map, fold, refl, sym, ap, subst, ◌∙◌, arith}
 use Rattle.std.proofs.lemmas.Bool.{and_parts}
-use Rattle.std.proofs.lemmas.List.{length-map}
 use Rattle.std.proofs.lemmas.List.Folds.{list_all-append}
 use Rattle.std.proofs.lemmas.List.Sums.{sum_by-cons}
 use Rattle.std.proofs.lemmas.Bool.Decides.{Decides-int_eq, same_from_decides}
@@ -28,7 +27,7 @@ use Rattle.rg_facts.specs.Sound.{passes, row_ids, same_id}
 use Rattle.rg_index.specs.Changes.{form_fits}
 use Rattle.rg_index.specs.Filing.{pairs}
 use Rattle.rg_policy_sets.specs.Bounds.{WorkWithin, made_on, pairs_on, row_pairs, side_after}
-use Rattle.rg_policy_sets.specs.Kept.{ArePolicies, AreRows, Placed, Shelved, held_in, policies_in, row_source_form, rows_in, source_form}
+use Rattle.rg_policy_sets.specs.Kept.{ArePolicies, AreRows, Placed, Shelved, held_in, policies_in, row_source_form, rows_in, slot_ids, source_form}
 use Rattle.rg_policy_sets.specs.Moved.{edits_of, is_compiled, policy_id, policy_pairs, row_form_pairs, row_id}
 use Rattle.rg_policy_sets.specs.Plan.{AllSuit, Planned, is_kept, left_of, lost, made_in, plan_of, put_at, put_there, standing, stood}
 use Rattle.rg_policy_sets.specs.Seen.{RowSource, row_source, source}
@@ -43,12 +42,6 @@ use Rattle.rg_policy_sets.proofs.Weighing.{plan_makes, plan_weighs}
 -- ---- plans of any things
 
 module _ {X : Type 0} (id_of : X → ℤ) where
-  pub suit_length : (ps : List (Place X)) (xs : List X) → AllSuit id_of ps xs → length ps ≡ length xs
-  suit_length [] [] s = refl
-  suit_length [] (x ∷ xs) s = absurd s
-  suit_length (p ∷ ps) [] s = absurd s
-  suit_length (p ∷ ps) (x ∷ xs) s = let rest = suit_length ps xs s.2 in omega (arith, rest)
-
   put_pass : (q : X → Bool) (ps : List (Place X)) (xs : List X) → AllSuit id_of ps xs → list_all q (left_of ps xs) ≡ true → list_all q (put_at ps) ≡ true
   put_pass q [] xs s h = refl
   put_pass q (p ∷ ps) [] s h = absurd s
@@ -122,9 +115,6 @@ module _ (frame : Frame) (side : Side) where
     pub policies_stand : standing planned policies ≡ fold (side_after side) policies changes
     policies_stand = plan_stands policy_id policies (edits_of side changes) ∙ side_edits side policies changes
 
-    pub policies_placed : length planned.places ≡ length policies
-    policies_placed = suit_length policy_id planned.places policies (suit_all policy_id policies (edits_of side changes))
-
     pub policies_work : (slots : List (Placed Source)) → policies_in slots ≡ policies → all_distinct same_id (fold (side_after side) policies changes) ≡ true
         → (a b : Counts)
         → WorkWithin (sum_by (λ p. 1) (made_in planned))
@@ -146,7 +136,16 @@ module _ (frame : Frame) (side : Side) where
           tries = work.tries;
         }
 
+-- the ids of the slots are those of the policies
+pub policy_slot_ids : (slots : List (Placed Source)) → slot_ids source_form slots ≡ map policy_id (policies_in slots)
+policy_slot_ids [] = refl
+policy_slot_ids (s ∷ slots) = ap (λ l. s.held.policy.id.0 ∷ l) (policy_slot_ids slots)
+
 -- ---- tag rows
+
+pub row_slot_ids : (slots : List (Placed RowSource)) → slot_ids row_source_form slots ≡ map row_id (rows_in slots)
+row_slot_ids [] = refl
+row_slot_ids (s ∷ slots) = ap (λ l. s.held.row.id ∷ l) (row_slot_ids slots)
 
 module _ (def : ServiceDef) where
   row_sourced : (rows : List TagRow) → map (λ (s : RowSource). s.row) (map (row_source def) rows) ≡ rows
@@ -180,9 +179,6 @@ module _ (def : ServiceDef) where
     pub rows_stand : standing planned_rows rows ≡ fold rows_after rows changes
     rows_stand = plan_stands row_id rows (map row_edit changes) ∙ all_edits rows changes
 
-    pub rows_placed : length planned_rows.places ≡ length rows
-    rows_placed = suit_length row_id planned_rows.places rows (suit_all row_id rows (map row_edit changes))
-
     none_compiled : {X : Type 0} (xs : List X) → sum_by (λ x. 0) xs ≡ 0
     none_compiled [] = refl
     none_compiled (x ∷ xs) = let rest = none_compiled xs in let more = sum_by-cons (λ x. 0) x xs in omega (arith, rest, more)
@@ -212,11 +208,6 @@ module _ (def : ServiceDef) where
 
 module _ (frame : Frame) (side : Side) (shelf : Shelved Source) (are : ArePolicies frame side shelf) (changes : List PolicyChange) (def : ServiceDef) (same : def ≡ def_of frame side)
     (p : Planned Policy) (is : p ≡ planned frame side (policies_in shelf.slots) changes) where
-  pub policies_long : length p.places ≡ length shelf.slots
-  policies_long =
-      ap (λ (q : Planned Policy). length q.places) is ∙ policies_placed frame side (policies_in shelf.slots) changes
-      ∙ length-map shelf.slots (λ (s : Placed Source). s.held.policy)
-
   pub policies_fitting : list_all (passes frame side) (fold (side_after side) (policies_in shelf.slots) changes) ≡ true
       → list_all (is_compiled (passes frame side) def source_form (source frame side)) (made_in p) ≡ true
   policies_fitting rules =
@@ -243,11 +234,6 @@ module _ (frame : Frame) (side : Side) (shelf : Shelved Source) (are : ArePolici
     are_policies_after = record { def = s_def ∙ same; sources = all_held ∙ ap (map (source frame side)) (sym policies_after_all) }
 
 module _ (shelf : Shelved RowSource) (are : AreRows shelf) (changes : List TagChange) (def : ServiceDef) (same : def ≡ shelf.def) (p : Planned TagRow) (is : p ≡ planned_rows def (rows_in shelf.slots) changes) where
-  pub rows_long : length p.places ≡ length shelf.slots
-  rows_long =
-      ap (λ (q : Planned TagRow). length q.places) is ∙ rows_placed def (rows_in shelf.slots) changes
-      ∙ length-map shelf.slots (λ (s : Placed RowSource). s.held.row)
-
   pub rows_fitting : list_all (row_passes def) (fold rows_after (rows_in shelf.slots) changes) ≡ true
       → list_all (is_compiled (row_passes def) def row_source_form (row_source def)) (made_in p) ≡ true
   rows_fitting rules =

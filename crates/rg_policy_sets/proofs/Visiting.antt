@@ -39,7 +39,7 @@ module _ {X : Type 0} (slots : List (Placed X)) where
     | inr on ↦ absurd (Contains-none x on)
   ]
 
-  found_held : (o : Option (Placed X)) (x : X) → option_map (λ (s : Placed X). s.held) o ≡ Some x → (s : Placed X) × (o ≡ Some s) × (s.held ≡ x)
+  pub found_held : (o : Option (Placed X)) (x : X) → option_map (λ (s : Placed X). s.held) o ≡ Some x → (s : Placed X) × (o ≡ Some s) × (s.held ≡ x)
   found_held None x e = absurd (none-some x e)
   found_held (Some s) x e = (s, refl, same_Some s.held x e)
 

@@ -42,6 +42,30 @@ slot_form form s = renumbered s.ordinal (form s.held)
 abbrev pub slot_forms : {X : Type 0} → (X → Form) → List (Placed X) → List Form
 slot_forms form slots = map (slot_form form) slots
 
+-- the id of what a slot holds
+abbrev pub slot_id : {X : Type 0} → (X → Form) → Placed X → ℤ
+slot_id form s = (form s.held).id
+
+abbrev pub slot_ids : {X : Type 0} → (X → Form) → List (Placed X) → List ℤ
+slot_ids form slots = map (slot_id form) slots
+
+-- the slots of all pages
+abbrev pub all_in : {X : Type 0} → List (List X) → List X
+all_in pages = flat_map (λ page. page) pages
+
+-- a page has a slot
+abbrev pub is_filled : {X : Type 0} → List X → Bool
+is_filled [] = false
+is_filled (s ∷ slots) = true
+
+-- the ordinal of the last slot, or this one where there is none
+abbrev pub last_from : {X : Type 0} → ℤ → List (Placed X) → ℤ
+last_from last [] = last
+last_from last (s ∷ slots) = last_from s.ordinal slots
+
+abbrev pub last_ordinal : {X : Type 0} → List (Placed X) → ℤ
+last_ordinal slots = last_from (pos 0) slots
+
 -- the forms of what is held in the slots
 abbrev pub held_forms : {X : Type 0} → (X → Form) → List (Placed X) → List Form
 held_forms form slots = map (λ s. form s.held) slots

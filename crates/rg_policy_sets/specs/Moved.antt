@@ -1,6 +1,7 @@
 -- For proofs alone: how slots move with a plan.
-use Rattle.std.specs.Prelude.{◌≡◌, ◌≤◌, ◌+◌, ℕ, ℤ, int_lt, ◌&&◌, Bool, List, [], ◌∷◌, filter, map, Option, Some, None}
-use Rattle.std.specs.List.{cons_option, list_all}
+use Rattle.std.specs.Prelude.{◌≡◌, ◌≤◌, ◌+◌, ℕ, ℤ, int_lt, ◌&&◌, Bool, List, [], ◌∷◌, ◌++◌, filter, map, Option, Some, None}
+use Rattle.std.specs.List.{cons_option, list_all, list_any}
+use Rattle.std.specs.Ordering.{int_eq}
 use Rattle.rg_base.specs.Counts.{Counts}
 use Rattle.rg_policy.specs.declared.policy.Policy.{Policy}
 use Rattle.rg_tags.specs.declared.row.TagRow.{TagRow}
@@ -13,7 +14,8 @@ use Rattle.rg_index.specs.Changes.{form_fits}
 use Rattle.rg_index.specs.Filing.{pairs}
 use Rattle.rg_index.specs.declared.form.Form.{Form}
 use Rattle.rg_policy_sets.specs.Bounds.{is_on, policy_form, row_form}
-use Rattle.rg_policy_sets.specs.Kept.{Placed}
+use Rattle.rg_policy_sets.specs.Kept.{Placed, slot_id, slot_ids}
+use Rattle.rg_policy_sets.specs.Plan.{Planned, place_for, spread}
 use Rattle.rg_policy_sets.specs.declared.plan.Fate.{Fate}
 use Rattle.rg_policy_sets.specs.declared.plan.Fate.TheVariants.{Stays, Goes, Becomes}
 use Rattle.rg_policy_sets.specs.declared.plan.Place.{Place}
@@ -45,6 +47,24 @@ abbrev pub moved_slots : {X H : Type 0} → (X → H) → List (Place X) → Lis
 moved_slots hold [] slots = []
 moved_slots hold (p ∷ ps) [] = []
 moved_slots hold (p ∷ ps) (s ∷ slots) = cons_option (moved_slot hold p.fate s) (moved_slots hold ps slots)
+
+-- the places of slots, of whose ids so much was said
+abbrev pub places_of : {X H : Type 0} → (H → Form) → List (Place X) → List (Placed H) → List (Place X)
+places_of form said slots = map (place_for said) (slot_ids form slots)
+
+-- the plan of slots
+abbrev pub plan_on : {X H : Type 0} → (H → Form) → List (Placed H) → Planned X → Planned X
+plan_on form slots said = spread (slot_ids form slots) said
+
+-- something was said of an id of a slot
+abbrev pub is_touched : {X H : Type 0} → (H → Form) → List (Place X) → List (Placed H) → Bool
+is_touched form said slots = list_any (λ p. list_any (λ s. int_eq (slot_id form s) p.id) slots) said
+
+-- these forms stand side by side among all
+pub record AreAmid (those forms : List Form) : Type 0 where
+  pub before : List Form
+  pub after : List Form
+  pub is : forms ≡ before ++ (those ++ after)
 
 -- all ordinals are below this one
 abbrev pub are_below : {H : Type 0} → ℤ → List (Placed H) → Bool

@@ -72,6 +72,17 @@ unmoved id = record { id = id; fate = Stays }
 abbrev pub at_first : {X : Type 0} → List ℤ → Planned X
 at_first ids = record { places = map unmoved ids; added = [] }
 
+-- what becomes of the things with an id, if this is what was said of ids, one after the other: the last counts
+abbrev pub fate_of : {X : Type 0} → List (Place X) → ℤ → Fate X
+fate_of said id = fold (λ fate p. if int_eq id p.id then p.fate else fate) Stays said
+
+abbrev pub place_for : {X : Type 0} → List (Place X) → ℤ → Place X
+place_for said id = record { id = id; fate = fate_of said id }
+
+-- the plan of things with these ids, of which so much was said
+abbrev pub spread : {X : Type 0} → List ℤ → Planned X → Planned X
+spread ids said = record { places = map (place_for said.places) ids; added = said.added }
+
 -- the weight of what the edit puts into the list, if it doesn't delete
 abbrev pub weight_put : {X : Type 0} → (X → ℕ) → Edit X → ℕ
 weight_put w e = if e.change_type == deleted then 0 else w e.item
@@ -111,6 +122,30 @@ module _ {X : Type 0} (id_of : X → ℤ) where
   -- the plan of all edits of things with these ids
   abbrev pub plan_of : List ℤ → List (Edit X) → Planned X
   plan_of ids es = fold with_edit (at_first ids) es
+
+  -- what is said of this thing, where something with its id stands
+  abbrev pub said_renewed : X → List (Place X) → List (Place X)
+  said_renewed x said = if is_taken (fate_of said (id_of x)) then said ++ record { id = id_of x; fate = Becomes x } ∷ [] else said
+
+  abbrev pub said_put : List ℤ → X → Planned X → Planned X
+  said_put ids x p =
+      if (is_taken (fate_of p.places (id_of x)) && list_any (λ id. int_eq id (id_of x)) ids) || list_any (has_id_of id_of x) p.added
+      then record { places = said_renewed x p.places; added = map (or_new x) p.added }
+      else record { places = p.places; added = p.added ++ x ∷ [] }
+
+  abbrev pub said_without : X → Planned X → Planned X
+  said_without x p = record { places = p.places ++ record { id = id_of x; fate = Goes } ∷ []; added = without (has_id_of id_of x) p.added }
+
+  -- what was said, with one more edit of things with these ids
+  abbrev pub said_edit : List ℤ → Planned X → Edit X → Planned X
+  said_edit ids p e =
+      if e.change_type == created then record { places = p.places; added = p.added ++ e.item ∷ [] }
+      else (if e.change_type == updated then said_put ids e.item p
+      else (if e.change_type == deleted then said_without e.item p else p))
+
+  -- what all edits say
+  abbrev pub said_of : List ℤ → List (Edit X) → Planned X
+  said_of ids es = fold (said_edit ids) (record { places = []; added = [] }) es
 
   -- what stands at the place has its id
   abbrev pub Suits : ℤ → Fate X → Type 0

@@ -30,6 +30,10 @@ pub(crate) trait Fileable: Drop {
     /// Its form.
     ghost form_of: { Self → Form };
 
+    /// Its id.
+    fn id(&self) -> i64
+        ensures { result ≡ (form_of self.now).id };
+
     /// Its form with the ordinal as its id.
     fn form(&self, alloc: Global, ordinal: i64) -> Result<Form, NoMemory>
         ensures { IfOk result (λ form. form ≡ renumbered ordinal (form_of self.now)) };
@@ -62,6 +66,10 @@ impl Fileable for HeldPolicy {
 
     ghost form_of = { source_form };
 
+    fn id(&self) -> i64 {
+        self.policy.id.0
+    }
+
     fn form(&self, alloc: Global, ordinal: i64) -> Result<Form, NoMemory> {
         policy_form(alloc, ordinal, &self.policy)
     }
@@ -90,6 +98,10 @@ impl Fileable for HeldRow {
     ghost use Rattle.rg_policy_sets.specs.Kept.{row_source_form};
 
     ghost form_of = { row_source_form };
+
+    fn id(&self) -> i64 {
+        self.row.id
+    }
 
     fn form(&self, alloc: Global, ordinal: i64) -> Result<Form, NoMemory> {
         row_form(alloc, ordinal, &self.row)

@@ -6,6 +6,7 @@ mod filling;
 mod held;
 mod marks;
 mod moving;
+mod pages;
 mod plan;
 mod policies;
 mod row_visits;

@@ -1,11 +1,15 @@
-// The plan of edits: which of the things that stood before stay, and which things the edits put into the list.
-ghost use Rattle.std.specs.Prelude.{◌≡◌, ◌&&◌, ◌||◌, IfOk, List, OnOk, fold, map, not};
+// The plan of edits: what they say of the things that stood before, by their ids, and which things they put into the list.
+ghost use Rattle.std.specs.Prelude.{◌≡◌, ◌&&◌, ◌++◌, ◌∷◌, [], IfOk, List, OnOk, fold, map, not};
 ghost use Rattle.std.specs.List.{list_any};
 ghost use Rattle.std.specs.Ordering.{int_eq};
 ghost use Rattle.rg_cmd.specs.Lists.{without};
 ghost use Rattle.rg_delta.specs.Editing.{edited, has_id_of};
-ghost use Rattle.rg_policy_sets.specs.Plan.{at_first, cleared, has_there, is_taken, or_new, plan_of, planned_put, planned_without, renewed, standing, with_edit};
+ghost use Rattle.rg_policy_sets.specs.Kept.{slot_ids};
+ghost use Rattle.rg_policy_sets.specs.Plan.{fate_of, is_taken, or_new, plan_of, said_edit, said_of, said_put, said_renewed, said_without, spread, standing};
+ghost use Rattle.rg_policy_sets.specs.declared.plan.Fate.TheVariants.{Goes};
 
+use crate::held::Fileable;
+use crate::pages::Slots;
 use rg_base::NoMemory;
 use rg_cmd::{CREATED, DELETED, UPDATED};
 use rg_delta::{Edit, Id, Identified};
@@ -34,14 +38,15 @@ pub(crate) enum Fate<'a, X> {
     Becomes(Made<'a, X>),
 }
 
-/// The place of a thing that stood before: its id, and what becomes of it.
+/// What becomes of the things with an id.
 #[derive(Drop)]
 pub(crate) struct Place<'a, X> {
     pub(crate) id: i64,
     pub(crate) fate: Fate<'a, X>,
 }
 
-/// What becomes of the things that stood before, in their order, and the things that come after them.
+/// What was said of the things that stood before, of which the last that names an id counts, and the things that come after
+/// them. What nothing was said of stays.
 #[derive(Drop)]
 pub(crate) struct Plan<'a, X> {
     pub(crate) places: Vec<Place<'a, X>>,
@@ -57,6 +62,17 @@ impl<'a, X> Model for Plan<'a, X> {
 }
 
 impl<'a, X> Fate<'a, X> {
+    /// The same.
+    fn copied(&self) -> Fate<'a, X>
+        ensures { result ≡ self.now }
+    {
+        match self {
+            Fate::Stays => Fate::Stays,
+            Fate::Goes => Fate::Goes,
+            Fate::Becomes(made) => Fate::Becomes(Made { item: made.item }),
+        }
+    }
+
     /// Whether something stands at the place.
     fn is_taken(&self) -> bool
         ensures { result ≡ is_taken self.now }
@@ -69,11 +85,17 @@ impl<'a, X> Fate<'a, X> {
     }
 }
 
-/// Whether something with this id stands at the place.
-fn has_there<X>(place: &Place<X>, id: Id) -> bool
-    ensures { result ≡ (int_eq place.now.id id.0 && is_taken place.now.fate) }
+/// What becomes of the things with this id.
+pub(crate) fn fate_of<'a, X>(places: &[Place<'a, X>], id: i64) -> Fate<'a, X>
+    ensures { result ≡ fate_of places.now id }
 {
-    place.id == id.0 && place.fate.is_taken()
+    let mut fate = Fate::Stays;
+    for place in places {
+        if id == place.id {
+            fate = place.fate.copied();
+        }
+    }
+    fate
 }
 
 fn has_id<X: Identified>(made: &Made<X>, id: Id) -> bool
@@ -82,11 +104,12 @@ fn has_id<X: Identified>(made: &Made<X>, id: Id) -> bool
     made.item.id().0 == id.0
 }
 
-/// Whether something with this id stands at one of the places.
-fn is_placed<X>(places: &[Place<X>], id: Id) -> bool
-    ensures { result ≡ list_any (λ p. int_eq p.id id.0 && is_taken p.fate) places.now }
+/// Whether something with this id stands in one of the slots, or in its place.
+fn is_placed<H: Fileable, X>(slots: &Slots<H>, places: &[Place<X>], id: Id) -> bool
+    ensures { result ≡ (is_taken (fate_of places.now id.0) && list_any
+        (λ i. int_eq i id.0) (slot_ids H.form_of slots.now)) }
 {
-    places.iter().any(|place| has_there(place, id))
+    fate_of(places, id.0).is_taken() && slots.has_id(id.0)
 }
 
 /// Whether something with this id was added.
@@ -96,22 +119,16 @@ fn is_added<X: Identified>(added: &[Made<X>], id: Id) -> bool
     added.iter().any(|made| has_id(made, id))
 }
 
-/// Puts the thing at the place, where one of its id stands there.
-fn renew_place<'a, X: Identified>(place: &mut Place<'a, X>, item: &'a X)
-    ensures { place.new ≡ renewed X.id_of item.now place.old }
+/// Says that the thing comes in the place of those of its id, where one stands.
+fn renew<'a, X: Identified>(places: &mut Vec<Place<'a, X>>, item: &'a X) -> Result<(), NoMemory>
+    ensures { OnOk result (places.new.items ≡ said_renewed X.id_of item.now places.old.items) }
 {
-    if has_there(place, item.id()) {
-        place.fate = Fate::Becomes(Made { item });
+    let id = item.id().0;
+    if fate_of(places, id).is_taken() {
+        let fate = Fate::Becomes(Made { item });
+        places.push(Place { id, fate })?;
     }
-}
-
-/// Puts the thing at each place where one of its id stands.
-fn renew_places<'a, X: Identified>(places: &mut Vec<Place<'a, X>>, item: &'a X)
-    ensures { places.new.items ≡ map (renewed X.id_of item.now) places.old.items }
-{
-    for place in places.iter_mut() {
-        renew_place(place, item);
-    }
+    Ok(())
 }
 
 /// Puts the thing in the place of this one, where it has its id.
@@ -132,22 +149,17 @@ fn renew_added<'a, X: Identified>(added: &mut Vec<Made<'a, X>>, item: &'a X)
     }
 }
 
-/// Takes away what stands at the place, where it has the id of the thing.
-fn clear_place<'a, X: Identified>(place: &mut Place<'a, X>, item: &X)
-    ensures { place.new ≡ cleared X.id_of item.now place.old }
+/// Says that what has the id of the thing goes.
+fn clear<'a, X: Identified>(places: &mut Vec<Place<'a, X>>, item: &X) -> Result<(), NoMemory>
+    ensures { OnOk result
+        (places.new.items ≡ places.old.items ++ record { id = X.id_of item.now; fate = Goes }
+        ∷ []) }
 {
-    if place.id == item.id().0 {
-        place.fate = Fate::Goes;
-    }
-}
-
-/// Takes away what has the id of the thing.
-fn clear_places<'a, X: Identified>(places: &mut Vec<Place<'a, X>>, item: &X)
-    ensures { places.new.items ≡ map (cleared X.id_of item.now) places.old.items }
-{
-    for place in places.iter_mut() {
-        clear_place(place, item);
-    }
+    places.push(Place {
+        id: item.id().0,
+        fate: Fate::Goes,
+    })?;
+    Ok(())
 }
 
 /// Whether this one hasn't the id of the thing.
@@ -165,12 +177,17 @@ fn clear_added<'a, X: Identified + Drop>(added: &mut Vec<Made<'a, X>>, item: &X)
 }
 
 /// Puts the thing in the place of each one of its id, or at the end where there is none.
-fn put<'a, X: Identified + Drop>(plan: &mut Plan<'a, X>, item: &'a X) -> Result<(), NoMemory>
-    ensures { OnOk result (plan.new ≡ planned_put X.id_of item.now plan.old) }
+fn put<'a, H: Fileable, X: Identified + Drop>(
+    slots: &Slots<H>,
+    plan: &mut Plan<'a, X>,
+    item: &'a X,
+) -> Result<(), NoMemory>
+    ensures { OnOk result
+        (plan.new ≡ said_put X.id_of (slot_ids H.form_of slots.now) item.now plan.old) }
 {
     let id = item.id();
-    if is_placed(&plan.places, id) || is_added(&plan.added, id) {
-        renew_places(&mut plan.places, item);
+    if is_placed(slots, &plan.places, id) || is_added(&plan.added, id) {
+        renew(&mut plan.places, item)?;
         renew_added(&mut plan.added, item);
         return Ok(());
     }
@@ -179,64 +196,55 @@ fn put<'a, X: Identified + Drop>(plan: &mut Plan<'a, X>, item: &'a X) -> Result<
 }
 
 /// Takes away what has the id of the thing.
-fn take_out<'a, X: Identified + Drop>(plan: &mut Plan<'a, X>, item: &X)
-    ensures { plan.new ≡ planned_without X.id_of item.now plan.old }
+fn take_out<'a, X: Identified + Drop>(plan: &mut Plan<'a, X>, item: &X) -> Result<(), NoMemory>
+    ensures { OnOk result (plan.new ≡ said_without X.id_of item.now plan.old) }
 {
-    clear_places(&mut plan.places, item);
+    clear(&mut plan.places, item)?;
     clear_added(&mut plan.added, item);
+    Ok(())
 }
 
-/// One more edit.
-fn follow<'a, X: Identified + Drop>(
+/// One more edit of what stands in the slots.
+fn follow<'a, H: Fileable, X: Identified + Drop>(
+    slots: &Slots<H>,
     plan: &mut Plan<'a, X>,
     edit: &Edit<'a, X>,
 ) -> Result<(), NoMemory>
-    ensures { OnOk result (plan.new ≡ with_edit X.id_of plan.old edit.now) }
+    ensures { OnOk result
+        (plan.new ≡ said_edit X.id_of (slot_ids H.form_of slots.now) plan.old edit.now) }
 {
     match edit.change_type {
         CREATED => {
             plan.added.push(Made { item: edit.item })?;
             Ok(())
         }
-        UPDATED => put(plan, edit.item),
-        DELETED => {
-            take_out(plan, edit.item);
-            Ok(())
-        }
+        UPDATED => put(slots, plan, edit.item),
+        DELETED => take_out(plan, edit.item),
         _ => Ok(()),
     }
 }
 
-/// All things stay.
-fn at_first<'a, X: Drop>(alloc: Global, ids: &[i64]) -> Result<Plan<'a, X>, NoMemory>
-    ensures { IfOk result (λ p. p ≡ at_first ids.now) }
-{
-    let mut places = Vec::new(alloc);
-    for id in ids {
-        places.push(Place {
-            id: *id,
-            fate: Fate::Stays,
-        })?;
-    }
-    Ok(Plan {
-        places,
-        added: Vec::new(alloc),
-    })
-}
-
-/// The plan of the edits, in order, of things with these ids. For each edit the work grows with the number of things.
-pub(crate) fn plan_of<'a, X: Identified + Drop>(
+/// The plan of the edits, in order, of what stands in the slots. For each edit the work grows with the number of slots, whose
+/// ids alone are read.
+pub(crate) fn plan_of<'a, H: Fileable, X: Identified + Drop>(
     alloc: Global,
-    ids: &[i64],
+    slots: &Slots<H>,
     edits: &[Edit<'a, X>],
 ) -> Result<Plan<'a, X>, NoMemory>
-    ensures plan { IfOk result (λ p. p ≡ plan_of X.id_of ids.now edits.now) }
-    ensures stands { IfOk result (λ p. (xs : List X)
-        → map X.id_of xs ≡ ids.now → standing p xs ≡ fold (edited X.id_of) xs edits.now) }
+    ensures said { IfOk result (λ p. p ≡ said_of X.id_of (slot_ids H.form_of slots.now) edits.now) }
+    ensures plan { IfOk result
+        (λ p. spread (slot_ids H.form_of slots.now) p
+        ≡ plan_of X.id_of (slot_ids H.form_of slots.now) edits.now) }
+    ensures stands { IfOk result (λ p. (xs : List X) → map X.id_of xs ≡ slot_ids H.form_of slots.now
+        → standing (spread (slot_ids H.form_of slots.now) p) xs
+        ≡ fold (edited X.id_of) xs edits.now) }
 {
-    let mut plan = at_first(alloc, ids)?;
+    let mut plan = Plan {
+        places: Vec::new(alloc),
+        added: Vec::new(alloc),
+    };
     for edit in edits {
-        follow(&mut plan, edit)?;
+        follow(slots, &mut plan, edit)?;
     }
     Ok(plan)
 }

@@ -1,5 +1,5 @@
 // The policies of one side, compiled and filed.
-ghost use Rattle.std.specs.Prelude.{◌≡◌, ◌==◌, ◌≤◌, ℕ, List, Contains, None, IfOk, fold, length, map, sum_by, true};
+ghost use Rattle.std.specs.Prelude.{◌≡◌, ◌==◌, ◌≤◌, ◌++◌, ℕ, List, Contains, None, IfOk, OnOk, fold, length, map, sum_by, true};
 ghost use Rattle.std.specs.List.{list_all};
 ghost use Rattle.std.specs.Arc.{arc_value};
 ghost use Rattle.std.specs.Str.{chars};
@@ -23,6 +23,7 @@ use crate::compilers::PolicyCompiler;
 use crate::filling::compile_slots;
 use crate::held::HeldPolicy;
 use crate::marks::{Asked, lying_policies_agree};
+use crate::pages::Slots;
 use crate::shelf::Shelf;
 use crate::sides::policy_plan;
 use crate::slots::Slot;
@@ -87,15 +88,30 @@ fn levels_of(alloc: Global, def: &ServiceDef) -> Result<Arc<Seq<Level>>, NoMemor
     Ok(Arc::new(alloc, levels)?)
 }
 
+/// Copies of the policies in the slots come to the list.
+fn add_policies(
+    alloc: Global,
+    slots: &[Slot<HeldPolicy>],
+    list: &mut Vec<Shared<Policy>>,
+) -> Result<(), NoMemory>
+    ensures { OnOk result (list.new.items ≡ list.old.items ++ policies_in slots.now) }
+{
+    for slot in slots {
+        list.push(slot.held.policy.try_copy(alloc)?)?;
+    }
+    Ok(())
+}
+
 /// Copies of the policies in the slots.
-fn policies_of(alloc: Global, slots: &[Slot<HeldPolicy>]) -> Result<Seq<Shared<Policy>>, NoMemory>
+fn policies_of(alloc: Global, slots: &Slots<HeldPolicy>) -> Result<Seq<Shared<Policy>>, NoMemory>
     ensures { IfOk result (λ list. list ≡ listed (policies_in slots.now)) }
 {
-    let mut list = Seq::new(alloc);
-    for slot in slots {
-        list.add(slot.held.policy.try_copy(alloc)?)?;
+    let mut list = Vec::new(alloc);
+    let pages = slots.as_pages();
+    for page in pages {
+        add_policies(alloc, page.as_slice(), &mut list)?;
     }
-    Ok(list)
+    Ok(Seq::from_vec(list))
 }
 
 impl PolicySet {
@@ -153,7 +169,7 @@ impl PolicySet {
             self.now.side self.now.policies changes.now) steps.old steps.new }
     {
         let levels = Arc::try_clone(&self.levels)?;
-        let plan = policy_plan(alloc, self.side, self.shelf.as_slice(), changes)?;
+        let plan = policy_plan(alloc, self.side, self.shelf.slots(), changes)?;
         let compiler = PolicyCompiler {
             frame,
             side: self.side,
@@ -179,7 +195,7 @@ impl PolicySet {
     pub fn is_empty(&self) -> bool
         ensures { result ≡ (length self.now.policies == 0) }
     {
-        self.shelf.as_slice().is_empty()
+        self.shelf.slots().is_empty()
     }
 
     /// The policies of which one may lie on the resource, each with its evaluator. No memory is taken.
@@ -189,7 +205,9 @@ impl PolicySet {
         ensures among { (s : Source) → Contains result s
             → Contains (map (source self.now.frame self.now.side) self.now.policies) s }
         ensures all { (p : Policy) (user : List ℕ) → Contains self.now.policies p
-            → some_lies (def_of self.now.frame self.now.side) (maps_of p) Exact resource.now.elements.items user ≡ true → Contains result (source self.now.frame self.now.side p) }
+            → some_lies (def_of self.now.frame self.now.side)
+            (maps_of p) Exact resource.now.elements.items user ≡ true
+            → Contains result (source self.now.frame self.now.side p) }
     {
         self.law_of_definition();
         lying_policies_agree();
@@ -198,7 +216,7 @@ impl PolicySet {
         let first = Asked::at(levels, 0, elements);
         let second = Asked::at(levels, 1, elements);
         Visits::of(
-            self.shelf.as_slice(),
+            self.shelf.slots(),
             self.shelf.candidates(resource),
             first,
             second,
@@ -212,12 +230,14 @@ impl PolicySet {
         ensures among { (s : Source) → Contains result s
             → Contains (map (source self.now.frame self.now.side) self.now.policies) s }
         ensures all { (p : Policy) (user : List ℕ) → Contains self.now.policies p
-            → some_lies (def_of self.now.frame self.now.side) (maps_of p) Exact (tag_elements (chars tag.now)) user ≡ true → Contains result (source self.now.frame self.now.side p) }
+            → some_lies (def_of self.now.frame self.now.side) (maps_of p) Exact
+            (tag_elements (chars tag.now)) user ≡ true
+            → Contains result (source self.now.frame self.now.side p) }
     {
         let first = Asked::nothing();
         let second = Asked::nothing();
         Visits::of(
-            self.shelf.as_slice(),
+            self.shelf.slots(),
             self.shelf.candidates_tag(tag),
             first,
             second,
@@ -228,6 +248,6 @@ impl PolicySet {
     pub fn copies(&self, alloc: Global) -> Result<Seq<Shared<Policy>>, NoMemory>
         ensures { IfOk result (λ list. list ≡ listed self.now.policies) }
     {
-        policies_of(alloc, self.shelf.as_slice())
+        policies_of(alloc, self.shelf.slots())
     }
 }

@@ -1,5 +1,5 @@
 // The tag rows of a service, compiled and filed.
-ghost use Rattle.std.specs.Prelude.{◌≡◌, ◌==◌, ◌≤◌, ℕ, List, [], Contains, None, IfOk, fold, length, map, sum_by, true};
+ghost use Rattle.std.specs.Prelude.{◌≡◌, ◌==◌, ◌≤◌, ◌++◌, ℕ, List, [], Contains, None, IfOk, OnOk, fold, length, map, sum_by, true};
 ghost use Rattle.std.specs.List.{list_all};
 ghost use Rattle.std.specs.Ordering.{int_eq};
 ghost use Rattle.rg_base.specs.Listed.{listed};
@@ -20,6 +20,7 @@ ghost use Rattle.rg_policy_sets.specs.Seen.{RowSource, row_source};
 use crate::compilers::RowCompiler;
 use crate::filling::compile_slots;
 use crate::held::HeldRow;
+use crate::pages::Slots;
 use crate::row_visits::RowVisits;
 use crate::shelf::Shelf;
 use crate::sides::row_plan;
@@ -50,15 +51,26 @@ impl Model for RowSet {
     ghost invariant = { λ s. AreRows s.shelf };
 }
 
+/// Copies of the rows in the slots come to the list.
+fn add_rows(alloc: Global, slots: &[Slot<HeldRow>], list: &mut Vec<TagRow>) -> Result<(), NoMemory>
+    ensures { OnOk result (list.new.items ≡ list.old.items ++ rows_in slots.now) }
+{
+    for slot in slots {
+        list.push(slot.held.row.try_copy(alloc)?)?;
+    }
+    Ok(())
+}
+
 /// Copies of the rows in the slots.
-fn rows_of(alloc: Global, slots: &[Slot<HeldRow>]) -> Result<Seq<TagRow>, NoMemory>
+fn rows_of(alloc: Global, slots: &Slots<HeldRow>) -> Result<Seq<TagRow>, NoMemory>
     ensures { IfOk result (λ list. list ≡ listed (rows_in slots.now)) }
 {
-    let mut list = Seq::new(alloc);
-    for slot in slots {
-        list.add(slot.held.row.try_copy(alloc)?)?;
+    let mut list = Vec::new(alloc);
+    let pages = slots.as_pages();
+    for page in pages {
+        add_rows(alloc, page.as_slice(), &mut list)?;
     }
-    Ok(list)
+    Ok(Seq::from_vec(list))
 }
 
 impl RowSet {
@@ -102,7 +114,7 @@ impl RowSet {
         ensures steps { WorkWithin 0
             (row_pairs self.now.def self.now.rows changes.now) steps.old steps.new }
     {
-        let plan = row_plan(alloc, self.shelf.as_slice(), changes)?;
+        let plan = row_plan(alloc, self.shelf.slots(), changes)?;
         let compiler = RowCompiler { def };
         let shelf = self.shelf.moved(alloc, def, &compiler, &plan, steps)?;
         Ok(RowSet { shelf })
@@ -112,7 +124,7 @@ impl RowSet {
     pub fn is_empty(&self) -> bool
         ensures { result ≡ (length self.now.rows == 0) }
     {
-        self.shelf.as_slice().is_empty()
+        self.shelf.slots().is_empty()
     }
 
     /// The rows of which one may lie on the resource, each at most once, with its matcher. No memory is taken.
@@ -124,7 +136,8 @@ impl RowSet {
         ensures once { (weigh : TagRow → ℕ)
             → sum_by (λ (s : RowSource). weigh s.row) result ≤ sum_by weigh self.now.rows }
         ensures all { (row : TagRow) (user : List ℕ) → Contains self.now.rows row
-            → lies self.now.def row.resources.items Down resource.now.elements.items user ≡ true → Contains result (row_source self.now.def row) }
+            → lies self.now.def row.resources.items Down resource.now.elements.items user ≡ true
+            → Contains result (row_source self.now.def row) }
     {
         RowVisits::of(&self.shelf, resource)
     }
@@ -133,6 +146,6 @@ impl RowSet {
     pub fn copies(&self, alloc: Global) -> Result<Seq<TagRow>, NoMemory>
         ensures { IfOk result (λ list. list ≡ listed self.now.rows) }
     {
-        rows_of(alloc, self.shelf.as_slice())
+        rows_of(alloc, self.shelf.slots())
     }
 }

@@ -9,6 +9,7 @@ ghost use Rattle.rg_index.specs.Filing.{EditsWithin, pairs};
 ghost use Rattle.rg_policy_sets.specs.Kept.{AreFound, are_rising, found_in, slot_forms};
 
 use crate::held::Fileable;
+use crate::pages::Slots;
 use crate::slots::{Slot, forms_of};
 use rg_base::{Ledger, NoMemory, Steps};
 use rg_defs::ServiceDef;
@@ -20,7 +21,7 @@ use std::marker::Model;
 /// Slots, filed by their forms under a definition. Contracts see the definition and the slots.
 #[derive(Drop)]
 pub(crate) struct Shelf<H: Fileable> {
-    pub(crate) slots: Vec<Slot<H>>,
+    pub(crate) slots: Slots<H>,
     pub(crate) index: Index,
 }
 
@@ -30,10 +31,10 @@ impl<H: Fileable> Model for Shelf<H> {
 
     ghost Value = { Shelved H };
 
-    ghost view = { λ s. record { def = s.index.def; slots = s.slots.items } };
+    ghost view = { λ s. record { def = s.index.def; slots = s.slots } };
 
-    ghost invariant = { λ s. (s.index.forms ≡ slot_forms H.form_of s.slots.items)
-        × (are_rising s.slots.items ≡ true) };
+    ghost invariant = { λ s. (s.index.forms ≡ slot_forms H.form_of s.slots)
+        × (are_rising s.slots ≡ true) };
 }
 
 impl<H: Fileable> Shelf<H> {
@@ -53,11 +54,12 @@ impl<H: Fileable> Shelf<H> {
     {
         let forms = forms_of(alloc, &slots)?;
         let index = Index::build(alloc, def, &forms, steps)?;
+        let slots = Slots::of(alloc, slots)?;
         Ok(Shelf { slots, index })
     }
 
     /// The slots.
-    pub(crate) fn as_slice(&self) -> &[Slot<H>]
+    pub(crate) fn slots(&self) -> &Slots<H>
         ensures slots { result.now ≡ self.now.slots }
         ensures rising { are_rising self.now.slots ≡ true }
     {

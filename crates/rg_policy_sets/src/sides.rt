@@ -1,13 +1,13 @@
 // The plans of changes of policies and tag rows.
 ghost use Rattle.std.specs.Prelude.{◌≡◌, IfOk, map};
 ghost use Rattle.rg_delta.specs.Sides.{row_edit};
-ghost use Rattle.rg_policy_sets.specs.Kept.{policies_in, rows_in};
-ghost use Rattle.rg_policy_sets.specs.Moved.{edits_of, policy_id, row_id};
+ghost use Rattle.rg_policy_sets.specs.Kept.{policies_in, row_source_form, rows_in, source_form};
+ghost use Rattle.rg_policy_sets.specs.Moved.{edits_of, plan_on, policy_id, row_id};
 ghost use Rattle.rg_policy_sets.specs.Plan.{plan_of};
 
 use crate::held::{HeldPolicy, HeldRow};
+use crate::pages::Slots;
 use crate::plan::{Plan, plan_of};
-use crate::slots::Slot;
 use rg_base::NoMemory;
 use rg_cmd::{PolicyChange, TagChange};
 use rg_delta::{Edit, policy_edits, row_edits};
@@ -32,53 +32,31 @@ fn edits_of<'a>(
     }
 }
 
-/// The ids of the policies in the slots.
-fn policy_ids(alloc: Global, slots: &[Slot<HeldPolicy>]) -> Result<Vec<i64>, NoMemory>
-    ensures { IfOk result (λ ids. ids.items ≡ map policy_id (policies_in slots.now)) }
-{
-    let mut ids = Vec::new(alloc);
-    for slot in slots {
-        ids.push(slot.held.policy.id.0)?;
-    }
-    Ok(ids)
-}
-
-/// The ids of the rows in the slots.
-fn row_ids(alloc: Global, slots: &[Slot<HeldRow>]) -> Result<Vec<i64>, NoMemory>
-    ensures { IfOk result (λ ids. ids.items ≡ map row_id (rows_in slots.now)) }
-{
-    let mut ids = Vec::new(alloc);
-    for slot in slots {
-        ids.push(slot.held.row.id)?;
-    }
-    Ok(ids)
-}
-
 /// The plan of the changes of the policies of the side.
 pub(crate) fn policy_plan<'a>(
     alloc: Global,
     side: Side,
-    slots: &[Slot<HeldPolicy>],
+    slots: &Slots<HeldPolicy>,
     changes: &'a [PolicyChange],
 ) -> Result<Plan<'a, Shared<Policy>>, NoMemory>
-    ensures { IfOk result (λ p. p ≡ plan_of policy_id
-        (map policy_id (policies_in slots.now)) (edits_of side changes.now)) }
+    ensures { IfOk result
+        (λ p. plan_on source_form slots.now p
+        ≡ plan_of policy_id (map policy_id (policies_in slots.now)) (edits_of side changes.now)) }
 {
     let edits = edits_of(alloc, side, changes)?;
-    let ids = policy_ids(alloc, slots)?;
-    plan_of(alloc, &ids, &edits)
+    plan_of(alloc, slots, &edits)
 }
 
 /// The plan of the changes of tag rows.
 pub(crate) fn row_plan<'a>(
     alloc: Global,
-    slots: &[Slot<HeldRow>],
+    slots: &Slots<HeldRow>,
     changes: &'a [TagChange],
 ) -> Result<Plan<'a, TagRow>, NoMemory>
     ensures { IfOk result
-        (λ p. p ≡ plan_of row_id (map row_id (rows_in slots.now)) (map row_edit changes.now)) }
+        (λ p. plan_on row_source_form slots.now p
+        ≡ plan_of row_id (map row_id (rows_in slots.now)) (map row_edit changes.now)) }
 {
     let edits = row_edits(alloc, changes)?;
-    let ids = row_ids(alloc, slots)?;
-    plan_of(alloc, &ids, &edits)
+    plan_of(alloc, slots, &edits)
 }

@@ -7,7 +7,7 @@ ghost use Rattle.rg_policy_sets.specs.Marks.{admitted};
 
 use crate::held::HeldPolicy;
 use crate::marks::Asked;
-use crate::slots::{Slot, next_held};
+use crate::pages::Slots;
 use rg_evalr::Evaluator;
 use rg_index::Candidates;
 use rg_policy::Policy;
@@ -49,7 +49,7 @@ impl<'a> Compiled<'a> {
 /// passed over where its marks tell that it doesn't lie on the resource.
 #[derive(Drop)]
 pub struct Visits<'a> {
-    slots: &'a [Slot<HeldPolicy>],
+    slots: &'a Slots<HeldPolicy>,
     candidates: Candidates<'a>,
     first: Asked<'a>,
     second: Asked<'a>,
@@ -72,7 +72,7 @@ impl<'a> Model for Visits<'a> {
 
 /// The next policy that may lie on the resource, and what is left after it.
 fn next_compiled<'a>(
-    slots: &'a [Slot<HeldPolicy>],
+    slots: &'a Slots<HeldPolicy>,
     candidates: &mut Candidates<'a>,
     first: &Asked<'_>,
     second: &Asked<'_>,
@@ -81,10 +81,12 @@ fn next_compiled<'a>(
     requires held { list_all (is_held slots.now) candidates.old ≡ true }
     ensures held { list_all (is_held slots.now) candidates.new ≡ true }
     ensures next { MatchOption result
-        ((admitted first.now second.now (all_held slots.now candidates.old) ≡ []) × (admitted first.now second.now (all_held slots.now candidates.new) ≡ []))
-        (λ c. admitted first.now second.now (all_held slots.now candidates.old) ≡ c ∷ admitted first.now second.now (all_held slots.now candidates.new)) }
+        ((admitted first.now second.now (all_held slots.now candidates.old) ≡ [])
+        × (admitted first.now second.now (all_held slots.now candidates.new) ≡ []))
+        (λ c. admitted first.now second.now (all_held slots.now candidates.old)
+        ≡ c ∷ admitted first.now second.now (all_held slots.now candidates.new)) }
 {
-    'policies: while let Some(held) = next_held(slots, candidates) {
+    'policies: while let Some(held) = slots.next_held(candidates) {
         if held.may_lie(first, second) {
             return Some(Compiled { held });
         }
@@ -94,7 +96,7 @@ fn next_compiled<'a>(
 
 impl<'a> Visits<'a> {
     pub(crate) fn of(
-        slots: &'a [Slot<HeldPolicy>],
+        slots: &'a Slots<HeldPolicy>,
         candidates: Candidates<'a>,
         first: Asked<'a>,
         second: Asked<'a>,

@@ -23,8 +23,8 @@ returns-in_err-form-clause-steps g c = compiled_alone c.compiled_slot.ensures.st
 pub with_form-requires-clause-free : goal.with_form-requires-clause-free
 with_form-requires-clause-free g c =
     ap (list_any (same_id c.in_ok-form.form)) c.requires.forms
-    ∙ none_named g.H.Fileable.form_of c.in_ok-form.form c.args.moving.now.slots.items
-    (ap (λ o. are_below o c.args.moving.now.slots.items) (ap (λ (f : Form). f.id) c.in_ok-form.ensures ∙ ap (λ (s : Placed g.row.H.Denot). s.ordinal) c.in_ok-slot.ensures.slot) ∙ c.requires.below)
+    ∙ none_named g.H.Fileable.form_of c.in_ok-form.form c.args.moving.now.slots
+    (ap (λ o. are_below o c.args.moving.now.slots) (ap (λ (f : Form). f.id) c.in_ok-form.ensures ∙ ap (λ (s : Placed g.row.H.Denot). s.ordinal) c.in_ok-slot.ensures.slot) ∙ c.requires.below)
 
 pub with_form-requires-clause-fit : goal.with_form-requires-clause-fit
 with_form-requires-clause-fit g c =
@@ -43,8 +43,8 @@ pub returns-clause-forms : goal.returns-clause-forms
 returns-clause-forms g c =
     c.in_ok-moving.ensures.forms
     ∙ (λ i. c.requires.forms i ++ c.in_ok-form.ensures i ∷ [])
-    ∙ sym (map-append (slot_form g.H.Fileable.form_of) c.args.moving.now.slots.items (c.in_ok-slot.slot ∷ []))
-    ∙ ap (slot_forms g.H.Fileable.form_of) (sym c.in_ok-push.ensures.items)
+    ∙ sym (map-append (slot_form g.H.Fileable.form_of) c.args.moving.now.slots (c.in_ok-slot.slot ∷ []))
+    ∙ ap (slot_forms g.H.Fileable.form_of) (sym c.in_ok-push.ensures)
 
 pub returns-clause-steps : goal.returns-clause-steps
 returns-clause-steps g c =

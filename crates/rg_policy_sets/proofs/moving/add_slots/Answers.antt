@@ -38,9 +38,9 @@ loop-made-preserved g c =
     let x = c.made-item.result in
     let within : n < length c.args.added.now = omega arith in
     let rest = drop (n + 1) c.args.added.now in
-    let old = held_in c.loop-made.moving.slots.items in
+    let old = held_in c.loop-made.moving.slots in
     record {
-      held = held_on c.args.added.now n x within c.made-item.is hold old (held_in c.add_slot.new.moving.slots.items) (held_in c.args.moving.now.slots.items ++ map hold c.args.added.now)
+      held = held_on c.args.added.now n x within c.made-item.is hold old (held_in c.add_slot.new.moving.slots) (held_in c.args.moving.now.slots ++ map hold c.args.added.now)
           (c.in_ok-add_slot.ensures.held ∙ ap (λ (y : g.row.X.Denot). old ++ hold y ∷ []) c.made.view_is) c.loop-made.invariant.held;
       rising = c.in_ok-add_slot.ensures.rising;
       def = c.in_ok-add_slot.ensures.def;
@@ -53,7 +53,7 @@ loop-made-preserved g c =
     }
 
 pub returns-clause-held : goal.returns-clause-held
-returns-clause-held g c = all_added c.args.added.now c.loop-made.made-index (omega arith) (g.C.Compile.hold c.args.compiler.now) (held_in c.loop-made.moving.slots.items) (held_in c.args.moving.now.slots.items ++ map (g.C.Compile.hold c.args.compiler.now) c.args.added.now) c.loop-made.invariant.held
+returns-clause-held g c = all_added c.args.added.now c.loop-made.made-index (omega arith) (g.C.Compile.hold c.args.compiler.now) (held_in c.loop-made.moving.slots) (held_in c.args.moving.now.slots ++ map (g.C.Compile.hold c.args.compiler.now) c.args.added.now) c.loop-made.invariant.held
 
 pub returns-clause-steps : goal.returns-clause-steps
 returns-clause-steps g c = work_done _ _ _ _ _ _ c.loop-made.invariant.steps

@@ -11,10 +11,10 @@ invariant-loop-made g l =
     let hold = g.C.Compile.hold l.compiler in
     let form = g.H.Fileable.form_of in
     record {
-      held : held_in l.moving.slots.items ++ map hold (drop l.made-index l.added) ≡ held_in l.fn.moving.slots.items ++ map hold l.added;
-      rising : are_rising l.moving.slots.items ≡ true;
+      held : held_in l.moving.slots ++ map hold (drop l.made-index l.added) ≡ held_in l.fn.moving.slots ++ map hold l.added;
+      rising : are_rising l.moving.slots ≡ true;
       def : l.moving.index.def ≡ l.def;
-      forms : l.moving.index.forms ≡ slot_forms form l.moving.slots.items;
+      forms : l.moving.index.forms ≡ slot_forms form l.moving.slots;
       fit : list_all (is_compiled (g.C.Compile.passes l.compiler) l.def form hold) (drop l.made-index l.added) ≡ true;
       steps : WorkLeft (sum_by (λ x. g.C.Compile.cost) (drop l.made-index l.added))
           (sum_by (λ x. pairs l.def (form (hold x))) (drop l.made-index l.added))

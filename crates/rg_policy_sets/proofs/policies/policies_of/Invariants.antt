@@ -1,7 +1,7 @@
 use Rattle.std.proofs.Common.{◌≡◌, take}
-use Rattle.rg_base.specs.Listed.{listed}
-use Rattle.rg_policy_sets.specs.Kept.{policies_in}
+use Rattle.rg_policy_sets.specs.Kept.{all_in, policies_in}
 use Rattle.rg_policy_sets.proofs.policies.policies_of.Given as goal
 
-abbrev pub invariant-loop-slot : goal.invariant-loop-slot
-invariant-loop-slot l = l.list ≡ listed (policies_in (take l.slot-index l.slots))
+-- those in the pages before this one
+abbrev pub invariant-loop-page : goal.invariant-loop-page
+invariant-loop-page l = l.list.items ≡ policies_in (all_in (take l.page-index l.pages))

@@ -1,5 +1,4 @@
-use Rattle.std.proofs.Common.{◌≡◌, List, ap, slice_get, sym, ◌∙◌}
-use Rattle.rg_defs.specs.declared.service_def.Level.{Level}
+use Rattle.std.proofs.Common.{◌≡◌, ap, slice_get, sym, ◌∙◌}
 use Rattle.rg_defs.specs.declared.service_def.ServiceDef.{ServiceDef}
 use Rattle.rg_evalr.specs.Frames.{def_of}
 use Rattle.rg_evalr.specs.Sources.{Source}

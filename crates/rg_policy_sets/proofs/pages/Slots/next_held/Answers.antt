@@ -3,11 +3,11 @@ use Rattle.std.proofs.lemmas.Int.{to_z-of_z}
 use Rattle.std.specs.List.{list_all}
 use Rattle.rg_policy_sets.specs.Kept.{all_held, held_at, is_held}
 use Rattle.rg_policy_sets.proofs.Visiting.{next_held}
-use Rattle.rg_policy_sets.proofs.slots.next_held.Goals as goal
+use Rattle.rg_policy_sets.proofs.pages.Slots.next_held.Goals as goal
 
 pub returns-in-Some-clause-next : goal.returns-in-Some-clause-next
 returns-in-Some-clause-next g c =
-    let slots = c.args.slots.now in
+    let slots = c.args.self.now in
     let later = c.next.new.self in
     let first : c.args.candidates.now ≡ c.in-Some.ordinal ∷ later = c.in-Some.ensures.steps in
     let there = c.held_at.ensures ∙ ap (held_at slots) (to_z-of_z w64 c.in-Some.ordinal (search rules)) in
