@@ -19,7 +19,7 @@ use Rattle.rg_facts.specs.declared.facts.Facts.{Facts}
 use Rattle.rg_index.specs.Candidates.{bound}
 use Rattle.rg_index.specs.declared.form.Form.{Form}
 use Rattle.rg_policy_sets.specs.Bounds.{pairs_of_change, pairs_under, policy_form, policy_forms, row_form, row_forms}
-pub use Rattle.rg_policy_sets.specs.Bounds.{WorkWithin, made}
+pub use Rattle.rg_policy_sets.specs.Bounds.{HasCompiled, WorkWithin, made}
 
 -- ---- tries
 

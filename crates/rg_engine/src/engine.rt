@@ -1,12 +1,12 @@
 // The engine of one service.
-ghost use Rattle.std.specs.Prelude.{◌≡◌, ◌≤◌, IfOk, IfErr, Err, None, true};
+ghost use Rattle.std.specs.Prelude.{◌≡◌, ◌≤◌, IfOk, OnOk, IfErr, Err, None, true};
 ghost use Rattle.std.specs.Arc.{arc_value};
 ghost use Rattle.rg_defs.specs.Rules.{def_fault};
 ghost use Rattle.rg_zone_rules.specs.Rules.{all_maps_fit};
 ghost use Rattle.rg_delta.specs.Applied.{applied, unless_new};
 ghost use Rattle.rg_engine.specs.Bases.{Tells, wrong_base};
 ghost use Rattle.rg_engine.specs.declared.fault.ApplyFault.TheVariants.{WrongBase};
-ghost use Rattle.rg_engine.specs.Bounds.{TriesWithin, WorkWithin, bound_on, made, pairs_in, pairs_of_changes, policies_in};
+ghost use Rattle.rg_engine.specs.Bounds.{HasCompiled, TriesWithin, WorkWithin, bound_on, made, pairs_in, pairs_of_changes, policies_in};
 ghost use Rattle.rg_engine.specs.Parts.{joined};
 ghost use Rattle.rg_facts.specs.Flow.{eval, outcome};
 ghost use Rattle.rg_facts.specs.Sound.{sound};
@@ -112,7 +112,7 @@ fn setup_after(
 }
 
 impl Engine {
-    /// An engine over these facts, which are sound.
+    /// An engine over these facts, which are sound. Each policy and each tag policy is compiled once.
     pub fn build<L: Ledger>(
         alloc: Global,
         facts: Facts,
@@ -120,6 +120,7 @@ impl Engine {
     ) -> Result<Engine, NoMemory>
         requires { sound facts ≡ true }
         ensures facts { IfOk result (λ e. e ≡ facts) }
+        ensures compiled { OnOk result (HasCompiled (policies_in facts) steps.old steps.new) }
         ensures steps { WorkWithin (policies_in facts) (pairs_in facts) steps.old steps.new }
     {
         let mut facts = facts;

@@ -1,5 +1,5 @@
 // The policies, tag policies and tag rows of a service, compiled and filed.
-ghost use Rattle.std.specs.Prelude.{◌≡◌, ◌+◌, [], IfOk, None, flat_map, fold, length, true};
+ghost use Rattle.std.specs.Prelude.{◌≡◌, ◌+◌, [], IfOk, OnOk, None, flat_map, fold, length, true};
 ghost use Rattle.std.specs.List.{list_all, sum_by};
 ghost use Rattle.rg_base.specs.Listed.{listed};
 ghost use Rattle.rg_base.specs.Texts.{all_distinct};
@@ -12,7 +12,7 @@ ghost use Rattle.rg_facts.specs.Candidates.{candidates, frame_of, tag_candidates
 ghost use Rattle.rg_facts.specs.Sound.{passes, same_id};
 ghost use Rattle.rg_facts.specs.declared.facts.Facts.{Facts};
 ghost use Rattle.rg_index.specs.Candidates.{bound};
-ghost use Rattle.rg_policy_sets.specs.Bounds.{WorkWithin, made, made_on, pairs_on, pairs_under, policy_forms, row_forms, row_pairs};
+ghost use Rattle.rg_policy_sets.specs.Bounds.{HasCompiled, WorkWithin, made, made_on, pairs_on, pairs_under, policy_forms, row_forms, row_pairs};
 ghost use Rattle.rg_engine.specs.Asked.{Finds, tag_tries};
 ghost use Rattle.rg_engine.specs.Bounds.{TriesWithin, bound_on, pairs_in, policies_in, tag_bound};
 ghost use Rattle.rg_engine.specs.Parts.{IsTagSet, MayCompile, compiled_after, compiled_of, lists_of, row_set, tag_pairs, tag_policies_of, tag_set};
@@ -77,6 +77,7 @@ fn build_tag_policies<L: Ledger>(
     requires none { frame.now.tag_def ≡ None → policies.now ≡ [] }
     ensures set { IfOk result (λ o. IsTagSet frame.now o) }
     ensures policies { IfOk result (λ o. tag_policies_of o ≡ policies.now) }
+    ensures compiled { OnOk result (HasCompiled (length policies.now) steps.old steps.new) }
     ensures steps { WorkWithin (length policies.now)
         (pairs_under frame.now.tag_def (policy_forms policies.now)) steps.old steps.new }
 {
@@ -147,6 +148,7 @@ impl Sets {
         requires frame { frame.now ≡ frame_of facts.now }
         requires may { MayCompile (compiled_of facts.now) }
         ensures made { IfOk result (λ s. s ≡ compiled_of facts.now) }
+        ensures compiled { OnOk result (HasCompiled (policies_in facts.now) steps.old steps.new) }
         ensures steps { WorkWithin (policies_in facts.now)
             (pairs_in facts.now) steps.old steps.new }
     {

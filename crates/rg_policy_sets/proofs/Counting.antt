@@ -4,7 +4,7 @@ use Rattle.std.proofs.lemmas.List.Sums.{sum_by-cons, sum_by_more, sum_by_more_le
 use Rattle.std.specs.List.{sum_by}
 use Rattle.rg_base.specs.Counts.{Counts, one_compile}
 use Rattle.rg_index.specs.Filing.{EditsWithin}
-use Rattle.rg_policy_sets.specs.Bounds.{WorkWithin}
+use Rattle.rg_policy_sets.specs.Bounds.{HasCompiled, WorkWithin}
 
 pub no_work : (n m : ℕ) (a : Counts) → WorkWithin n m a a
 no_work n m a = record { compiled = omega arith; edited = omega arith; tries = refl }
@@ -20,6 +20,12 @@ one_compiled a b e =
     let now = ap (λ (k : Counts). k.compiles) e in
     let same = ap (λ (k : Counts). k.edits) e in
     record { compiled = omega (arith, now); edited = omega (arith, same); tries = ap (λ (k : Counts). k.tries) e }
+
+pub exactly_one : (a b : Counts) → b ≡ one_compile a → HasCompiled 1 a b
+exactly_one a b e = ap (λ (k : Counts). k.compiles) e
+
+pub none_compiled : (a : Counts) → HasCompiled 0 a a
+none_compiled a = omega arith
 
 pub joined : (n m : ℕ) (a b c : Counts) → WorkWithin n 0 a b → WorkWithin m 0 b c → WorkWithin (n + m) 0 a c
 joined n m a b c h g =
@@ -40,6 +46,13 @@ module _ {X : Type 0} (cost : ℕ) (items : List X) (i : ℕ) (x : X) (within : 
   one_of =
       more_allowed (sum_by (λ (x : X). cost) (take i items) + cost) 0 (sum_by (λ (x : X). cost) items) 0 a c (sum_by_more_le (λ (x : X). cost) items i x within) (omega arith)
       (joined (sum_by (λ (x : X). cost) (take i items)) cost a b c h g)
+
+-- the compiles of one more item, where each costs so many
+pub one_more_compiled : {X : Type 0} (cost : ℕ) (items : List X) (i : ℕ) (x : X) → i < length items → (a b c : Counts)
+    → HasCompiled (sum_by (λ (x : X). cost) (take i items)) a b → HasCompiled cost b c → HasCompiled (sum_by (λ (x : X). cost) (take (i + 1) items)) a c
+one_more_compiled {X = X} cost items i x within a b c h g =
+    let more = sum_by_more (λ (x : X). cost) items i x within in
+    omega (arith, h, g, more)
 
 pub sum_of_ones : {X : Type 0} (xs : List X) → sum_by (λ (x : X). 1) xs ≡ length xs
 sum_of_ones [] = refl

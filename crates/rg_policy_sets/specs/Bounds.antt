@@ -54,6 +54,10 @@ pub record WorkWithin (compiles edits : ℕ) (old new : Counts) : Type 0 where
   pub edited : new.edits ≤ old.edits + edits
   pub tries : new.tries ≡ old.tries
 
+-- exactly so many compiles are counted
+abbrev pub HasCompiled : ℕ → Counts → Counts → Type 0
+HasCompiled compiles old new = new.compiles ≡ old.compiles + compiles
+
 -- ---- changes of the policies of one side
 
 -- the change is of a policy of the side

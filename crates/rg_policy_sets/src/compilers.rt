@@ -27,7 +27,7 @@ impl<'a> Compile<Shared<Policy>, HeldPolicy> for PolicyCompiler<'a> {
 
     ghost cost = { 1 };
 
-    #[tactic(auto, using(crate::proofs::Passing::no_fault, crate::proofs::Counting::one_compiled))]
+    #[tactic(auto, using(crate::proofs::Passing::no_fault, crate::proofs::Counting::one_compiled, crate::proofs::Counting::exactly_one))]
     fn compile<L: Ledger>(
         &self,
         alloc: Global,
@@ -51,7 +51,7 @@ impl<'a> Compile<TagRow, HeldRow> for RowCompiler<'a> {
 
     ghost cost = { 0 };
 
-    #[tactic(auto, using(crate::proofs::Counting::no_work))]
+    #[tactic(auto, using(crate::proofs::Counting::no_work, crate::proofs::Counting::none_compiled))]
     fn compile<L: Ledger>(
         &self,
         alloc: Global,

@@ -1,7 +1,7 @@
 // Slots with what is compiled, counted from 0.
-ghost use Rattle.std.specs.Prelude.{◌≡◌, IfOk, map, pos, sum_by, true};
+ghost use Rattle.std.specs.Prelude.{◌≡◌, IfOk, OnOk, map, pos, sum_by, true};
 ghost use Rattle.std.specs.List.{list_all};
-ghost use Rattle.rg_policy_sets.specs.Bounds.{WorkWithin};
+ghost use Rattle.rg_policy_sets.specs.Bounds.{HasCompiled, WorkWithin};
 ghost use Rattle.rg_policy_sets.specs.Kept.{placed_from};
 
 use crate::held::Fileable;
@@ -21,6 +21,7 @@ fn compile_slot<X, H: Fileable, C: Compile<X, H>, L: Ledger>(
     requires { C.passes compiler.now item.now ≡ true }
     ensures slot { IfOk result
         (λ s. s ≡ record { ordinal = pos place; held = C.hold compiler.now item.now }) }
+    ensures compiled { OnOk result (HasCompiled C.cost steps.old steps.new) }
     ensures steps { WorkWithin C.cost 0 steps.old steps.new }
 {
     let ordinal = ordinal_of(place)?;
@@ -38,6 +39,8 @@ pub(crate) fn compile_slots<X, H: Fileable, C: Compile<X, H>, L: Ledger>(
     requires pass { list_all (C.passes compiler.now) items.now ≡ true }
     ensures slots { IfOk result
         (λ slots. slots.items ≡ placed_from 0 (map (C.hold compiler.now) items.now)) }
+    ensures compiled { OnOk result
+        (HasCompiled (sum_by (λ x. C.cost) items.now) steps.old steps.new) }
     ensures steps { WorkWithin (sum_by (λ x. C.cost) items.now) 0 steps.old steps.new }
 {
     let mut slots = Vec::new(alloc);

@@ -21,8 +21,8 @@ use std::alloc::Global;
 
 /// What compiles the things that edits put into a list.
 pub(crate) trait Compile<X, H> {
-    ghost use Rattle.std.specs.Prelude.{◌≡◌, ℕ, Bool, IfOk, true};
-    ghost use Rattle.rg_policy_sets.specs.Bounds.{WorkWithin};
+    ghost use Rattle.std.specs.Prelude.{◌≡◌, ℕ, Bool, IfOk, OnOk, true};
+    ghost use Rattle.rg_policy_sets.specs.Bounds.{HasCompiled, WorkWithin};
 
     /// What is held of a thing.
     ghost hold: { Self → X → H };
@@ -41,6 +41,7 @@ pub(crate) trait Compile<X, H> {
     ) -> Result<H, NoMemory>
         requires passes { passes self.now item.now ≡ true }
         ensures held { IfOk result (λ h. h ≡ hold self.now item.now) }
+        ensures compiled { OnOk result (HasCompiled cost steps.old steps.new) }
         ensures steps { WorkWithin cost 0 steps.old steps.new };
 }
 

@@ -15,7 +15,7 @@ ghost use Rattle.rg_evalr.specs.Sources.{Source};
 ghost use Rattle.rg_facts.specs.Sound.{passes, same_id};
 ghost use Rattle.rg_index.specs.Candidates.{bound};
 ghost use Rattle.rg_index.specs.Filing.{pairs};
-ghost use Rattle.rg_policy_sets.specs.Bounds.{WorkWithin, made_on, pairs_on, policy_forms, side_after};
+ghost use Rattle.rg_policy_sets.specs.Bounds.{HasCompiled, WorkWithin, made_on, pairs_on, policy_forms, side_after};
 ghost use Rattle.rg_policy_sets.specs.Kept.{policies_in};
 ghost use Rattle.rg_policy_sets.specs.Seen.{source};
 
@@ -128,6 +128,7 @@ impl PolicySet {
         requires rules { list_all (passes frame.now side) policies.now ≡ true }
         ensures made { IfOk result
             (λ s. s ≡ record { frame = frame.now; side = side; policies = policies.now }) }
+        ensures compiled { OnOk result (HasCompiled (length policies.now) steps.old steps.new) }
         ensures steps { WorkWithin (length policies.now) (sum_by
             (pairs (def_of frame.now side)) (policy_forms policies.now)) steps.old steps.new }
     {

@@ -13,7 +13,7 @@ ghost use Rattle.rg_delta.specs.Applied.{rows_after};
 ghost use Rattle.rg_facts.specs.Sound.{row_ids};
 ghost use Rattle.rg_index.specs.Candidates.{bound};
 ghost use Rattle.rg_index.specs.Filing.{pairs};
-ghost use Rattle.rg_policy_sets.specs.Bounds.{WorkWithin, row_forms, row_pairs};
+ghost use Rattle.rg_policy_sets.specs.Bounds.{HasCompiled, WorkWithin, row_forms, row_pairs};
 ghost use Rattle.rg_policy_sets.specs.Kept.{rows_in};
 ghost use Rattle.rg_policy_sets.specs.Seen.{RowSource, row_source};
 
@@ -85,6 +85,7 @@ impl RowSet {
         requires fit { list_all (λ (row : TagRow). tagged_fit def.now row.resources.items) rows.now
             ≡ true }
         ensures made { IfOk result (λ s. s ≡ record { def = def.now; rows = rows.now }) }
+        ensures compiled { OnOk result (HasCompiled 0 steps.old steps.new) }
         ensures steps { WorkWithin 0
             (sum_by (pairs def.now) (row_forms rows.now)) steps.old steps.new }
     {

@@ -1,5 +1,6 @@
 mod Deltas
 mod Downloaded
+mod Opened
 mod Refreshed
 mod Rights
 mod Settled

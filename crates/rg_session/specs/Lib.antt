@@ -1,5 +1,6 @@
 pub mod Closing
 pub mod Documents
+pub mod Opening
 pub mod Refreshing
 pub mod Right
 -- of the crates below, for those above

@@ -1,5 +1,5 @@
 // How a service opens.
-ghost use Rattle.std.specs.Prelude.{◌≡◌, ◌≤◌, [], ◌∷◌, List, replicate, Some, IfOk};
+ghost use Rattle.std.specs.Prelude.{◌≡◌, ◌≤◌, [], ◌∷◌, List, replicate, Some, IfOk, OnOk};
 ghost use Rattle.rg_turn.specs.Values.{new_seat};
 ghost use Rattle.rg_turn.specs.declared.rule.Entry.{Entry};
 ghost use Rattle.rg_facts.specs.declared.facts.Facts.{Facts};
@@ -9,6 +9,7 @@ ghost use Rattle.rg_admin_laws.specs.Starts.{IsStart};
 ghost use Rattle.rg_admin_laws.specs.Views.{view};
 ghost use Rattle.rg_publish.specs.Passes.{new_pass};
 ghost use Rattle.rg_publish.specs.Publications.{publication};
+ghost use Rattle.rg_session.specs.Opening.{IsBuiltWithin, IsCompiled};
 ghost use Rattle.rg_session.specs.Right.{AreRightFor};
 
 use crate::laws::first_is_right;
@@ -37,7 +38,10 @@ fn first_engine<P: Recorder, L: Ledger>(
     steps: &mut Steps<L>,
 ) -> Result<Engine, NoMemory>
     requires { IsStart admin.now }
-    ensures { IfOk result (λ e. view admin.now admin.now.state.plugin ≡ Some e) }
+    ensures seen { IfOk result (λ e. view admin.now admin.now.state.plugin ≡ Some e) }
+    ensures compiled { OnOk result
+        (IsCompiled (view admin.now admin.now.state.plugin) steps.old steps.new) }
+    ensures steps { IsBuiltWithin (view admin.now admin.now.state.plugin) steps.old steps.new }
 {
     views_are_sound();
     match admin.view(alloc, admin.state().plugin.as_str()) {
@@ -47,6 +51,7 @@ fn first_engine<P: Recorder, L: Ledger>(
 }
 
 /// A publisher that follows an administration from its start, and its passes. What the plugin sees is serial 1, with seq 0.
+#[tactic(auto, using(crate::proofs::Opened::none_built))]
 fn first_refresher<P: Recorder, R: Wait + Drop, L: Ledger>(
     rt: R,
     alloc: Global,
@@ -60,6 +65,9 @@ fn first_refresher<P: Recorder, R: Wait + Drop, L: Ledger>(
     ensures list { IfOk result (λ t. (f : Facts) × (view admin.now admin.now.state.plugin ≡ Some f)
         × (t.0.publisher.list ≡ publication 1 0 f ∷ [])) }
     ensures passes { IfOk result (λ t. t.1.items ≡ replicate passes (new_pass t.0.publisher)) }
+    ensures compiled { OnOk result
+        (IsCompiled (view admin.now admin.now.state.plugin) steps.old steps.new) }
+    ensures steps { IsBuiltWithin (view admin.now admin.now.state.plugin) steps.old steps.new }
 {
     let service = match admin.state().plugin.try_copy(alloc) {
         Ok(service) => service,
@@ -83,7 +91,7 @@ fn first_refresher<P: Recorder, R: Wait + Drop, L: Ledger>(
 }
 
 /// Opens a service over an administration that starts, with 1 to 65 seats and 1 to 65 passes. What the plugin sees is the first
-/// publication, of serial 1 and seq 0. Where memory is refused all is let go.
+/// publication, of serial 1 and seq 0; each of its policies is compiled once. Where memory is refused all is let go.
 pub fn open<P: Recorder, R: Wait + Drop, L: Ledger>(
     rt: R,
     alloc: Global,
@@ -105,6 +113,9 @@ pub fn open<P: Recorder, R: Wait + Drop, L: Ledger>(
         → AreRightFor admin h s.refresher.publisher.list) }
     ensures passes { IfOk result
         (λ s. s.passes.items ≡ replicate passes (new_pass s.refresher.publisher)) }
+    ensures compiled { OnOk result
+        (IsCompiled (view admin admin.state.plugin) steps.old steps.new) }
+    ensures steps { IsBuiltWithin (view admin admin.state.plugin) steps.old steps.new }
 {
     first_is_right();
     match first_refresher(rt, alloc, &admin, passes, steps) {

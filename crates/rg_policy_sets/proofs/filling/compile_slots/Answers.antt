@@ -1,6 +1,6 @@
 use Rattle.std.proofs.Common.{◌<◌, ◌∙◌, length, arith}
 use Rattle.rg_base.proofs.Lists.{left_passes}
-use Rattle.rg_policy_sets.proofs.Counting.{one_more, one_of}
+use Rattle.rg_policy_sets.proofs.Counting.{one_more, one_more_compiled, one_of}
 use Rattle.rg_policy_sets.proofs.Rising.{placed_more}
 use Rattle.rg_policy_sets.proofs.filling.compile_slots.Goals as goal
 
@@ -36,5 +36,6 @@ loop-place-preserved g c =
       so_far = c.in_ok-push.ensures.items
           ∙ placed_more (g.C.Compile.hold c.args.compiler.now) items c.loop-place.slots.items i item c.in_ok-slot.slot c.loop-place.invariant.so_far c.in_ok-slot.ensures.slot within c.index-items-place.is;
       counted = one_more g.C.Compile.cost items i item within c.args.steps.now c.loop-place.steps c.compile_slot.new.steps c.loop-place.invariant.counted c.compile_slot.ensures.steps;
+      compiled = one_more_compiled g.C.Compile.cost items i item within c.args.steps.now c.loop-place.steps c.compile_slot.new.steps c.loop-place.invariant.compiled c.in_ok-slot.ensures.compiled;
       left = (left_passes (g.C.Compile.passes c.args.compiler.now) i items item within c.index-items-place.is c.loop-place.invariant.left).1;
     }

@@ -1,4 +1,4 @@
-use Rattle.std.proofs.Common.{sym, ap, subst, ◌∙◌}
+use Rattle.std.proofs.Common.{length, sym, ap, subst, ◌∙◌, arith}
 use Rattle.std.specs.List.{list_all}
 use Rattle.rg_defs.specs.Rules.{def_fault}
 use Rattle.rg_resmatch.specs.Rules.{tagged_fit}
@@ -69,6 +69,15 @@ returns-clause-made g c =
       tag_policies = c.as_slice-tag_policies.ensures i;
       rows = c.as_slice.ensures i;
     })
+
+pub returns-clause-compiled : goal.returns-clause-compiled
+returns-clause-compiled g c =
+    let own = c.in_ok-policies.ensures.compiled in
+    let tagged = c.in_ok-tag_policies.ensures.compiled in
+    let rows = c.in_ok-rows.ensures.compiled in
+    let policies = ap length c.as_slice-policies.ensures in
+    let tag_policies = ap length c.as_slice-tag_policies.ensures in
+    omega (arith, own, tagged, rows, policies, tag_policies)
 
 pub returns-clause-steps : goal.returns-clause-steps
 returns-clause-steps g c =

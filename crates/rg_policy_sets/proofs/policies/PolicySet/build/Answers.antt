@@ -1,4 +1,4 @@
-use Rattle.std.proofs.Common.{ℕ, length, subst, sym, ◌∙◌}
+use Rattle.std.proofs.Common.{ℕ, length, subst, sym, ◌∙◌, arith}
 use Rattle.rg_evalr.specs.Frames.{def_of}
 use Rattle.rg_evalr.specs.declared.frame.Frame.{Frame}
 use Rattle.rg_policy_sets.specs.Bounds.{WorkWithin}
@@ -25,6 +25,13 @@ returns-in_err-shelf-clause-steps g c =
     policies_within c.args.frame.now c.args.side c.args.policies.now c.def_of-def.result.now c.def_of-def.ensures c.in_ok-slots.slots.items c.in_ok-slots.ensures.slots
     (length c.args.policies.now) c.args.steps.now c.compile_slots.new.steps c.build.new.steps
     (subst (λ (n : ℕ). WorkWithin n 0 c.args.steps.now c.compile_slots.new.steps) (sum_of_ones c.args.policies.now) c.compile_slots.ensures.steps) c.build.ensures.steps
+
+pub returns-clause-compiled : goal.returns-clause-compiled
+returns-clause-compiled g c =
+    let each = c.in_ok-slots.ensures.compiled in
+    let filed = c.build.ensures.steps.compiles in
+    let all = sum_of_ones c.args.policies.now in
+    omega (arith, each, filed, all)
 
 pub returns-clause-steps : goal.returns-clause-steps
 returns-clause-steps g c =

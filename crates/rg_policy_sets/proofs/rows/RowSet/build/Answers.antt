@@ -1,4 +1,4 @@
-use Rattle.std.proofs.Common.{ℕ, ap, subst}
+use Rattle.std.proofs.Common.{ℕ, ap, subst, arith}
 use Rattle.rg_policy_sets.specs.Bounds.{WorkWithin}
 use Rattle.rg_policy_sets.specs.Kept.{Shelved}
 use Rattle.rg_policy_sets.proofs.Counting.{no_edits, sum_of_none}
@@ -18,6 +18,13 @@ returns-in_err-slots-clause-steps g c =
 
 pub returns-in_err-shelf-clause-steps : goal.returns-in_err-shelf-clause-steps
 returns-in_err-shelf-clause-steps g c = rows_within c.args.def.now c.args.rows.now c.in_ok-slots.slots.items c.in_ok-slots.ensures.slots c.args.steps.now c.compile_slots.new.steps c.build.new.steps c.compile_slots.ensures.steps c.build.ensures.steps
+
+pub returns-clause-compiled : goal.returns-clause-compiled
+returns-clause-compiled g c =
+    let each = c.in_ok-slots.ensures.compiled in
+    let filed = c.build.ensures.steps.compiles in
+    let all = sum_of_none c.args.rows.now in
+    omega (arith, each, filed, all)
 
 pub returns-clause-steps : goal.returns-clause-steps
 returns-clause-steps g c = rows_within c.args.def.now c.args.rows.now c.in_ok-slots.slots.items c.in_ok-slots.ensures.slots c.args.steps.now c.compile_slots.new.steps c.build.new.steps c.compile_slots.ensures.steps c.build.ensures.steps
