@@ -1,5 +1,5 @@
 -- How one more download joins those before it, or those after it.
-use Rattle.std.proofs.Common.{◌≡◌, ◌≢◌, ◌+◌, ℕ, List, [], ◌∷◌, ◌++◌, true, false, Some, Result, Ok, Err, IfOk, IfErr, inr, refl, sym, ap, ◌∙◌, subst, arith}
+use Rattle.std.proofs.Common.{◌≡◌, ◌⊎◌, ◌+◌, ℕ, List, [], ◌∷◌, ◌++◌, true, false, Some, Result, Ok, Err, IfOk, IfErr, inl, inr, refl, sym, ap, ◌∙◌, subst, arith}
 use Rattle.rg_facts.specs.declared.facts.Facts.{Facts}
 use Rattle.rg_cmd.specs.declared.download.Download.{Download}
 use Rattle.rg_admin_laws.specs.Downloads.{From}
@@ -7,8 +7,9 @@ use Rattle.rg_admin_laws.specs.Laws.{from_of}
 use Rattle.rg_admin_laws.specs.Leading.{led}
 use Rattle.rg_admin_laws.specs.Machine.{is_unchanged}
 use Rattle.rg_remote.specs.Remotes.{Far}
+use Rattle.rg_remote.specs.declared.fault.AskFault.{AskFault}
 use Rattle.rg_follow.specs.Answering.{from_nothing}
-use Rattle.rg_follow.specs.Asking.{AreAsked, WasAsked}
+use Rattle.rg_follow.specs.Asking.{AreAsked, IsUnasked, WasAsked}
 use Rattle.rg_follow.specs.Following.{HasSettled, HasSettledAnew, Moves, Strays, StraysAnew}
 use Rattle.rg_follow.specs.Rounds.{Settles, begun, fits}
 use Rattle.rg_follow.specs.declared.fault.FollowFault.{FollowFault}
@@ -36,15 +37,19 @@ asked_more had at [] d from old mid new a m e w = (
 )
 asked_more had at (x ∷ ds) d from old mid new a m e w = (a.0, a.1, asked_more (led had x) at ds d from a.0 mid new a.2 m.2 e w)
 
--- the last of these downloads doesn't fit, where the fault says so
+-- the last of these downloads doesn't fit, or memory was refused
 pub strays : (most : ℕ) (had at : Facts) (ds : List Download) (d : Download) (fault : FollowFault) (old new : Far)
     → AreAsked had (ds ++ d ∷ []) old new → Moves had ds at → is_unchanged d ≡ false
-    → (fault ≡ Misfit → fits at d ≡ false) → fault ≢ Unsettled
+    → ((fault ≡ Misfit) × (fits at d ≡ false)) ⊎ (fault ≡ NoMemory)
     → Strays most had fault old new
-strays most had at ds d (Ask fault) old new a m changed fit other = tt {0}
-strays most had at ds d Misfit old new a m changed fit other = (ds, d, at, a, m, changed, fit refl)
-strays most had at ds d Unsettled old new a m changed fit other = absurd (other refl)
-strays most had at ds d NoMemory old new a m changed fit other = tt {0}
+strays most had at ds d fault old new a m changed (inl misfit) = subst (λ f. Strays most had f old new) (sym misfit.0) (ds, d, at, a, m, changed, misfit.1)
+strays most had at ds d fault old new a m changed (inr short) = subst (λ f. Strays most had f old new) (sym short) (tt {0})
+
+-- after these downloads the next one wasn't had
+pub unasked : (most : ℕ) (had at : Facts) (ds : List Download) (from : From) (fault : AskFault) (old mid new : Far)
+    → AreAsked had ds old mid → Moves had ds at → from ≡ from_of at → IsUnasked from fault mid new
+    → Strays most had (Ask fault) old new
+unasked most had at ds from fault old mid new a m e why = (ds, at, mid, a, m, subst (λ f. IsUnasked f fault mid new) e why)
 
 -- the download that was asked for from these facts changed something, fits, and leads to these others
 pub record HasMoved (had at : Facts) (d : Download) (old new : Far) : Type 0 where
@@ -88,7 +93,8 @@ strayed_from_led : (less most : ℕ) (had : Facts) (d : Download) (fault : Follo
     → WasAsked (from_of had) d old mid → is_unchanged d ≡ false → fits had d ≡ true
     → Strays less (led had d) fault mid new
     → Strays most had fault old new
-strayed_from_led less most had d (Ask fault) old mid new more w changed fit h = tt {0}
+strayed_from_led less most had d (Ask fault) old mid new more w changed fit h =
+    (d ∷ h.0, h.1, h.2, (mid, w, h.3), (changed, fit, h.4), h.5)
 strayed_from_led less most had d Misfit old mid new more w changed fit h =
     (d ∷ h.0, h.1, h.2, (mid, w, h.3), (changed, fit, h.4), h.5, h.6)
 strayed_from_led less most had d Unsettled old mid new more w changed fit h =
@@ -118,7 +124,7 @@ pub strayed_anew : (most : ℕ) (service : List ℕ) (d : Download) (facts : Fac
     → IfErr result (λ f. Strays most facts f mid new)
     → IfErr result (λ f. StraysAnew most service f old new)
 strayed_anew most service d facts (Ok after) old mid new w is h = tt {0}
-strayed_anew most service d facts (Err (Ask fault)) old mid new w is h = tt {0}
+strayed_anew most service d facts (Err (Ask fault)) old mid new w is h = inr (mid, d, facts, w, is, h)
 strayed_anew most service d facts (Err Misfit) old mid new w is h = inr (mid, d, facts, w, is, h)
 strayed_anew most service d facts (Err Unsettled) old mid new w is h = (mid, d, facts, w, is, h)
 strayed_anew most service d facts (Err NoMemory) old mid new w is h = tt {0}

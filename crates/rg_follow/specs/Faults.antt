@@ -2,7 +2,7 @@
 use Rattle.std.specs.Prelude.{Bool, true, false}
 use Rattle.rg_client.specs.declared.fault.ClientFault.TheVariants.{NoMemory as ClientShort}
 use Rattle.rg_follow.specs.declared.fault.FollowFault.{FollowFault}
-use Rattle.rg_follow.specs.declared.fault.FollowFault.TheVariants.{Ask, Misfit, NoMemory, Unsettled}
+use Rattle.rg_follow.specs.declared.fault.FollowFault.TheVariants.{Ask, NoMemory}
 use Rattle.rg_json.specs.declared.fault.WireFault.TheVariants.{NoMemory as BodyShort}
 use Rattle.rg_remote.specs.declared.fault.AskFault.TheVariants.{Body, Client, NoMemory as AskShort}
 

@@ -2,11 +2,13 @@
 use Rattle.std.specs.Prelude.{◌≡◌, ℕ, List, [], ◌∷◌, ◌++◌, length, true, false, ◌⊎◌, Option, Some, None}
 use Rattle.rg_facts.specs.declared.facts.Facts.{Facts}
 use Rattle.rg_cmd.specs.declared.download.Download.{Download}
+use Rattle.rg_admin_laws.specs.Laws.{from_of}
 use Rattle.rg_admin_laws.specs.Leading.{led}
 use Rattle.rg_admin_laws.specs.Machine.{is_unchanged}
 use Rattle.rg_remote.specs.Remotes.{Far}
+use Rattle.rg_remote.specs.declared.fault.AskFault.{AskFault}
 use Rattle.rg_follow.specs.Answering.{from_nothing}
-use Rattle.rg_follow.specs.Asking.{AreAsked, AreAskedAnew, WasAsked}
+use Rattle.rg_follow.specs.Asking.{AreAsked, AreAskedAnew, IsUnasked, WasAsked}
 use Rattle.rg_follow.specs.Rounds.{begun, fits, Settles, SettlesAnew}
 use Rattle.rg_follow.specs.declared.fault.FollowFault.{FollowFault}
 use Rattle.rg_follow.specs.declared.fault.FollowFault.TheVariants.{Ask, Misfit, Unsettled, NoMemory}
@@ -40,9 +42,14 @@ abbrev pub IsRestless : ℕ → Facts → Far → Far → Type 0
 IsRestless most had old new =
     (ds : List Download) × (at : Facts) × AreAsked had ds old new × Moves had ds at × (length ds ≡ most)
 
--- why a round of at most so many downloads from these facts led to nothing; where a question has no answer or memory is refused, that is all
+-- downloads moved on to facts from whose versions the next one wasn't had
+abbrev pub HasNoAnswer : Facts → AskFault → Far → Far → Type 0
+HasNoAnswer had fault old new =
+    (ds : List Download) × (at : Facts) × (mid : Far) × AreAsked had ds old mid × Moves had ds at × IsUnasked (from_of at) fault mid new
+
+-- why a round of at most so many downloads from these facts led to nothing; where memory is refused, that is all
 abbrev pub Strays : ℕ → Facts → FollowFault → Far → Far → Type 0
-Strays most had (Ask fault) old new = Unit {0}
+Strays most had (Ask fault) old new = HasNoAnswer had fault old new
 Strays most had Misfit old new = HasMisfit had old new
 Strays most had Unsettled old new = IsRestless most had old new
 Strays most had NoMemory old new = Unit {0}
@@ -65,7 +72,7 @@ IsPartial service old new =
 
 -- why a round from nothing led to nothing
 abbrev pub StraysAnew : ℕ → List ℕ → FollowFault → Far → Far → Type 0
-StraysAnew most service (Ask fault) old new = Unit {0}
+StraysAnew most service (Ask fault) old new = IsUnasked from_nothing fault old new ⊎ StraysFrom most service (Ask fault) old new
 StraysAnew most service Misfit old new = IsPartial service old new ⊎ StraysFrom most service Misfit old new
 StraysAnew most service Unsettled old new = StraysFrom most service Unsettled old new
 StraysAnew most service NoMemory old new = Unit {0}

@@ -1,7 +1,7 @@
 // What is asked for a plugin.
-ghost use Rattle.std.specs.Prelude.{IfOk};
+ghost use Rattle.std.specs.Prelude.{IfOk, IfErr};
 ghost use Rattle.rg_admin_laws.specs.Downloads.{From};
-ghost use Rattle.rg_follow.specs.Asking.{WasAsked};
+ghost use Rattle.rg_follow.specs.Asking.{IsUnasked, WasAsked};
 
 use rg_base::Version;
 use rg_cmd::Download;
@@ -23,11 +23,16 @@ pub(crate) fn ask<T: Link + Drop>(
     remote: &mut Remote<T>,
     known: Known,
 ) -> Result<Download, AskFault>
-    ensures { IfOk result (λ d. WasAsked (record {
+    ensures asked { IfOk result (λ d. WasAsked (record {
       policies = known.policies;
       tags = known.tags;
       roles = known.roles;
     }) d remote.old remote.new) }
+    ensures unasked { IfErr result (λ f. IsUnasked (record {
+      policies = known.policies;
+      tags = known.tags;
+      roles = known.roles;
+    }) f remote.old remote.new) }
 {
     let policies = match remote.policies(alloc, known.policies) {
         Ok(part) => part,

@@ -1,5 +1,5 @@
 // Rounds: downloads, one after another, until nothing changes any more.
-ghost use Rattle.std.specs.Prelude.{◌≡◌, ◌≢◌, false, true, IfOk, IfErr};
+ghost use Rattle.std.specs.Prelude.{◌≡◌, ◌⊎◌, false, true, IfOk, IfErr};
 ghost use Rattle.rg_admin_laws.specs.Laws.{from_of};
 ghost use Rattle.rg_admin_laws.specs.Leading.{led};
 ghost use Rattle.rg_admin_laws.specs.Machine.{is_unchanged};
@@ -70,8 +70,8 @@ fn known_of(facts: &Facts) -> Known
 fn take(alloc: Global, facts: Facts, download: Download) -> Result<Facts, FollowFault>
     ensures taken { IfOk result (λ after. (after ≡ led facts download)
         × (fits facts download ≡ true)) }
-    ensures fault { IfErr result (λ f. (f ≡ FollowFault.Misfit → fits facts download ≡ false)
-        × (f ≢ FollowFault.Unsettled)) }
+    ensures fault { IfErr result (λ f. ((f ≡ FollowFault.Misfit)
+        × (fits facts download ≡ false)) ⊎ (f ≡ FollowFault.NoMemory)) }
 {
     if !fits(&facts, &download) {
         drop(facts);

@@ -1,5 +1,5 @@
 -- An administration that is asked over a link: what is asked for each part of a download, and what the reply says.
-use Rattle.std.specs.Prelude.{◌≡◌, ℕ, ◌==◌, List, [], ◌++◌, Bool, Option, Some, None, Result, Ok, Err, if◌then◌else◌, codes, decimal}
+use Rattle.std.specs.Prelude.{◌≡◌, ◌<◌, ◌⊎◌, ℕ, ◌==◌, List, [], ◌++◌, Bool, false, Option, Some, None, Result, Ok, Err, if◌then◌else◌, codes, decimal}
 use Rattle.std.specs.Str.{chars}
 use Rattle.rg_base.specs.declared.numbers.Version.{Version}
 use Rattle.rg_cmd.specs.declared.download.PolicyPart.{PolicyPart}
@@ -8,18 +8,25 @@ use Rattle.rg_cmd.specs.declared.download.RolePart.{RolePart}
 use Rattle.rg_cmd.specs.declared.download.RolePart.TheVariants as roles
 use Rattle.rg_cmd.specs.declared.download.TagPart.{TagPart}
 use Rattle.rg_cmd.specs.declared.download.TagPart.TheVariants as tags
+use Rattle.rg_json.specs.Reading.{Answers}
 use Rattle.rg_json.specs.declared.fault.Fault.{Fault}
+use Rattle.rg_json.specs.declared.fault.WireFault.{WireFault}
 use Rattle.rg_http.specs.declared.message.Response.{Response}
 use Rattle.rg_http.specs.Answers.{IsRead, Wrote}
 use Rattle.rg_client.specs.Questions.{question_text}
-use Rattle.rg_client.specs.Replies.{HasReply}
+use Rattle.rg_client.specs.Replies.{HasReply, Leaves}
+use Rattle.rg_client.specs.declared.fault.ClientFault.{ClientFault}
+use Rattle.rg_client.specs.declared.fault.ClientFault.TheVariants as client
 use Rattle.rg_download_wire.specs.Reading.{policy_part_reading, role_part_reading, tag_part_reading}
+use Rattle.rg_remote.specs.declared.fault.AskFault.{AskFault}
+use Rattle.rg_remote.specs.declared.fault.AskFault.TheVariants as ask
 
--- what contracts see of it: the bytes of its link, where that tells them, the bytes that were read and belong to no reply yet, whether
--- it still asks, and whom it asks for which service as whom
+-- what contracts see of it: the bytes of its link, where that tells them, and how often that failed, the bytes that were read and belong
+-- to no reply yet, whether it still asks, and whom it asks for which service as whom
 pub record Far : Type 0 where
   pub left : Option (List ℕ)
   pub held : Option (List ℕ)
+  pub faults : ℕ
   pub bytes : List ℕ
   pub live : Bool
   pub host : List ℕ
@@ -93,3 +100,40 @@ TagsTold old from part new = Told tags_path tags.Unchanged tag_part_reading old 
 
 abbrev pub RolesTold : Far → Option Version → RolePart → Far → Type 0
 RolesTold old from part new = Told roles_path roles.Unchanged role_part_reading old from part new
+
+-- ---- questions without an answer
+
+-- why no reply came: it asks no more, or the link failed in this call; or else the bytes that were read so far make no reply
+abbrev pub HasNoReply : ClientFault → Far → Far → Type 0
+HasNoReply client.Failed old new = (old.live ≡ false) ⊎ (old.faults < new.faults)
+HasNoReply client.Ended old new = (read : List ℕ) × IsRead old.left read new.left × Leaves (old.bytes ++ read) client.Ended new.bytes
+HasNoReply client.Unreadable old new = (read : List ℕ) × IsRead old.left read new.left × Leaves (old.bytes ++ read) client.Unreadable new.bytes
+HasNoReply client.NoMemory old new = Unit {0}
+
+-- the reply has a status by which it says nothing
+abbrev pub HasStatus : List ℕ → Option Version → ℕ → Far → Far → Type 0
+HasStatus path from status old new = (r : Response) × WasReplied (target path old.service from) old new r × (r.status ≡ status) × (given_by r ≡ None)
+
+-- why the question for the part at this path, from this version, has no answer: a fault of a body is one of which this holds
+abbrev pub IsUnanswered : List ℕ → Option Version → (List ℕ → WireFault → Type 0) → AskFault → Far → Far → Type 0
+IsUnanswered path from unread (ask.Client fault) old new = HasNoReply fault old new
+IsUnanswered path from unread (ask.Status status) old new = HasStatus path from status old new
+IsUnanswered path from unread (ask.Body fault) old new = (bytes : List ℕ) × WasGiven path old from (Some bytes) new × unread bytes fault
+IsUnanswered path from unread ask.NoMemory old new = Unit {0}
+
+-- no body was read
+abbrev pub no_body : List ℕ → WireFault → Type 0
+no_body bytes fault = ⊥
+
+-- the bytes don't read
+abbrev pub unread_by : {P : Type 0} → (List ℕ → Result P Fault) → List ℕ → WireFault → Type 0
+unread_by {P = P} reading bytes fault = Answers {X = P} (Err fault) (reading bytes)
+
+abbrev pub PoliciesUntold : Far → Option Version → AskFault → Far → Type 0
+PoliciesUntold old from fault new = IsUnanswered policies_path from (unread_by policy_part_reading) fault old new
+
+abbrev pub TagsUntold : Far → Option Version → AskFault → Far → Type 0
+TagsUntold old from fault new = IsUnanswered tags_path from (unread_by tag_part_reading) fault old new
+
+abbrev pub RolesUntold : Far → Option Version → AskFault → Far → Type 0
+RolesUntold old from fault new = IsUnanswered roles_path from (unread_by role_part_reading) fault old new

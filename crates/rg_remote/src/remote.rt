@@ -1,7 +1,7 @@
 // An administration that is asked over a link.
-ghost use Rattle.std.specs.Prelude.{◌≡◌, true, [], IfOk, option_map};
+ghost use Rattle.std.specs.Prelude.{◌≡◌, true, [], IfOk, IfErr, option_map};
 ghost use Rattle.std.specs.Str.{chars};
-ghost use Rattle.rg_remote.specs.Remotes.{PoliciesTold, RolesTold, TagsTold, WasGiven, WasReplied, target};
+ghost use Rattle.rg_remote.specs.Remotes.{IsUnanswered, PoliciesTold, PoliciesUntold, RolesTold, RolesUntold, TagsTold, TagsUntold, WasGiven, WasReplied, no_body, target};
 
 use crate::fault::AskFault;
 use crate::target::target;
@@ -15,7 +15,7 @@ use std::alloc::Global;
 use std::marker::Model;
 
 /// An administration that is asked over a link for what the plugin of a service downloads. Contracts see the link's bytes where it
-/// tells them, what was read of a reply to come, and whom it asks for which service as whom.
+/// tells them and how often it failed, what was read of a reply to come, and whom it asks for which service as whom.
 #[derive(Drop)]
 pub struct Remote<T: Link + Drop> {
     link: T,
@@ -33,6 +33,7 @@ impl<T: Link + Drop> Model for Remote<T> {
     ghost view = { λ r. record {
       left = T.left r.link;
       held = T.held r.link;
+      faults = T.faults r.link;
       bytes = r.client.bytes;
       live = r.client.live;
       host = r.host;
@@ -53,6 +54,7 @@ impl<T: Link + Drop> Remote<T> {
         ensures { IfOk result (λ r. r ≡ record {
           left = T.left link;
           held = T.held link;
+          faults = T.faults link;
           bytes = [];
           live = true;
           host = host;
@@ -79,8 +81,10 @@ impl<T: Link + Drop> Remote<T> {
         path: &str,
         from: Option<Version>,
     ) -> Result<Response, AskFault>
-        ensures { IfOk result
+        ensures replied { IfOk result
             (λ r. WasReplied (target (chars path.now) self.old.service from) self.old self.new r) }
+        ensures unanswered { IfErr result
+            (λ f. IsUnanswered (chars path.now) from no_body f self.old self.new) }
     {
         if !self.client.is_live() {
             return Err(AskFault::Client(ClientFault::Failed));
@@ -107,8 +111,10 @@ impl<T: Link + Drop> Remote<T> {
         path: &str,
         from: Option<Version>,
     ) -> Result<Option<Seq<u8>>, AskFault>
-        ensures { IfOk result (λ body. WasGiven
+        ensures given { IfOk result (λ body. WasGiven
             (chars path.now) self.old from (option_map (λ b. b.items) body) self.new) }
+        ensures unanswered { IfErr result
+            (λ f. IsUnanswered (chars path.now) from no_body f self.old self.new) }
     {
         let reply = match self.ask(alloc, path, from) {
             Ok(reply) => reply,
@@ -124,7 +130,8 @@ impl<T: Link + Drop> Remote<T> {
     /// Asks for the changes of the policies from the version on, without one for all of them.
     #[tactic(auto, unfolding(crate::specs::Remotes::policies_path))]
     pub fn policies(&mut self, alloc: Global, from: Option<Version>) -> Result<PolicyPart, AskFault>
-        ensures { IfOk result (λ part. PoliciesTold self.old from part self.new) }
+        ensures told { IfOk result (λ part. PoliciesTold self.old from part self.new) }
+        ensures untold { IfErr result (λ f. PoliciesUntold self.old from f self.new) }
     {
         match self.fetch(alloc, "/service/plugins/policies/download/", from) {
             Ok(None) => Ok(PolicyPart::Unchanged),
@@ -139,7 +146,8 @@ impl<T: Link + Drop> Remote<T> {
     /// Asks for the changes of the tag rows from the version on, without one for all of them.
     #[tactic(auto, unfolding(crate::specs::Remotes::tags_path))]
     pub fn tags(&mut self, alloc: Global, from: Option<Version>) -> Result<TagPart, AskFault>
-        ensures { IfOk result (λ part. TagsTold self.old from part self.new) }
+        ensures told { IfOk result (λ part. TagsTold self.old from part self.new) }
+        ensures untold { IfErr result (λ f. TagsUntold self.old from f self.new) }
     {
         match self.fetch(alloc, "/service/tags/download/", from) {
             Ok(None) => Ok(TagPart::Unchanged),
@@ -154,7 +162,8 @@ impl<T: Link + Drop> Remote<T> {
     /// Asks for the roles, unless they have this version.
     #[tactic(auto, unfolding(crate::specs::Remotes::roles_path))]
     pub fn roles(&mut self, alloc: Global, from: Option<Version>) -> Result<RolePart, AskFault>
-        ensures { IfOk result (λ part. RolesTold self.old from part self.new) }
+        ensures told { IfOk result (λ part. RolesTold self.old from part self.new) }
+        ensures untold { IfErr result (λ f. RolesUntold self.old from f self.new) }
     {
         match self.fetch(alloc, "/service/roles/download/", from) {
             Ok(None) => Ok(RolePart::Unchanged),

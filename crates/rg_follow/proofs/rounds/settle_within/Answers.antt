@@ -1,6 +1,6 @@
 use Rattle.std.proofs.Common.{[], ◌∷◌, ◌++◌, refl, sym, ◌∙◌, subst, arith, length-append}
 use Rattle.rg_follow.specs.Following.{Moves}
-use Rattle.rg_follow.proofs.Moving.{asked_more, moves_more, settles_there, strays}
+use Rattle.rg_follow.proofs.Moving.{asked_more, moves_more, settles_there, strays, unasked}
 use Rattle.rg_follow.proofs.rounds.settle_within.Goals as goal
 
 pub loop-left-init : goal.loop-left-init
@@ -11,7 +11,7 @@ returns-then-is_unchanged-clause-settled g c =
     let i = c.loop-left.invariant in (
       i.0 ++ c.in-Ok.download ∷ [],
       asked_more c.args.had c.loop-left.facts i.0 c.in-Ok.download
-          _ c.args.remote.now c.loop-left.remote c.ask.new.remote i.1 i.2 c.known_of.ensures c.in-Ok.ensures,
+          _ c.args.remote.now c.loop-left.remote c.ask.new.remote i.1 i.2 c.known_of.ensures c.in-Ok.ensures.asked,
       settles_there c.args.had c.loop-left.facts i.0 c.in-Ok.download i.2 (sym c.is_unchanged.ensures ∙ c.if-is_unchanged.true),
     )
 
@@ -19,10 +19,15 @@ pub returns-in-Err-take-clause-strayed : goal.returns-in-Err-take-clause-strayed
 returns-in-Err-take-clause-strayed g c =
     let i = c.loop-left.invariant in
     let asked = asked_more c.args.had c.loop-left.facts i.0 c.in-Ok.download
-    _ c.args.remote.now c.loop-left.remote c.ask.new.remote i.1 i.2 c.known_of.ensures c.in-Ok.ensures in
+    _ c.args.remote.now c.loop-left.remote c.ask.new.remote i.1 i.2 c.known_of.ensures c.in-Ok.ensures.asked in
     strays _ c.args.had c.loop-left.facts i.0 c.in-Ok.download
     c.in-Err-take.fault c.args.remote.now c.ask.new.remote asked i.2 (sym c.is_unchanged.ensures ∙ c.if-is_unchanged.false)
-    c.in-Err-take.ensures.fault.0 c.in-Err-take.ensures.fault.1
+    c.in-Err-take.ensures.fault
+
+pub returns-in-Err-clause-strayed : goal.returns-in-Err-clause-strayed
+returns-in-Err-clause-strayed g c =
+    let i = c.loop-left.invariant in
+    unasked c.args.most c.args.had c.loop-left.facts i.0 _ c.in-Err.fault c.args.remote.now c.loop-left.remote c.ask.new.remote i.1 i.2 c.known_of.ensures c.in-Err.ensures.unasked
 
 pub loop-left-preserved : goal.loop-left-preserved
 loop-left-preserved g c =
@@ -30,7 +35,7 @@ loop-left-preserved g c =
     let all = i.0 ++ c.in-Ok.download ∷ [] in (
       all,
       asked_more c.args.had c.loop-left.facts i.0 c.in-Ok.download
-          _ c.args.remote.now c.loop-left.remote c.ask.new.remote i.1 i.2 c.known_of.ensures c.in-Ok.ensures,
+          _ c.args.remote.now c.loop-left.remote c.ask.new.remote i.1 i.2 c.known_of.ensures c.in-Ok.ensures.asked,
       subst (Moves c.args.had all) (sym c.in-Ok-take.ensures.taken.0)
           (moves_more c.args.had c.loop-left.facts i.0 c.in-Ok.download i.2 (sym c.is_unchanged.ensures ∙ c.if-is_unchanged.false) c.in-Ok-take.ensures.taken.1),
       omega (arith, length-append i.0 (c.in-Ok.download ∷ []), i.3, c.loop-left-test.true),

@@ -1,14 +1,23 @@
 use Rattle.rg_cmd.specs.declared.download.RolePart.TheVariants.{Unchanged}
 use Rattle.rg_download_wire.specs.Reading.{role_part_reading}
-use Rattle.rg_remote.proofs.Telling.{roles_spelled, told_part, told_unchanged}
+use Rattle.rg_remote.proofs.Telling.{roles_spelled, told_part, told_unchanged, untold, untold_body}
 use Rattle.rg_remote.proofs.remote.Remote.roles.Goals as goal
 
-pub returns-in-Ok-None : goal.returns-in-Ok-None
-returns-in-Ok-None g c =
+pub returns-in-Ok-None-clause-told : goal.returns-in-Ok-None-clause-told
+returns-in-Ok-None-clause-told g c =
     told_unchanged (λ s. s.items) Unchanged role_part_reading _ _ c.args.self.now c.args.from c.fetch.new.self
-    c.in-Ok-None.field-0 roles_spelled c.in-Ok-None.field-0-is c.in-Ok-None.ensures
+    c.in-Ok-None.field-0 roles_spelled c.in-Ok-None.field-0-is c.in-Ok-None.ensures.given
 
-pub returns-in-Ok : goal.returns-in-Ok
-returns-in-Ok g c =
+pub returns-in-Ok-clause-told : goal.returns-in-Ok-clause-told
+returns-in-Ok-clause-told g c =
     told_part (λ s. s.items) Unchanged role_part_reading _ _ c.args.self.now c.args.from c.fetch.new.self
-    c.in-Ok-Some.field-0 c.in-Ok-Some.body c.as_slice.result.now c.in-Ok.part roles_spelled c.in-Ok-Some.field-0-is c.as_slice.ensures c.in-Ok.ensures c.in-Ok-Some.ensures
+    c.in-Ok-Some.field-0 c.in-Ok-Some.body c.as_slice.result.now c.in-Ok.part roles_spelled c.in-Ok-Some.field-0-is c.as_slice.ensures c.in-Ok.ensures c.in-Ok-Some.ensures.given
+
+pub returns-in-Ok-Some-clause-untold : goal.returns-in-Ok-Some-clause-untold
+returns-in-Ok-Some-clause-untold g c =
+    untold_body (λ s. s.items) Unchanged role_part_reading _ _ c.args.self.now c.args.from c.fetch.new.self
+    c.in-Ok-Some.field-0 c.in-Ok-Some.body c.as_slice.result.now c.in-Err-read_role_part.fault roles_spelled c.in-Ok-Some.field-0-is c.as_slice.ensures c.in-Err-read_role_part.ensures c.in-Ok-Some.ensures.given
+
+pub returns-clause-untold : goal.returns-clause-untold
+returns-clause-untold g c =
+    untold role_part_reading _ _ c.args.self.now c.args.from c.fetch.new.self c.in-Err.fault roles_spelled c.in-Err.ensures.unanswered
