@@ -5,6 +5,11 @@ use Rattle.std.specs.Prelude.{◌≡◌, ℕ, List, Option, Some, None}
 abbrev pub Held : Type 0
 Held = Option (Option (List ℕ))
 
+-- what a place in memory holds, and how many calls failed
+pub record Memory : Type 0 where
+  pub held : Option (List ℕ)
+  pub faults : ℕ
+
 -- these bytes are held now; a place that tells nothing goes on telling nothing
 abbrev pub Holds : Held → Held → List ℕ → Type 0
 Holds None new bytes = new ≡ None

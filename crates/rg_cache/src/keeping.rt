@@ -1,5 +1,5 @@
 // Facts kept in a cache, and had again.
-ghost use Rattle.std.specs.Prelude.{◌≡◌, ◌⊎◌, IfOk, IfErr, IfSome, OnOk, OnErr, Ok, true};
+ghost use Rattle.std.specs.Prelude.{◌≡◌, ◌≤◌, ◌<◌, ◌⊎◌, IfOk, IfErr, IfSome, IsErrOf, OnOk, OnErr, Ok, true};
 ghost use Rattle.rg_facts.specs.Sound.{sound};
 ghost use Rattle.rg_download_wire.specs.InOrder.{AreFacts};
 ghost use Rattle.rg_cache.specs.Kept.{kept_in, kept_text};
@@ -21,6 +21,8 @@ pub fn keep<K: Cache>(alloc: Global, cache: &mut K, facts: &Facts) -> Result<(),
         → sound facts.now ≡ true → kept_in (kept_text facts.now) ≡ Ok facts.now) }
     ensures fault { OnErr result ((K.held cache.new ≡ K.held cache.old)
         ⊎ Holds (K.held cache.old) (K.held cache.new) (kept_text facts.now)) }
+    ensures counted { K.faults cache.old ≤ K.faults cache.new }
+    ensures failed { IsErrOf result CacheFault.Failed → K.faults cache.old < K.faults cache.new }
 {
     let Ok(text) = print_kept(alloc, facts) else {
         return Err(CacheFault::NoMemory);
@@ -37,6 +39,8 @@ pub fn recall<K: Cache>(alloc: Global, cache: &mut K) -> Result<Option<Facts>, C
     ensures sound { IfOk result (λ facts. IfSome facts (λ f. sound f ≡ true)) }
     ensures unread { IfErr result (λ f. IsUnread (K.held cache.old) f) }
     ensures same { K.held cache.new ≡ K.held cache.old }
+    ensures counted { K.faults cache.old ≤ K.faults cache.new }
+    ensures failed { IsErrOf result CacheFault.Failed → K.faults cache.old < K.faults cache.new }
 {
     let bytes = match cache.load(alloc) {
         Ok(None) => return Ok(None),

@@ -1,9 +1,9 @@
 // A cache in memory.
-ghost use Rattle.std.specs.Prelude.{◌≡◌, None, option_map};
+ghost use Rattle.std.specs.Prelude.{◌≡◌, option_map};
 
 use crate::cache::Cache;
 use crate::fault::LoadFault;
-use rg_base::{Failed, Seq};
+use rg_base::{Failed, Seq, Tally};
 use std::alloc::Global;
 use std::marker::Model;
 
@@ -12,29 +12,40 @@ use std::marker::Model;
 pub struct MemCache {
     alloc: Global,
     bytes: Option<Seq<u8>>,
+    faults: Tally,
 }
 
 impl Model for MemCache {
-    ghost use Rattle.std.specs.Prelude.{ℕ, List, Option, option_map};
+    ghost use Rattle.std.specs.Prelude.{option_map};
+    ghost use Rattle.rg_cache.specs.Places.{Memory};
 
-    ghost Value = { Option (List ℕ) };
+    ghost Value = { Memory };
 
-    ghost view = { λ c. option_map (λ b. b.items) c.bytes };
+    ghost view = { λ c. record {
+      held = option_map (λ b. b.items) c.bytes;
+      faults = c.faults.count;
+    } };
 }
 
 impl MemCache {
     /// It holds these bytes, or nothing.
     pub fn new(alloc: Global, bytes: Option<Seq<u8>>) -> MemCache
-        ensures { result ≡ option_map (λ b. b.items) bytes }
+        ensures { result ≡ record { held = option_map (λ b. b.items) bytes; faults = 0 } }
     {
-        MemCache { alloc, bytes }
+        MemCache {
+            alloc,
+            bytes,
+            faults: Tally::zero(),
+        }
     }
 }
 
 impl Cache for MemCache {
     ghost use Rattle.std.specs.Prelude.{Some};
 
-    ghost held = { λ c. Some c };
+    ghost held = { λ c. Some c.held };
+
+    ghost faults = { λ c. c.faults };
 
     fn load(&mut self, alloc: Global) -> Result<Option<Seq<u8>>, LoadFault> {
         match &self.bytes {
@@ -52,7 +63,10 @@ impl Cache for MemCache {
                 self.bytes = Some(Seq::from_vec(copy));
                 Ok(())
             }
-            Err(_) => Err(Failed),
+            Err(_) => {
+                self.faults.add();
+                Err(Failed)
+            }
         }
     }
 }

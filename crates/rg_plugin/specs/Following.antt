@@ -12,12 +12,15 @@ use Rattle.rg_publish.specs.Publications.{Published, publication}
 use Rattle.rg_remote.specs.Remotes.{Far}
 use Rattle.rg_plugin.specs.Causes.{cause_of, is_delta}
 
--- its publications, what its cache holds, where that is told, its service, and whether the next round begins from no version
+-- its publications, what its cache holds, where that is told, and how often the cache failed, its service, whether the next round begins
+-- from no version, and whether the newest publication is still to be kept
 pub record Following : Type 0 where
   pub published : Published
   pub held : Held
+  pub faults : ℕ
   pub service : List ℕ
   pub is_anew : Bool
+  pub is_unkept : Bool
 
 -- ---- what was downloaded
 

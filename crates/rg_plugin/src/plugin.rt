@@ -1,5 +1,5 @@
 // What a plugin decides by, and how a round renews it.
-ghost use Rattle.std.specs.Prelude.{◌≡◌, ◌≤◌, ◌⊎◌, ◌∷◌, [], false, true, IfOk, IfErr, OnOk, OnErr, length, replicate};
+ghost use Rattle.std.specs.Prelude.{◌≡◌, ◌≤◌, ◌<◌, ◌⊎◌, ◌∷◌, ◌||◌, [], false, true, IfOk, IfErr, IsErrOf, OnOk, OnErr, length, replicate};
 ghost use Rattle.rg_facts.specs.Sound.{sound};
 ghost use Rattle.rg_cache.specs.Kept.{kept_text};
 ghost use Rattle.rg_cache.specs.Places.{Holds};
@@ -41,8 +41,10 @@ impl<K: Cache + Drop, R: Wait + Drop> Model for Plugin<K, R> {
     ghost view = { λ p. record {
       published = p.publisher;
       held = K.held p.cache;
+      faults = K.faults p.cache;
       service = p.service;
       is_anew = p.is_anew;
+      is_unkept = p.is_unkept;
     } };
 }
 
@@ -61,7 +63,8 @@ impl<K: Cache + Drop, R: Wait + Drop> Plugin<K, R> {
         ensures published { IfOk result (λ t. t.0.published.list ≡ publication 1 0 facts ∷ []) }
         ensures passes { IfOk result (λ t. t.1.items ≡ replicate passes (new_pass t.0.published)) }
         ensures rest { IfOk result (λ t. (t.0.held ≡ K.held cache)
-            × (t.0.service ≡ service) × (t.0.is_anew ≡ false)) }
+            × (t.0.faults ≡ K.faults cache) × (t.0.service ≡ service)
+            × (t.0.is_anew ≡ false) × (t.0.is_unkept ≡ true)) }
     {
         let engine = match Engine::build(alloc, facts, &mut Steps::silent()) {
             Ok(engine) => engine,
@@ -106,7 +109,9 @@ impl<K: Cache + Drop, R: Wait + Drop> Plugin<K, R> {
     }
 
     /// Whether the newest publication is still to be kept.
-    pub fn is_unkept(&self) -> bool {
+    pub fn is_unkept(&self) -> bool
+        ensures { result ≡ self.now.is_unkept }
+    {
         self.is_unkept
     }
 
@@ -135,8 +140,10 @@ impl<K: Cache + Drop, R: Wait + Drop> Plugin<K, R> {
     // Publishes these facts, unless they break a rule that holds of all facts.
     fn publish(&mut self, alloc: Global, facts: Facts) -> Result<(), Cause>
         ensures same { (self.new.published.book ≡ self.old.published.book)
-            × (self.new.held ≡ self.old.held)
+            × (self.new.held ≡ self.old.held) × (self.new.faults ≡ self.old.faults)
             × (self.new.service ≡ self.old.service) × (self.new.is_anew ≡ self.old.is_anew) }
+        ensures unkept { OnOk result (self.new.is_unkept ≡ true) }
+        ensures kept { OnErr result (self.new.is_unkept ≡ self.old.is_unkept) }
         ensures published { OnOk result (HasPublished self.old.published facts self.new.published) }
         ensures failed { IfErr result (λ cause. (self.new.published.list ≡ self.old.published.list)
             × IsUnfit facts cause) }
@@ -173,7 +180,11 @@ impl<K: Cache + Drop, R: Wait + Drop> Plugin<K, R> {
         remote: &mut Remote<T>,
     ) -> Result<bool, Cause>
         ensures same { (self.new.published.book ≡ self.old.published.book)
-            × (self.new.held ≡ self.old.held) × (self.new.service ≡ self.old.service) }
+            × (self.new.held ≡ self.old.held) × (self.new.faults ≡ self.old.faults)
+            × (self.new.service ≡ self.old.service) }
+        ensures unkept { IfOk result
+            (λ changed. self.new.is_unkept ≡ (changed || self.old.is_unkept)) }
+        ensures kept { OnErr result (self.new.is_unkept ≡ self.old.is_unkept) }
         ensures followed { IfOk result
             (λ changed. HasFollowed self.old changed self.new remote.old remote.new) }
         ensures failed { IfErr result
@@ -205,6 +216,9 @@ impl<K: Cache + Drop, R: Wait + Drop> Plugin<K, R> {
             (λ p. Holds self.old.held self.new.held (kept_text p.facts))) }
         ensures fault { OnErr result (Ends self.old.published.list (λ p. (self.new.held
             ≡ self.old.held) ⊎ Holds self.old.held self.new.held (kept_text p.facts))) }
+        ensures failed { IsErrOf result CacheFault.Failed → self.old.faults < self.new.faults }
+        ensures none { OnOk result (self.new.is_unkept ≡ false) }
+        ensures unkept { OnErr result (self.new.is_unkept ≡ self.old.is_unkept) }
     {
         let Ok(facts) = self.publisher.newest().facts(alloc) else {
             return Err(CacheFault::NoMemory);

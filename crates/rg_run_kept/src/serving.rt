@@ -1,7 +1,8 @@
 // A service that keeps, from its configuration to its end.
-ghost use Rattle.std.specs.Prelude.{◌≡◌, ◌≢◌, ◌⊎◌, ◌≤◌, ◌^◌, ◌<◌, ◌++◌, Some, None, is_none, true, length, option_map, string_bytes, IfOk, IfErr, IsSome, OnOk};
+ghost use Rattle.std.specs.Prelude.{◌≡◌, ◌≢◌, ◌⊎◌, ◌≤◌, ◌^◌, ◌<◌, ◌++◌, Some, None, is_none, true, length, option_map, string_bytes, IfOk, IfErr, IsSome, OnOk, ℕ};
 ghost use Rattle.rg_admin.specs.Starting.{start_fault};
 ghost use Rattle.rg_recorder.specs.Recorded.{IsKeptOr};
+ghost use Rattle.rg_serve.specs.Served.{Counts};
 ghost use Rattle.rg_run_kept.specs.Kept.{HasServed, IsHindrance, IsKeptIn, IsServed, IsTold, totals_line};
 
 use crate::configuration::Configuration;
@@ -62,7 +63,9 @@ fn give_up<P: Drop>(status: Status) -> Ended<P>
 
 /// Writes a line that names what is bad. The status is that, unless it can't be written.
 fn name<K: Sink>(sink: &mut K, text: &str, status: Status) -> Status
-    ensures { (result ≡ status) ⊎ (result ≡ Status.WriteFault) }
+    ensures status { (result ≡ status) ⊎ (result ≡ Status.WriteFault) }
+    ensures unwritten { result ≡ Status.WriteFault → status ≢ Status.WriteFault
+        → K.faults sink.old < K.faults sink.new }
 {
     match write_all(sink, text.as_bytes()) {
         Ok(()) => status,
@@ -72,8 +75,9 @@ fn name<K: Sink>(sink: &mut K, text: &str, status: Status) -> Status
 
 /// Names the record at the place.
 fn name_record<K: Sink>(alloc: Global, sink: &mut K, place: u64) -> Status
-    ensures { (result ≡ Status.BadRecord)
+    ensures statuses { (result ≡ Status.BadRecord)
         ⊎ ((result ≡ Status.WriteFault) ⊎ (result ≡ Status.NoMemory)) }
+    ensures unwritten { result ≡ Status.WriteFault → K.faults sink.old < K.faults sink.new }
 {
     let mut text = String::new(alloc);
     match writeln!(&mut text, "bad record {place}") {
@@ -87,7 +91,8 @@ fn name_record<K: Sink>(alloc: Global, sink: &mut K, place: u64) -> Status
 
 /// What a service ends with whose records aren't taken again.
 fn status_of<K: Sink>(alloc: Global, sink: &mut K, cause: ReopenCause) -> Status
-    ensures { IsHindrance result }
+    ensures statuses { IsHindrance result }
+    ensures unwritten { result ≡ Status.WriteFault → K.faults sink.old < K.faults sink.new }
 {
     match cause {
         ReopenCause::BadRecord(place) => name_record(alloc, sink, place),
@@ -109,6 +114,9 @@ fn configuration<K: Sink, C: Clock>(
         × (start_fault t.0 ≡ None)) }
     ensures stopped { IfErr result (λ status. (status ≡ Status.BadLine)
         ⊎ ((status ≡ Status.WriteFault) ⊎ (status ≡ Status.NoMemory))) }
+    ensures unwritten { IfErr result
+        (λ status. status ≡ Status.WriteFault → K.faults sink.old < K.faults sink.new) }
+    ensures silent { OnOk result (sink.new ≡ sink.old) }
 {
     let mut told = Configuration::new();
     let Ok(worked) = follow(alloc, &mut told, bytes, clock) else {
@@ -198,8 +206,10 @@ fn close<J: Configured, P: Keeper + Drop, R: Wait + Drop>(
 
 /// What a service ends with whose links could not all be served.
 fn broken(signals: &Signals, fault: ServeFault) -> Status
-    ensures { (result ≡ Status.NetFault)
+    ensures statuses { (result ≡ Status.NetFault)
         ⊎ ((result ≡ Status.KeepFault) ⊎ (result ≡ Status.NoMemory)) }
+    ensures unserved { (before after : ℕ) → result ≡ Status.NetFault
+        → Counts fault before after → before < after }
 {
     match fault {
         ServeFault::Failed => Status::NetFault,
@@ -223,6 +233,8 @@ fn end<J: Configured, P: Keeper + Drop, R: Wait + Drop, K: Sink>(
         → (result.status ≡ Status.Done) ⊎ (result.status ≡ Status.WriteFault) }
     ensures statuses { (result.status ≡ Status.Done)
         ⊎ ((result.status ≡ Status.WriteFault) ⊎ (result.status ≡ Status.NoMemory)) }
+    ensures unwritten { result.status ≡ Status.WriteFault
+        → K.faults sink.old < K.faults sink.new }
 {
     let Ok((recorder, text)) = close(alloc, served) else {
         return give_up(Status::NoMemory);
@@ -264,6 +276,9 @@ fn serve_named<
         → (result.status ≡ Status.Done) ⊎ (result.status ≡ Status.WriteFault) }
     ensures statuses { (result.status ≡ Status.Done)
         ⊎ ((result.status ≡ Status.NetFault) ⊎ IsHindrance result.status) }
+    ensures unwritten { result.status ≡ Status.WriteFault
+        → K.faults sink.old < K.faults sink.new }
+    ensures unserved { result.status ≡ Status.NetFault → N.faults net.old < N.faults net.new }
 {
     let workers = hooks.len() as u32;
     let (opened, signals) = match open_kept::<J, P, &R, R>(
@@ -323,6 +338,11 @@ pub fn serve_kept<
         option_map P.kept result.keeper ≡ Some (P.kept keeping.keeper) }
     ensures found { result.status ≡ Status.BadRecord
         → IsSome result.keeper → option_map P.kept result.keeper ≡ Some (P.kept keeping.keeper) }
+    // A fault of the source, the sink or the listener is named only where its count rose.
+    ensures unread { result.status ≡ Status.ReadFault → S.faults source.old < S.faults source.new }
+    ensures unwritten { result.status ≡ Status.WriteFault
+        → K.faults sink.old < K.faults sink.new }
+    ensures unserved { result.status ≡ Status.NetFault → N.faults net.old < N.faults net.new }
 {
     let Keeping {
         mut keeper,
