@@ -8,9 +8,9 @@ commands are taken first; the other half up to 5 ms after a random number of ans
 read by SQLite itself, and the program reopens the file. Both have to find every command that was acknowledged and at most one more: SQLite
 the record of each in order, the program a state with the mark of each. A kill takes nothing that the operating system has been given, so
 this shows nothing of a power cut. It is no part of the gate, since it takes minutes."""
-import contextlib, json, pathlib, random, shutil, signal, sqlite3, subprocess, sys, tempfile, threading
+import random, signal, subprocess, sys, tempfile, threading
 
-from disk_model import KINDS, told
+from disk_model import reopened
 
 PROGRAM = sys.argv[1]
 KILLS = int(sys.argv[2]) if len(sys.argv) > 2 else 200
@@ -34,35 +34,6 @@ def killed(file):
     return [int(line.split()[1]) for line in lines if line.endswith(b"\n")], status != 0
 
 
-def records(file):
-    """The records that SQLite reads in a copy of the file and its log; none where there is no table yet."""
-    with tempfile.TemporaryDirectory() as folder:
-        for part in pathlib.Path(file).parent.iterdir():
-            shutil.copy(part, folder)
-        with contextlib.closing(sqlite3.connect(pathlib.Path(folder, pathlib.Path(file).name))) as copy:
-            try:
-                return [bytes(record).decode() for (record,) in copy.execute("SELECT record FROM kept ORDER BY place")]
-            except sqlite3.DatabaseError:
-                return []
-
-
-def is_of(number, record):
-    """Whether the record is that of the command with this number."""
-    return json.loads(record)["command"]["command"] == KINDS[(number - 1) % len(KINDS)] and f'"{number}"' in record
-
-
-def reopened(file):
-    """How many commands are kept, once it is seen that the state is theirs, and that SQLite finds the same."""
-    found = records(file)
-    for number, record in enumerate(found, 1):
-        if not is_of(number, record):
-            sys.exit(f"the record {number} is {record}")
-    printed = subprocess.run([PROGRAM, "reopen", file], stdout=subprocess.PIPE, check=True).stdout.decode()
-    if printed != told(len(found), ROWS):
-        sys.exit(f"SQLite finds {len(found)} commands, and the program tells {printed}")
-    return len(found)
-
-
 files = kills = early = acknowledged = lost = unacknowledged = 0
 while kills < KILLS:
     files += 1
@@ -74,7 +45,7 @@ while kills < KILLS:
             kills += was_killed
             early += was_killed and not answers
             acknowledged += last - kept
-            kept = reopened(file)
+            kept = reopened(PROGRAM, file, ROWS)
             lost += max(0, last - kept)
             unacknowledged += max(0, kept - last)
             if kept > last + was_killed:

@@ -1,12 +1,13 @@
 #!/usr/bin/env python3
-"""Serves one link again and again, and has another request for memory refused each time: checks/memory.py [PROGRAM]
+"""Serves each of two links again and again, and has another request for memory refused each time: checks/memory.py [PROGRAM]
 
-PROGRAM is the built test_threads (crates/test_threads/out/test_threads where not given). The link creates a policy, reads it, is refused another
-one, puts a role, asks for downloads and decisions, and ends. What has to stand where the session wants memory, by the session theorem:
+PROGRAM is the built test_threads (crates/test_threads/out/test_threads where not given). The first link creates a policy, reads it, is refused
+another one, puts a role, asks for downloads and decisions, and ends. The second changes policies, tags, roles and a service, and downloads each
+part whole, by deltas and unchanged. What has to stand where the session wants memory, by the session theorem:
 the answers written are a beginning of those of the whole link, and each is whole; the decisions that were answered are audited, but for
 the last one where memory is refused for its line, or one where the sink is refused it; and as many commands were called as were answered, or one more, whose answer is lost.
 It is no part of the gate, since it needs a C compiler."""
-import pathlib, subprocess, sys, tempfile
+import pathlib, re, subprocess, sys, tempfile
 
 TOP = pathlib.Path(__file__).resolve().parent.parent
 CRATE = TOP / "crates/test_threads"
@@ -42,43 +43,83 @@ def message(method, path, user, body=""):
 
 POLICY = '{"service":"hive1","name":"p1","resources":{"database":{"values":["sales"]}},"policyItems":[{"users":["ann"],"accesses":[{"type":"select"}]}]}'
 ASK = '{"user":"ann","resource":{"elements":{"database":"sales"}},"accessType":"select","accessTime":0}'
-MESSAGES = [
-    (message("POST", f"{API}/policy", "root", POLICY), True, False),
-    (message("GET", f"{API}/policy/1", "root"), True, False),
-    (message("POST", f"{API}/policy", "root", POLICY), True, False),
-    (message("POST", "/service/decide/hive1", "ann", ASK), False, True),
-    (message("POST", f"{API}/roles", "root", '{"name":"r","users":["ann"]}'), True, False),
-    (message("GET", "/service/roles/download/hive1?lastKnownVersion=1", "ann"), True, False),
-    (message("GET", "/nowhere", "ann"), False, False),
-    (message("POST", "/service/decide/hive1", "ann", ASK), False, True),
-]
+DOWNLOAD = "/service/plugins/policies/download/hive1"
+TAGS = "/service/tags/download/hive1"
+ROLES = "/service/roles/download/hive1"
+TAG_ROW = '{"serviceName":"hive1","resourceElements":{"database":{"values":["sales"]}},"tags":[{"type":"PII"}]}'
 
 
-def told(refused, preload):
-    row = "a link|" + "".join(text for text, _, _ in MESSAGES)
+def command(method, path, body=""):
+    return message(method, path, "root", body), True, False
+
+
+def decision():
+    return message("POST", "/service/decide/hive1", "ann", ASK), False, True
+
+
+# each message with whether it is a command, and whether it is a decision
+LINKS = {
+    "a policy, a role, decisions": [
+        command("POST", f"{API}/policy", POLICY),
+        command("GET", f"{API}/policy/1"),
+        command("POST", f"{API}/policy", POLICY),
+        decision(),
+        command("POST", f"{API}/roles", '{"name":"r","users":["ann"]}'),
+        command("GET", f"{ROLES}?lastKnownVersion=1"),
+        (message("GET", "/nowhere", "ann"), False, False),
+        decision(),
+    ],
+    "downloads, whole and by deltas": [
+        command("POST", f"{API}/policy", POLICY),
+        command("PUT", "/service/tags/resources/1", TAG_ROW),
+        command("GET", DOWNLOAD),
+        command("GET", f"{DOWNLOAD}?lastKnownVersion=1"),
+        command("GET", f"{DOWNLOAD}?lastKnownVersion=2"),
+        command("GET", TAGS),
+        command("GET", f"{TAGS}?lastKnownVersion=1"),
+        command("POST", f"{API}/roles", '{"name":"r","users":["ann"]}'),
+        command("GET", f"{ROLES}?lastKnownVersion=1"),
+        command("PUT", f"{API}/policy/1", POLICY),
+        command("GET", f"{DOWNLOAD}?lastKnownVersion=1"),
+        command("DELETE", "/service/tags/resources/1"),
+        command("GET", f"{TAGS}?lastKnownVersion=1"),
+        command("PUT", f"{API}/service/name/hive1", '{"name":"hive1","type":"hive","fallback":true}'),
+        command("GET", f"{DOWNLOAD}?lastKnownVersion=1"),
+        command("DELETE", f"{API}/policy/1"),
+        decision(),
+    ],
+}
+
+
+def told(messages, refused, preload):
+    row = "a link|" + "".join(text for text, _, _ in messages)
     run = subprocess.run([PROGRAM, "links"], input=f"{row}\n".encode(), stdout=subprocess.PIPE, stderr=subprocess.DEVNULL,
                          cwd=CRATE / "data", env={"LD_PRELOAD": preload, "REFUSED": str(refused)}, timeout=60)
     return run.returncode, run.stdout.decode()
+
+
+def untold(text):
+    """The responses, of which equal ones one after another are told by their number."""
+    parts = re.split(r"(?:([0-9]+)\*)?HTTP/1\.1 ", text)
+    return [response for count, part in zip(parts[1::2], parts[2::2]) for response in [START + part] * int(count or 1)]
 
 
 def parts(line):
     """The end, the calls, the answers and the audited lines of a row."""
     name, end, calls, rest = line.rstrip("\n").split("|", 3)
     answers, audited = rest.split("|audited", 1)
-    return end, int(calls), [START + part for part in answers.split(START)[1:]], audited
+    return end, int(calls), untold(answers), audited
 
 
-with tempfile.TemporaryDirectory() as folder:
-    source, preload = f"{folder}/refusing.c", f"{folder}/refusing.so"
-    pathlib.Path(source).write_text(REFUSING)
-    subprocess.run(["cc", "-O1", "-shared", "-fPIC", "-o", preload, source, "-ldl"], check=True)
-    status, whole = told(0, preload)
+def sweep(name, messages, preload):
+    status, whole = told(messages, 0, preload)
     end, all_calls, all_answers, all_audited = parts(whole)
-    assert status == 0 and end.startswith("ended after 8") and len(all_answers) == len(MESSAGES), whole
+    assert status == 0 and end == f"ended after {len(messages)}" and len(all_answers) == len(messages), whole
+    assert all_calls == sum(is_command for _, is_command, _ in messages), whole
     refused = stopped = ended = elsewhere = 0
     while True:
         refused += 1
-        status, text = told(refused, preload)
+        status, text = told(messages, refused, preload)
         if status != 0 or text == "":
             # refused before the session, or to what tells of it
             assert status == 1, (refused, status, text)
@@ -93,12 +134,21 @@ with tempfile.TemporaryDirectory() as folder:
             continue
         ended = 0
         # a link in memory that is refused memory for what is written to it has failed, and a sink in memory loses that line
-        assert end in ("no memory", "failed", f"ended after {len(MESSAGES)}"), (refused, text)
+        assert end in ("no memory", "failed", f"ended after {len(messages)}"), (refused, text)
         assert answers == all_answers[: len(answers)], (refused, text)
-        answered = MESSAGES[: len(answers)]
+        answered = messages[: len(answers)]
         commands = sum(is_command for _, is_command, _ in answered)
         decisions = sum(is_decision for _, _, is_decision in answered)
         assert calls in (commands, commands + 1), (refused, text)
         assert audited.count('"access":') in (decisions, max(decisions - 1, 0)), (refused, text)
         stopped += 1
-    print(f"requests={refused - ended} stopped={stopped} elsewhere={elsewhere}: all as the session theorem says")
+    assert stopped, "no request for memory is seen, as with a program that rt try has built"
+    print(f"{name}: requests={refused - ended} stopped={stopped} elsewhere={elsewhere}: all as the session theorem says", flush=True)
+
+
+with tempfile.TemporaryDirectory() as folder:
+    source, preload = f"{folder}/refusing.c", f"{folder}/refusing.so"
+    pathlib.Path(source).write_text(REFUSING)
+    subprocess.run(["cc", "-O1", "-shared", "-fPIC", "-o", preload, source, "-ldl"], check=True)
+    for name, messages in LINKS.items():
+        sweep(name, messages, preload)

@@ -4,7 +4,8 @@
 usage: checks/refusals.py [--every N] [--only WORD] [--programs FOLDER]      (each request; all commands; crates where not given)
 
 FOLDER has the built programs (FOLDER/NAME/out/NAME). What has to stand, by the theorems on the statuses:
-- where memory is refused, the status is 9 and nothing is written, or all is as if nothing had been refused;
+- where memory is refused, the status is 9 and nothing is written, or all is as if nothing had been refused (each request of a short script in turn,
+  and of the longest stored script of a command some, since each run takes a while);
 - where a read fails, the status is 3 and nothing is written;
 - where a write fails, the status is 4 and what was written is a beginning of what would have been;
 - where reads and writes are cut to one byte, or broken off by a signal before they begin, all is as ever.
@@ -84,8 +85,23 @@ def stored(*path):
         return it.read()
 
 
+HIVE = ('{"admins":["root"],"plugin":"hive1","serviceDefs":[{"name":"hive","resources":[{"name":"database"}],"accessTypes":[{"name":"select"}]}],'
+        '"services":[{"name":"hive1","type":"hive"}]}')
+POLICY = ('{"command":"createPolicy","policy":{"service":"hive1","name":"p1","resources":{"database":{"values":["sales"]}},'
+          '"policyItems":[{"users":["ann"],"accesses":[{"type":"select"}]}]}}')
+TAGS = '{"command":"putTags","id":1,"row":{"serviceName":"hive1","resourceElements":{"database":{"values":["sales"]}},"tags":[{"type":"PII"}]}}'
+DOWNLOAD = '{"command":"download","service":"hive1","policiesFrom":1,"tagsFrom":1,"rolesFrom":1}'
+DECIDE = 'decide {"user":"ann","resource":{"elements":{"database":"sales"}},"accessType":"select","accessTime":0}'
+# refreshes and downloads by deltas of policies and of tags, whole once a service was changed, and with nothing that is new
+REFRESHES = "\n".join([
+    f"config {HIVE}", f"admin root {POLICY}", f"admin root {DOWNLOAD}", "refresh", DECIDE, f"admin root {TAGS}", "refresh",
+    'admin root {"command":"putRole","role":{"name":"r","users":["ann"]}}', "refresh", "refresh",
+    'admin root {"command":"updateService","service":{"name":"hive1","type":"hive","fallback":true}}', f"admin root {DOWNLOAD}", "refresh", DECIDE,
+    'admin root {"command":"deletePolicy","id":1}', 'admin root {"command":"deleteTags","id":1}', "refresh", DECIDE, ""]).encode()
+
 # the program, its words, and its script
 RUNS = [
+    ("rangerd", ["replay"], REFRESHES),
     ("rangerd", ["replay"], example("administration")),
     ("rangerd", ["replay"], example("flow")),
     ("rangerd", ["replay"], example("refreshes")),
@@ -99,6 +115,17 @@ RUNS = [
     ("rangerd_explain", ["--json", "--all"], example("zones")),
     ("rangerd_test", ["--junit"], example("tests")),
 ]
+# the longest stored script of each command, of whose requests for memory about so many are refused
+SOME = 300
+LONGEST = [
+    ("rangerd", ["replay"], stored("test_scripts", "data", "rules.script")),
+    ("rangerd", ["grants"], stored("test_scripts", "data", "grants.script")),
+    ("rangerd", ["report"], stored("test_scripts", "data", "report.script")),
+    ("rangerd", ["keep"], stored("test_scripts", "data", "keep.script")),
+    ("rangerd_check", [], stored("test_forms", "data", "commands.script")),
+    ("rangerd_explain", ["--all"], stored("rangerd_explain", "stdin")),
+    ("rangerd_test", [], stored("rangerd_test", "stdin")),
+]
 
 
 class Command:
@@ -110,6 +137,7 @@ class Command:
             self.status, self.text = self.run(COUNTS=counts.name)
             counts.seek(0)
             self.asked = dict(zip(("MEMORY", "READ", "WRITE"), struct.unpack("@3l", counts.read(24))))
+        assert self.asked["MEMORY"], "no request for memory is seen, as with a program that rt try has built"
 
     def run(self, **settings):
         given = {name: str(value) for name, value in settings.items()}
@@ -142,18 +170,20 @@ def main():
         with open(source, "w") as it:
             it.write(HOOKS)
         subprocess.run(["cc", "-O1", "-shared", "-fPIC", "-o", preload, source, "-ldl"], check=True)
-        for name, parts, script in RUNS:
+        for number, (name, parts, script) in enumerate(RUNS + LONGEST):
             program = os.path.join(words.programs, name, "out", name)
             if words.only not in (None, name, *parts) or not os.path.exists(program):
                 continue
             command = Command(program, parts, script, preload)
-            memory = command.sweep("MEMORY", lambda status, text: (status, text) == (9, b""), words.every)
+            every = words.every if number < len(RUNS) else max(1, command.asked["MEMORY"] // SOME)
+            memory = command.sweep("MEMORY", lambda status, text: (status, text) == (9, b""), every)
             reads = command.sweep("READ", lambda status, text: (status, text) == (3, b""))
             writes = command.sweep("WRITE", lambda status, text: status == 4 and command.text.startswith(text))
             for how in ("short", "interrupt"):
                 status, text = command.run(HOW=how)
                 assert command.is_whole(status, text), (" ".join(command.line), how, status, text)
-            print("%s: ended otherwise with memory refused %s times, a read %s, a write %s" % (" ".join([name, *parts]), memory, reads, writes), flush=True)
+            told = " ".join([name, *parts]), script.count(b"\n"), memory, reads, writes
+            print("%s, %d lines: ended otherwise with memory refused %s times, a read %s, a write %s" % told, flush=True)
 
 
 if __name__ == "__main__":
